@@ -1,0 +1,18 @@
+-- `bits::has` meets its contract: a word has no place past its last. Assumes nothing.
+use native.Mathlib.Omega.{arith}
+use borrow.Author.Needs.{needs}
+use Rattle.bits.specs.Bits.{has}
+use Rattle.bits.specs.BitsLaws.{has-beyond}
+use mathlib.Core.Path.{sym}
+use Rattle.bits.proofs.has.Statement.{statement}
+use Rattle.bits.proofs.has.Tie as tie
+
+returns : tie.Need-returns
+unfolding has
+returns c = search needs
+
+returns-2 : tie.Need-returns-2
+returns-2 c = sym (has-beyond {n = 64} (omega arith) (omega arith))
+
+pub has-spec : {M : Type 1} → statement M
+has-spec = tie.close (tie.spec (λ c. search needs) returns returns-2)

@@ -1,0 +1,34 @@
+-- A set of places as one 64-bit word: "an ancestor set is one 64-bit word, bit k for place k".
+-- Assumes nothing.
+use Prim.Native.Nat.{ℕ, _/_, _%_, _^_}
+use mathlib.Core.Bool.{Bool, cond}
+use lib.Dec.{eqb, ltb}
+use lib.Bits.{bitAnd, bitOr}
+use lib.Count.{ones}
+
+-- how many places a word has room for
+abbrev pub wordBits : ℕ
+wordBits = 64
+
+-- place k is in the set w
+unfoldable pub has : ℕ → ℕ → Bool
+has w k = eqb (w / 2 ^ k % 2) 1
+
+-- the set w with the place k, where the word has room for it
+unfoldable pub including : ℕ → ℕ → ℕ
+including w k = cond (ltb k wordBits) (bitOr w (2 ^ k)) w
+
+-- what is in v or in w; in both
+unfoldable pub join : ℕ → ℕ → ℕ
+join v w = bitOr v w
+
+unfoldable pub meet : ℕ → ℕ → ℕ
+meet v w = bitAnd v w
+
+-- no place of the set w is at or above n
+unfoldable pub within : ℕ → ℕ → Bool
+within w n = eqb (w / 2 ^ n) 0
+
+-- how many places are in the set
+unfoldable pub count : ℕ → ℕ
+count w = ones w

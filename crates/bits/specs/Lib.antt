@@ -1,0 +1,4 @@
+pub mod Below
+pub mod Bits
+pub mod BelowLaws
+pub mod BitsLaws

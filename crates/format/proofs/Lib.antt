@@ -1,0 +1,4 @@
+pub mod Clip
+pub mod Ascent
+pub mod BodyTests
+pub mod Chain

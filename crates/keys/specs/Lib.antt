@@ -1,0 +1,12 @@
+pub mod Order
+pub mod Member
+pub mod Sort
+pub mod Distinct
+pub mod Ascending
+pub mod Compare
+pub mod BoolLaws
+pub mod OrderLaws
+pub mod MemberLaws
+pub mod DistinctLaws
+pub mod SortLaws
+pub mod ListLaws

@@ -1,0 +1,22 @@
+-- What a settled table says of its set: a row for each update, with the verdict and the ancestors that `Standing` gives it.
+-- Assumes nothing.
+use mathlib.Core.Path.{_≡_}
+use mathlib.Core.List.{List}
+use Rattle.keys.specs.Member.{_∈_}
+use Rattle.keys.specs.Distinct.{Distinct}
+use Rattle.format.specs.Update.{Id, Update}
+use Rattle.rules.specs.Standing.{Ancestor, Held, Void, Waiting}
+use Rattle.rules.specs.Settle.{Row, Table, Verdict, held, waiting, void}
+
+pub record Decides (ident : Update → Id) (S : List Update) (T : Table) : Type 0 where
+  pub of-set : (r : Row) → r ∈ T → r .update ∈ S
+  pub has-id : (r : Row) → r ∈ T → r .id ≡ ident (r .update)
+  pub row-for : (u : Update) → u ∈ S → (r : Row) × (r ∈ T) × (r .update ≡ u)
+  pub once : Distinct (λ (r : Row). r .id) T
+  pub held-right : (r : Row) → r ∈ T → r .verdict ≡ held → Held ident S (r .update)
+  pub void-right : (r : Row) → r ∈ T → r .verdict ≡ void → Void ident S (r .update)
+  pub waiting-right : (r : Row) → r ∈ T → r .verdict ≡ waiting → Waiting ident S (r .update)
+  pub above-right : (r : Row) → r ∈ T → r .verdict ≡ held → (i : Id) → i ∈ r .above
+      → (x : Update) × Ancestor ident S x (r .update) × (ident x ≡ i)
+  pub above-all : (r : Row) → r ∈ T → r .verdict ≡ held → (x : Update) → Ancestor ident S x (r .update) → ident x ∈ r .above
+  pub above-once : (r : Row) → r ∈ T → r .verdict ≡ held → Distinct (λ (i : Id). i) (r .above)

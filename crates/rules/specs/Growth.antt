@@ -1,0 +1,229 @@
+-- More updates keep what is settled: Ancestor, Held, Void and the ranks of held updates; so only the members of a set count. One more update
+-- changes the standing of no update but itself and those it is an ancestor of.
+-- Assumes nothing.
+use mathlib.Core.Path.{_≡_, sym, subst}
+use mathlib.Core.Logic.{_⊎_, inl, inr, ⊎-elim}
+use mathlib.Core.List.{List, [], _∷_, _++_}
+use Prim.Native.Nat.{ℕ}
+use Rattle.keys.specs.Member.{_∈_, SameMembers}
+use Rattle.keys.specs.MemberLaws.{∈-singleton, ∈-append-left, append-∈}
+use Rattle.keys.specs.Distinct.{Distinct}
+use Rattle.keys.specs.DistinctLaws.{distinct-eq}
+use Rattle.format.specs.Update.{Id, Operation, Add, Remove, Insert, Delete, Update}
+use Rattle.rules.specs.Standing.{Ancestor, AddAncestor, InsertAncestor, Valid, Known, Fine, Held, Void, Waiting}
+use Rattle.rules.specs.ReadOff.{Rank}
+use Rattle.rules.specs.LeastSets.{held-stored, void-stored}
+use Rattle.keys.specs.ListLaws.{all-or}
+
+-- every predecessor of u that is in the set is held
+abbrev PredsHeld : (Update → Id) → List Update → Update → Type 0
+PredsHeld ident S u = (v : Update) → v ∈ S → ident v ∈ u .preds → Held ident S v
+
+-- what is valid by the ancestors in S is valid by those in S′, if S′ has them
+module _ (ident : Update → Id) (S S′ : List Update) (u : Update) (keeps : (x : Update) → Ancestor ident S x u → Ancestor ident S′ x u) where
+  keep-add : {t : List ℕ} {i : Id} → AddAncestor ident S u t i → AddAncestor ident S′ u t i
+  keep-add a = record { found = a .found; above = keeps (a .found) (a .above); has-id = a .has-id; is-add = a .is-add }
+
+  keep-insert : {i : Id} → InsertAncestor ident S u i → InsertAncestor ident S′ u i
+  keep-insert a =
+      record {
+        found = a .found;
+        above = keeps (a .found) (a .above);
+        has-id = a .has-id;
+        anchor = a .anchor;
+        value = a .value;
+        is-insert = a .is-insert;
+      }
+
+  keep-valid : (o : Operation) → Valid ident S u o → Valid ident S′ u o
+  keep-valid (Add t) v = v
+  keep-valid (Remove t named) v = λ i m. keep-add (v i m)
+  keep-valid (Insert a w) v = ⊎-elim inl (λ (h : InsertAncestor ident S u a). inr (keep-insert h)) v
+  keep-valid (Delete i) v = keep-insert v
+
+module _ (ident : Update → Id) (S S′ : List Update) (more : (u : Update) → u ∈ S → u ∈ S′) (distinct : Distinct ident S′) where
+  pub grow-ancestor : {x y : Update} → Ancestor ident S x y → Ancestor ident S′ x y
+  grow-ancestor (Ancestor.direct {x = x} m p) = Ancestor.direct (more x m) p
+  grow-ancestor (Ancestor.further {y = y} m p a) = Ancestor.further (more y m) p (grow-ancestor a)
+
+  grow-known : {u : Update} → Known ident S u → Known ident S′ u
+  grow-known k = record { found = λ i p. let r = k .found i p in (r .0, more (r .0) (r .1), r .2) }
+
+  -- a predecessor in S′ of an update whose predecessors are in S is in S
+  pred-stays : {u v : Update} → Known ident S u → v ∈ S′ → ident v ∈ u .preds → v ∈ S
+  pred-stays {v = v} k m p =
+      let r = k .found (ident v) p in
+      subst (λ (x : Update). x ∈ S) (distinct-eq distinct (more (r .0) (r .1)) m (r .2)) (r .1)
+
+  -- an update gains no ancestor if its predecessors, all in S, gain none
+  ancestors-stay : {x u : Update} → Known ident S u
+      → ((y : Update) → y ∈ S → ident y ∈ u .preds → Ancestor ident S′ x y → Ancestor ident S x y)
+      → Ancestor ident S′ x u → Ancestor ident S x u
+  ancestors-stay k stay (Ancestor.direct n p) = Ancestor.direct (pred-stays k n p) p
+  ancestors-stay k stay (Ancestor.further {y = y} n p a) = let n′ = pred-stays k n p in Ancestor.further n′ p (stay y n′ p a)
+
+  -- a held update gains no ancestor
+  pub held-ancestors-stay : {x u : Update} → Held ident S u → Ancestor ident S′ x u → Ancestor ident S x u
+  held-ancestors-stay (Held.held m k hs f) a = ancestors-stay k (λ y n p b. held-ancestors-stay (hs y n p) b) a
+
+  -- where all predecessors are held, the antichain rule and the operation are judged alike
+  grow-fine : {u : Update} → Known ident S u → PredsHeld ident S u → Fine ident S u → Fine ident S′ u
+  grow-fine {u} k hs f =
+      record {
+        antichain =
+            λ x y m n p q a.
+            let n′ = pred-stays k n q in f .antichain x y (pred-stays k m p) n′ p q (held-ancestors-stay (hs y n′ q) a);
+        valid = keep-valid ident S S′ u (λ x. grow-ancestor) (u .op) (f .valid);
+      }
+
+  fine-before : {u : Update} → Known ident S u → PredsHeld ident S u → Fine ident S′ u → Fine ident S u
+  fine-before {u} k hs f =
+      record {
+        antichain = λ x y m n p q a. f .antichain x y (more x m) (more y n) p q (grow-ancestor a);
+        valid = keep-valid ident S′ S u (λ x. ancestors-stay k (λ y n p b. held-ancestors-stay (hs y n p) b)) (u .op) (f .valid);
+      }
+
+  pub grow-held : {u : Update} → Held ident S u → Held ident S′ u
+  grow-held {u} (Held.held m k hs f) =
+      Held.held (more u m) (grow-known k) (λ v n p. grow-held (hs v (pred-stays k n p) p)) (grow-fine k hs f)
+
+  pub grow-void : {u : Update} → Void ident S u → Void ident S′ u
+  grow-void (Void.after {u = u} {v = v} m n p w) = Void.after (more u m) (more v n) p (grow-void w)
+  grow-void (Void.broken {u = u} m k hs bad) =
+      Void.broken (more u m) (grow-known k) (λ v n p. grow-held (hs v (pred-stays k n p) p)) (λ f. bad (fine-before k hs f))
+
+  pub grow-rank : {u : Update} {n : ℕ} → Held ident S u → Rank ident S u n → Rank ident S′ u n
+  grow-rank h r =
+      record {
+        ids = r .ids;
+        once = r .once;
+        counts = λ x a. r .counts x (held-ancestors-stay h a);
+        only = λ i m. let o = r .only i m in (o .0, grow-ancestor (o .1), o .2);
+        number = r .number;
+      }
+
+-- only the members count: the same standings (Waiting follows)
+pub same-waiting : (ident : Update → Id) (S S′ : List Update) → SameMembers S S′ → Distinct ident S → Distinct ident S′
+    → {u : Update} → Waiting ident S u → Waiting ident S′ u
+same-waiting ident S S′ same d d′ {u} w =
+    record {
+      stored = same .forth u (w .stored);
+      not-held = λ h. w .not-held (grow-held ident S′ S (same .back) d h);
+      not-void = λ v. w .not-void (grow-void ident S′ S (same .back) d v);
+    }
+
+-- one more update, w, at the end
+abbrev pub added : List Update → Update → List Update
+added S w = S ++ (w ∷ [])
+
+pub added-more : (S : List Update) (w u : Update) → u ∈ S → u ∈ added S w
+added-more S w u m = ∈-append-left (w ∷ []) m
+
+pub added-cases : (S : List Update) (w : Update) {u : Update} → u ∈ added S w → (u ∈ S) ⊎ (u ≡ w)
+added-cases S w {u} m = ⊎-elim inl (λ (n : u ∈ (w ∷ [])). inr (∈-singleton n)) (append-∈ S m)
+
+-- u is w or has w as an ancestor
+abbrev pub Reached : (Update → Id) → List Update → Update → Update → Type 0
+Reached ident S w u = (u ≡ w) ⊎ Ancestor ident (added S w) w u
+
+module _ (ident : Update → Id) (S : List Update) (w : Update) (distinct : Distinct ident (added S w)) where
+  reached-above : {u v : Update} → v ∈ added S w → ident v ∈ u .preds → Reached ident S w v → Ancestor ident (added S w) w u
+  reached-above {u} {v} n p r =
+      ⊎-elim
+      (λ (e : v ≡ w). Ancestor.direct (subst (λ (x : Update). x ∈ added S w) e n) (subst (λ (x : Update). ident x ∈ u .preds) e p))
+      (λ (a : Ancestor ident (added S w) w v). Ancestor.further n p a)
+      r
+
+  -- the id i is that of an update held before
+  abbrev HeldBefore : Id → Type 0
+  HeldBefore i = (v : Update) × Held ident S v × (ident v ≡ i)
+
+  -- the predecessors of u were all held before
+  record Ready (u : Update) : Type 0 where
+    known : Known ident S u
+    below : PredsHeld ident S u
+
+  ready : {u : Update} → ((i : Id) → i ∈ u .preds → HeldBefore i) → Ready u
+  ready g =
+      record {
+        known = record { found = λ i p. let r = g i p in (r .0, held-stored ident S (r .1), r .2) };
+        below =
+            λ v n p.
+            let r = g (ident v) p in
+            subst (λ (x : Update). Held ident S x)
+            (distinct-eq distinct (added-more S w (r .0) (held-stored ident S (r .1))) (added-more S w v n) (r .2)) (r .1);
+      }
+
+  -- they were, or w is an ancestor of u, if each was held before or is reached
+  ready-cases : {u : Update} → Known ident (added S w) u
+      → ((v : Update) → v ∈ added S w → ident v ∈ u .preds → Held ident S v ⊎ Reached ident S w v)
+      → Ready u ⊎ Ancestor ident (added S w) w u
+  ready-cases {u} k cases =
+      ⊎-elim (λ (g : (i : Id) → i ∈ u .preds → HeldBefore i). inl (ready g)) inr (all-or {P = HeldBefore} (u .preds) each)
+    where
+      each : (i : Id) → i ∈ u .preds → HeldBefore i ⊎ Ancestor ident (added S w) w u
+      each i p =
+          let r = k .found i p in
+          let q : ident (r .0) ∈ u .preds = subst (λ (j : Id). j ∈ u .preds) (sym (r .2)) p in
+          ⊎-elim
+          (λ (h : Held ident S (r .0)). inl (r .0, h, r .2))
+          (λ (c : Reached ident S w (r .0)). inr (reached-above (r .1) q c))
+          (cases (r .0) (r .1) q)
+
+  -- a held update was held before, or is w, or has w as an ancestor
+  pub held-cases : {u : Update} → Held ident (added S w) u → Held ident S u ⊎ Reached ident S w u
+  held-cases {u} (Held.held m k hs f) = step (added-cases S w m) (ready-cases k (λ v n p. held-cases (hs v n p)))
+    where
+      step : (u ∈ S) ⊎ (u ≡ w) → Ready u ⊎ Ancestor ident (added S w) w u → Held ident S u ⊎ Reached ident S w u
+      step (inl m′) (inl b) =
+          inl (Held.held m′ (b .known) (b .below) (fine-before ident S (added S w) (added-more S w) distinct (b .known) (b .below) f))
+      step (inl m′) (inr a) = inr (inr a)
+      step (inr e) b = inr (inl e)
+
+  -- a void update was void before, or is w, or has w as an ancestor
+  pub void-cases : {u : Update} → Void ident (added S w) u → Void ident S u ⊎ Reached ident S w u
+  void-cases (Void.after {u = u} {v = v} m n p x) = step (added-cases S w m) (void-cases x)
+    where
+      step : (u ∈ S) ⊎ (u ≡ w) → Void ident S v ⊎ Reached ident S w v → Void ident S u ⊎ Reached ident S w u
+      step (inl m′) (inl y) = inl (Void.after m′ (void-stored ident S y) p y)
+      step (inl m′) (inr r) = inr (inr (reached-above n p r))
+      step (inr e) y = inr (inl e)
+  void-cases (Void.broken {u = u} m k hs bad) = step (added-cases S w m) (ready-cases k (λ v n p. held-cases (hs v n p)))
+    where
+      step : (u ∈ S) ⊎ (u ≡ w) → Ready u ⊎ Ancestor ident (added S w) w u → Void ident S u ⊎ Reached ident S w u
+      step (inl m′) (inl b) =
+          inl
+          (Void.broken m′ (b .known) (b .below) (λ f. bad (grow-fine ident S (added S w) (added-more S w) distinct (b .known) (b .below) f)))
+      step (inl m′) (inr a) = inr (inr a)
+      step (inr e) b = inr (inl e)
+
+  -- what is newly held or newly void is w, or has w as an ancestor
+  pub held-new : {u : Update} → Held ident (added S w) u → (Held ident S u → ⊥) → Reached ident S w u
+  held-new {u} h n = ⊎-elim (λ (g : Held ident S u). absurd (n g)) (λ (r : Reached ident S w u). r) (held-cases h)
+
+  pub void-new : {u : Update} → Void ident (added S w) u → (Void ident S u → ⊥) → Reached ident S w u
+  void-new {u} h n = ⊎-elim (λ (g : Void ident S u). absurd (n g)) (λ (r : Reached ident S w u). r) (void-cases h)
+
+  -- what was held or void stays so
+  pub held-kept : {u : Update} → Held ident S u → Held ident (added S w) u
+  held-kept = grow-held ident S (added S w) (added-more S w) distinct
+
+  pub void-kept : {u : Update} → Void ident S u → Void ident (added S w) u
+  void-kept = grow-void ident S (added S w) (added-more S w) distinct
+
+  -- so what waits is w or waited before, and what waited goes on waiting unless it is reached
+  pub waiting-cases : {u : Update} → Waiting ident (added S w) u → (u ≡ w) ⊎ Waiting ident S u
+  waiting-cases {u} x =
+      ⊎-elim
+      (λ (m : u ∈ S).
+      inr (record { stored = m; not-held = λ h. x .not-held (held-kept h); not-void = λ v. x .not-void (void-kept v) }))
+      inl
+      (added-cases S w (x .stored))
+
+  pub waiting-kept : {u : Update} → Waiting ident S u → (Reached ident S w u → ⊥) → Waiting ident (added S w) u
+  waiting-kept {u} x n =
+      record {
+        stored = added-more S w u (x .stored);
+        not-held = λ h. n (held-new h (x .not-held));
+        not-void = λ v. n (void-new v (x .not-void));
+      }

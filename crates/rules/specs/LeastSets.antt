@@ -1,0 +1,103 @@
+-- Consequences of the least sets: the ancestors of a held update are held, no held update is its own ancestor, held and void exclude each
+-- other; and what a settling has to show, whatever its strategy.
+-- Assumes nothing.
+use mathlib.Core.Path.{_≡_, refl, sym, _∙_, ap}
+use mathlib.Core.Logic.{_⊎_, inl, inr, ⊎-elim}
+use mathlib.Core.Bool.{true≢false}
+use mathlib.Core.List.{List}
+use Rattle.keys.specs.Member.{_∈_}
+use Rattle.format.specs.Update.{Id, Update}
+use Rattle.rules.specs.Standing.{Ancestor, Known, Fine, Held, Void, Waiting}
+use Rattle.rules.specs.Settle.{Verdict, held, waiting, void, isWaiting}
+
+-- the verdicts differ
+held≢waiting : held ≡ waiting → ⊥
+unfolding isWaiting
+held≢waiting e = true≢false (sym (ap isWaiting e))
+
+void≢waiting : void ≡ waiting → ⊥
+unfolding isWaiting
+void≢waiting e = true≢false (sym (ap isWaiting e))
+
+module _ (ident : Update → Id) (S : List Update) where
+  pub ancestor-stored : {x y : Update} → Ancestor ident S x y → x ∈ S
+  ancestor-stored (Ancestor.direct m p) = m
+  ancestor-stored (Ancestor.further m p a) = ancestor-stored a
+
+  pub ancestor-trans : {x y z : Update} → Ancestor ident S x y → Ancestor ident S y z → Ancestor ident S x z
+  ancestor-trans a (Ancestor.direct m p) = Ancestor.further m p a
+  ancestor-trans a (Ancestor.further m p b) = Ancestor.further m p (ancestor-trans a b)
+
+  -- an ancestor is a predecessor or an ancestor of one
+  pub ancestor-cases : {x z : Update} → Ancestor ident S x z
+      → ((x ∈ S) × (ident x ∈ z .preds)) ⊎ ((y : Update) × (y ∈ S) × (ident y ∈ z .preds) × Ancestor ident S x y)
+  ancestor-cases (Ancestor.direct m p) = inl (m, p)
+  ancestor-cases (Ancestor.further {y = y} m p a) = inr (y, m, p, a)
+
+  pub held-stored : {u : Update} → Held ident S u → u ∈ S
+  held-stored (Held.held m k hs f) = m
+
+  pub void-stored : {u : Update} → Void ident S u → u ∈ S
+  void-stored (Void.after m n p v) = m
+  void-stored (Void.broken m k hs f) = m
+
+  -- the ancestors of a held update are held
+  pub held-ancestors : {x u : Update} → Held ident S u → Ancestor ident S x u → Held ident S x
+  held-ancestors {x} (Held.held m k hs f) (Ancestor.direct n p) = hs x n p
+  held-ancestors (Held.held m k hs f) (Ancestor.further {y = y} n p a) = held-ancestors (hs y n p) a
+
+  -- a held update is not its own ancestor
+  pub held-acyclic : {u : Update} → Held ident S u → Ancestor ident S u u → ⊥
+  held-acyclic {u} (Held.held m k hs f) a =
+      ⊎-elim
+      (λ (d : (u ∈ S) × (ident u ∈ u .preds)). held-acyclic (hs u (d .0) (d .1)) a)
+      (λ (d : (y : Update) × (y ∈ S) × (ident y ∈ u .preds) × Ancestor ident S u y).
+      held-acyclic (hs (d .0) (d .1) (d .2)) (ancestor-trans (Ancestor.direct (d .1) (d .2)) (d .3)))
+      (ancestor-cases a)
+
+  -- held and void exclude each other
+  pub held-not-void : {u : Update} → Held ident S u → Void ident S u → ⊥
+  held-not-void (Held.held m k hs f) (Void.after {v = v} _ n p w) = held-not-void (hs v n p) w
+  held-not-void (Held.held m k hs f) (Void.broken _ _ _ bad) = bad f
+
+  -- Any assignment of verdicts to the updates of S that is sound, and that leaves waiting only what the rules do not yet decide from the
+  -- verdicts of its predecessors, is right. It says nothing of the order in which verdicts were found.
+  pub record Sound (verdict : Update → Verdict) : Type 0 where
+    pub held-sound : (u : Update) → u ∈ S → verdict u ≡ held → Held ident S u
+    pub void-sound : (u : Update) → u ∈ S → verdict u ≡ void → Void ident S u
+
+  pub record Stable (verdict : Update → Verdict) : Type 0 where
+    pub no-void : (u v : Update) → u ∈ S → v ∈ S → verdict u ≡ waiting → ident v ∈ u .preds → verdict v ≡ void → ⊥
+    pub not-ready : (u : Update) → u ∈ S → verdict u ≡ waiting → Known ident S u
+        → ((v : Update) → v ∈ S → ident v ∈ u .preds → verdict v ≡ held) → ⊥
+
+  pub settled-held : (verdict : Update → Verdict) → Sound verdict → Stable verdict → {u : Update} → Held ident S u → verdict u ≡ held
+  settled-held verdict sound stable {u} (Held.held m k hs f) =
+      step (verdict u) refl (λ v n p. settled-held verdict sound stable (hs v n p))
+    where
+      step : (x : Verdict) → verdict u ≡ x → ((v : Update) → v ∈ S → ident v ∈ u .preds → verdict v ≡ held) → verdict u ≡ held
+      step held e below = e
+      step waiting e below = absurd (stable .not-ready u m e k below)
+      step void e below = absurd (held-not-void (Held.held m k hs f) (sound .void-sound u m e))
+
+  pub settled-void : (verdict : Update → Verdict) → Sound verdict → Stable verdict → {u : Update} → Void ident S u → verdict u ≡ void
+  settled-void verdict sound stable (Void.after {u = u} {v = v} m n p w) = step (verdict u) refl (settled-void verdict sound stable w)
+    where
+      step : (x : Verdict) → verdict u ≡ x → verdict v ≡ void → verdict u ≡ void
+      step held e below = absurd (held-not-void (sound .held-sound u m e) (Void.after m n p w))
+      step waiting e below = absurd (stable .no-void u v m n e p below)
+      step void e below = e
+  settled-void verdict sound stable (Void.broken {u = u} m k hs bad) = step (verdict u) refl
+    where
+      step : (x : Verdict) → verdict u ≡ x → verdict u ≡ void
+      step held e = absurd (held-not-void (sound .held-sound u m e) (Void.broken m k hs bad))
+      step waiting e = absurd (stable .not-ready u m e k (λ v n p. settled-held verdict sound stable (hs v n p)))
+      step void e = e
+
+  pub settled-waiting : (verdict : Update → Verdict) → Sound verdict → Stable verdict → (u : Update) → u ∈ S → verdict u ≡ waiting → Waiting ident S u
+  settled-waiting verdict sound stable u m e =
+      record {
+        stored = m;
+        not-held = λ h. held≢waiting (sym (settled-held verdict sound stable h) ∙ e);
+        not-void = λ v. void≢waiting (sym (settled-void verdict sound stable v) ∙ e);
+      }

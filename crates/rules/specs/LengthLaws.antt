@@ -1,0 +1,253 @@
+-- How long a report is: the lines of each part are bounded, and each row of a table shows in few of them.
+-- Assumes nothing.
+use Prim.Native.Nat.{ℕ, zero, suc, _+_, _*_, _/_, _%_, _≤_, _<_, zero-le, suc-le-suc}
+use Prim.Native.String.{String}
+use native.Mathlib.Nat.{not-suc-le-zero, le-of-suc-le-suc, le-trans, eq-or-lt-of-le}
+use native.Mathlib.Omega.{arith}
+use mathlib.Core.Path.{_≡_, refl, _∙_, ap, subst}
+use mathlib.Core.Logic.{⊎-elim}
+use mathlib.Core.List.{List, [], _∷_, _++_, List·Memᴰ·head, List·Memᴰ·tail, List·Memᴰ·not-nil}
+use mathlib.Core.Bool.{Bool, true, false, cond, not}
+use lib.ListN.{length, length-append}
+use lib.Dec.{ltb}
+use borrow.Author.Tests.{lt-ltb}
+use Rattle.keys.specs.Member.{_∈_, keep, concatMap}
+use Rattle.keys.specs.MemberLaws.{∈-singleton, map-∈, ∈-keep, keep-∈, keep-length, concatMap-∈}
+use Rattle.keys.specs.Distinct.{Distinct}
+use Rattle.keys.specs.DistinctLaws.{distinct-length, distinct-subset-length}
+use Rattle.keys.specs.SortLaws.{sort-∈, sort-length, sort-distinct}
+use Rattle.format.specs.Update.{idLength, tagLength, maxAuthor, Operation, Add, Remove, Insert, Delete, BoundedOperation, add, remove, insert, delete, Bounded}
+use Rattle.keys.specs.ListLaws.{concatMap-length, keep-concatMap-length}
+use Rattle.rules.specs.Settle.{Row, Table, Verdict, held, waiting, void, isHeld, isWaiting, isVoid, isInsert, heads, marks, tagsOf, tags, entries, deleted, valuesOf, list}
+use Rattle.rules.specs.Report.{codes, ascii, digit, hexByte, hex, decimalIn, decimal, updateLine, bytesLine, idLine, markLine, part, reportText}
+
+-- lines
+
+hex-length : (bs : List ℕ) → length (hex bs) ≡ 2 * length bs
+unfolding hex concatMap hexByte
+hex-length [] = refl
+hex-length (b ∷ bs) = let e : length (hex bs) ≡ 2 * length bs = hex-length bs in omega arith
+
+-- one decimal digit below ten, at most two below a hundred
+decimalIn-one : (k n : ℕ) → n < 10 → decimalIn (suc k) n ≡ digit n ∷ []
+unfolding decimalIn
+decimalIn-one k n h = ap (λ (t : Bool). cond t (digit n ∷ []) (decimalIn k (n / 10) ++ (digit (n % 10) ∷ []))) (lt-ltb n 10 h)
+
+decimal-length : (n : ℕ) → n < 100 → length (decimal n) ≤ 2
+unfolding decimal decimalIn
+decimal-length n h = step (ltb n 10) (ap length (decimalIn-one 18 (n / 10) (omega arith))) (length-append (decimalIn 19 (n / 10)) (digit (n % 10) ∷ []))
+  where
+    step : (t : Bool) → length (decimalIn 19 (n / 10)) ≡ 1
+        → length (decimalIn 19 (n / 10) ++ (digit (n % 10) ∷ [])) ≡ length (decimalIn 19 (n / 10)) + 1
+        → length (cond t (digit n ∷ []) (decimalIn 19 (n / 10) ++ (digit (n % 10) ∷ []))) ≤ 2
+    step true e a = omega arith
+    step false e a = omega arith
+
+mark-line-length : (a : ℕ) → a ≤ maxAuthor → length (markLine a) ≤ 5
+unfolding markLine ascii codes
+mark-line-length a h =
+    let d : length (decimal a) ≤ 2 = decimal-length a (omega arith) in
+    let e = length-append (decimal a) (ascii ")\n") in
+    omega arith
+
+bytes-line-length : (bs : List ℕ) → length (bytesLine bs) ≡ 3 + 2 * length bs
+unfolding bytesLine ascii codes
+bytes-line-length bs =
+    let x = hex-length bs in
+    let e = length-append (hex bs) (ascii ")\n") in
+    omega arith
+
+update-line-length : (r : Row) → length (r .id) ≡ idLength → r .update .author ≤ maxAuthor → length (updateLine r) ≤ 70
+unfolding updateLine ascii codes
+update-line-length r h a =
+    let d : length (decimal (r .update .author)) ≤ 2 = decimal-length (r .update .author) (omega arith) in
+    let x = hex-length (r .id) in
+    let e = length-append (decimal (r .update .author)) (ascii ")\n") in
+    let f = length-append (hex (r .id)) (ascii " " ++ (decimal (r .update .author) ++ ascii ")\n")) in
+    omega arith
+
+-- at most n bytes
+record Short (bs : List ℕ) (n : ℕ) : Type 0 where
+  short : length bs ≤ n
+
+-- a part, whose word has w bytes and whose lines have n
+part-short : {A : Type 0} (word : String) (line : A → List ℕ) (xs : List A) {rest : List ℕ} {w n m : ℕ} → length (ascii word) ≡ w
+    → length (concatMap line xs) ≤ n → Short rest m → Short (part word line xs rest) (w + n + 2 + m)
+unfolding part ascii codes
+part-short word line xs {rest} p h k =
+    let a = length-append (ascii word) (concatMap line xs ++ (ascii ")\n" ++ rest)) in
+    let b = length-append (concatMap line xs) (ascii ")\n" ++ rest) in
+    let c = k .short in
+    record { short = omega arith }
+
+-- the numbers below n, as keys
+below : ℕ → List (List ℕ)
+below zero = []
+below (suc n) = (n ∷ []) ∷ below n
+
+below-length : (n : ℕ) → length (below n) ≡ n
+unfolding below
+below-length zero = refl
+below-length (suc n) = ap suc (below-length n)
+
+∈-below : (a n : ℕ) → a < n → (a ∷ []) ∈ below n
+unfolding below
+∈-below a zero h = absurd (not-suc-le-zero h)
+∈-below a (suc n) h = ⊎-elim (λ (e : a ≡ n). List·Memᴰ·head (ap (λ (k : ℕ). k ∷ []) e)) (λ (k : a < n). List·Memᴰ·tail (∈-below a n k)) (eq-or-lt-of-le (le-of-suc-le-suc h))
+
+-- a row has one verdict
+by-verdict : (T : Table)
+    → length (keep (λ (r : Row). isHeld (r .verdict)) T) + length (keep (λ (r : Row). isWaiting (r .verdict)) T) + length (keep (λ (r : Row). isVoid (r .verdict)) T) ≡ length T
+unfolding keep isHeld isWaiting isVoid
+by-verdict [] = refl
+by-verdict (r ∷ T) = step (r .verdict) (keep (λ (q : Row). isHeld (q .verdict)) T) (keep (λ (q : Row). isWaiting (q .verdict)) T) (keep (λ (q : Row). isVoid (q .verdict)) T) (by-verdict T)
+  where
+    step : (v : Verdict) (hs ws vs : Table) → length hs + length ws + length vs ≡ length T
+        → length (cond (isHeld v) (r ∷ hs) hs) + length (cond (isWaiting v) (r ∷ ws) ws) + length (cond (isVoid v) (r ∷ vs) vs) ≡ suc (length T)
+    step held hs ws vs e = omega arith
+    step waiting hs ws vs e = omega arith
+    step void hs ws vs e = omega arith
+
+-- an update is an Add or an Insert, not both
+insertRow : Row → Bool
+insertRow r = isInsert (r .update .op)
+
+adds-inserts : (T : Table) → length (concatMap (λ (r : Row). tagsOf (r .update .op)) T) + length (keep insertRow T) ≤ length T
+unfolding concatMap keep tagsOf isInsert insertRow
+adds-inserts [] = zero-le
+adds-inserts (r ∷ T) = step (r .update .op) (concatMap (λ (q : Row). tagsOf (q .update .op)) T) (keep insertRow T) (adds-inserts T)
+  where
+    step : (o : Operation) (ts : List (List ℕ)) (is : Table) → length ts + length is ≤ length T
+        → length (tagsOf o ++ ts) + length (cond (isInsert o) (r ∷ is) is) ≤ suc (length T)
+    step (Add t) ts is h = omega arith
+    step (Remove t named) ts is h = omega arith
+    step (Insert a v) ts is h = omega arith
+    step (Delete i) ts is h = omega arith
+
+values-few : (o : Operation) → length (valuesOf o) ≤ 1
+unfolding valuesOf
+values-few (Add t) = omega arith
+values-few (Remove t named) = omega arith
+values-few (Insert a v) = omega arith
+values-few (Delete i) = omega arith
+
+tag-sized : {o : Operation} {t : List ℕ} → BoundedOperation o → t ∈ tagsOf o → length t ≡ tagLength
+unfolding tagsOf
+tag-sized (add h) m = ap length (∈-singleton m) ∙ h
+tag-sized (remove h is) m = absurd (List·Memᴰ·not-nil m)
+tag-sized (insert h k) m = absurd (List·Memᴰ·not-nil m)
+tag-sized (delete h) m = absurd (List·Memᴰ·not-nil m)
+
+value-sized : {o : Operation} {v : List ℕ} → BoundedOperation o → v ∈ valuesOf o → length v ≡ tagLength
+unfolding valuesOf
+value-sized (add h) m = absurd (List·Memᴰ·not-nil m)
+value-sized (remove h is) m = absurd (List·Memᴰ·not-nil m)
+value-sized (insert h k) m = ap length (∈-singleton m) ∙ k
+value-sized (delete h) m = absurd (List·Memᴰ·not-nil m)
+
+-- the lines of tags or values
+short-lines : (ts : List (List ℕ)) → ((t : List ℕ) → t ∈ ts → length t ≡ tagLength) → length (concatMap bytesLine ts) ≤ 35 * length ts
+short-lines ts h = concatMap-length bytesLine 35 ts (λ t m. line t (h t m))
+  where
+    line : (t : List ℕ) → length t ≡ tagLength → length (bytesLine t) ≤ 35
+    line t e = let f = bytes-line-length t in omega arith
+
+-- a table of bounded updates, whose entries are Inserts of its own, each once
+pub record Sized (T : Table) : Type 0 where
+  pub id-sized : (r : Row) → r ∈ T → length (r .id) ≡ idLength
+  pub bounded : (r : Row) → r ∈ T → Bounded (r .update)
+  pub entry-row : (r : Row) → r ∈ entries T → r ∈ T
+  pub entry-insert : (r : Row) → r ∈ entries T → isInsert (r .update .op) ≡ true
+  pub entry-once : Distinct (λ (r : Row). r .id) (entries T)
+
+module _ (T : Table) (sized : Sized T) where
+  updates-length : (p : Row → Bool) → length (concatMap updateLine (keep p T)) ≤ 70 * length (keep p T)
+  updates-length p =
+      concatMap-length updateLine 70 (keep p T)
+      (λ r m. let k : r ∈ T = keep-∈ p T m .0 in update-line-length r (sized .id-sized r k) (sized .bounded r k .author-small))
+
+  heads-length : length (concatMap idLine (heads T)) ≤ 67 * length (heads T)
+  unfolding heads idLine
+  heads-length = concatMap-length idLine 67 (heads T) (λ r m. line r (sized .id-sized r (keep-∈ _ T m .0)))
+    where
+      line : (r : Row) → length (r .id) ≡ idLength → length (bytesLine (r .id)) ≤ 67
+      line r h = let e = bytes-line-length (r .id) in omega arith
+
+  heads-few : length (heads T) ≤ length T
+  unfolding heads
+  heads-few = keep-length _ T
+
+  mark-small : (a : ℕ) → a ∈ marks T → a ≤ maxAuthor
+  unfolding marks
+  mark-small a m =
+      let r = map-∈ (λ (r : Row). r .update .author) _ (sort-∈ (λ (b : ℕ). b ∷ []) _ m) in
+      subst (λ (b : ℕ). b ≤ maxAuthor) (r .2) (sized .bounded (r .0) (keep-∈ _ T (r .1) .0) .author-small)
+
+  -- no author is marked twice
+  marks-few : length (marks T) ≤ suc maxAuthor
+  unfolding marks
+  marks-few =
+      subst (λ (n : ℕ). length (marks T) ≤ n) (below-length (suc maxAuthor))
+      (distinct-length distinct (below (suc maxAuthor)) (λ a m. ∈-below a (suc maxAuthor) (suc-le-suc (mark-small a m))))
+    where
+      distinct : Distinct (λ (a : ℕ). a ∷ []) (marks T)
+      distinct = sort-distinct (λ (a : ℕ). a ∷ []) _
+
+  marks-length : length (concatMap markLine (marks T)) ≤ 80
+  marks-length =
+      let h : length (concatMap markLine (marks T)) ≤ 5 * length (marks T) = concatMap-length markLine 5 (marks T) (λ a m. mark-line-length a (mark-small a m)) in
+      let k : length (marks T) ≤ suc maxAuthor = marks-few in
+      omega arith
+
+  tags-length : length (concatMap bytesLine (tags T)) ≤ 35 * length (tags T)
+  unfolding tags
+  tags-length = short-lines (tags T) size
+    where
+      size : (t : List ℕ) → t ∈ tags T → length t ≡ tagLength
+      size t m =
+          let r = concatMap-∈ (λ (r : Row). tagsOf (r .update .op)) _ (sort-∈ (λ (s : List ℕ). s) _ m) in
+          tag-sized (sized .bounded (r .0) (keep-∈ _ T (r .1) .0) .op-bounded) (r .2)
+
+  tags-few : length (tags T) ≤ length (concatMap (λ (r : Row). tagsOf (r .update .op)) T)
+  unfolding tags
+  tags-few = le-trans (sort-length (λ (t : List ℕ). t) _) (keep-concatMap-length (λ (r : Row). tagsOf (r .update .op)) _ T)
+
+  list-length : length (concatMap bytesLine (list T)) ≤ 35 * length (list T)
+  unfolding list
+  list-length = short-lines (list T) size
+    where
+      size : (v : List ℕ) → v ∈ list T → length v ≡ tagLength
+      size v m =
+          let r = concatMap-∈ (λ (r : Row). valuesOf (r .update .op)) _ m in
+          value-sized (sized .bounded (r .0) (sized .entry-row (r .0) (keep-∈ _ (entries T) (r .1) .0)) .op-bounded) (r .2)
+
+  -- no more values than Inserts
+  list-few : length (list T) ≤ length (keep insertRow T)
+  unfolding list insertRow
+  list-few =
+      let h = keep-concatMap-length (λ (r : Row). valuesOf (r .update .op)) (λ r. not (deleted T (r .id))) (entries T) in
+      let k = concatMap-length (λ (r : Row). valuesOf (r .update .op)) 1 (entries T) (λ r m. values-few (r .update .op)) in
+      let d = distinct-subset-length (sized .entry-once) (keep insertRow T) (λ r m. ∈-keep insertRow (sized .entry-row r m) (sized .entry-insert r m)) in
+      omega arith
+
+  -- all of the text: of a row at most 70 bytes by its verdict, 67 as a head and 35 as an Add or an Insert
+  pub text-length : length (reportText T) ≤ 152 + 172 * length T
+  unfolding reportText ascii codes
+  text-length =
+      let l = part-short "(list\n" bytesLine (list T) refl list-length end in
+      let s = part-short "(set\n" bytesLine (tags T) refl tags-length l in
+      let m = part-short "(marks\n" markLine (marks T) refl marks-length s in
+      let v = part-short "(void\n" updateLine (keep (λ (r : Row). isVoid (r .verdict)) T) refl (updates-length (λ r. isVoid (r .verdict))) m in
+      let w = part-short "(waiting\n" updateLine (keep (λ (r : Row). isWaiting (r .verdict)) T) refl (updates-length (λ r. isWaiting (r .verdict))) v in
+      let t = part-short "(heads\n" idLine (heads T) refl heads-length w in
+      let h = part-short "(held\n" updateLine (keep (λ (r : Row). isHeld (r .verdict)) T) refl (updates-length (λ r. isHeld (r .verdict))) t in
+      let all = h .short in
+      let rows = by-verdict T in
+      let tops = heads-few in
+      let shown-tags = tags-few in
+      let shown-values = list-few in
+      let shown = adds-inserts T in
+      omega arith
+    where
+      end : Short (ascii ")\n") 2
+      end = record { short = omega arith }

@@ -1,0 +1,17 @@
+pub mod Standing
+pub mod ReadOff
+pub mod Settle
+pub mod Report
+pub mod Small
+pub mod Decides
+pub mod LeastSets
+pub mod Growth
+pub mod SettlingTable
+pub mod Settling
+pub mod TableLaws
+pub mod ListLaws
+pub mod ListedLaws
+pub mod ReadOffLaws
+pub mod TextLaws
+pub mod LengthLaws
+pub mod ReportLaws

@@ -1,0 +1,115 @@
+-- Document 01, "What is read from the held updates", by Held and Ancestor alone.
+-- Assumes nothing.
+use mathlib.Core.Path.{_≡_}
+use mathlib.Core.Logic.{_⊎_, _↔_}
+use mathlib.Core.List.{List, [], _∷_, _++_}
+use Prim.Native.Nat.{ℕ, _<_}
+use mathlib.Core.Bool.{true}
+use lib.ListN.{length}
+use Rattle.keys.specs.Order.{before}
+use Rattle.keys.specs.Member.{_∈_}
+use Rattle.keys.specs.Distinct.{Distinct}
+use Rattle.format.specs.Update.{Id, Operation, Add, Remove, Insert, Delete, Update}
+use Rattle.rules.specs.Standing.{beginning, Ancestor, Held}
+
+module _ (ident : Update → Id) (S : List Update) where
+  -- "Heads: held updates that are no held update's ancestor."
+  pub record Head (u : Update) : Type 0 where
+    pub is-held : Held ident S u
+    pub on-top : (v : Update) → Held ident S v → Ancestor ident S u v → ⊥
+
+  -- "Mark: an author with two held updates, neither an ancestor of the other." (An equivocation.)
+  pub record Marked (author : ℕ) : Type 0 where
+    pub one : Update
+    pub other : Update
+    pub one-held : Held ident S one
+    pub other-held : Held ident S other
+    pub one-by : one .author ≡ author
+    pub other-by : other .author ≡ author
+    pub two : ident one ≡ ident other → ⊥
+    pub one-apart : Ancestor ident S one other → ⊥
+    pub other-apart : Ancestor ident S other one → ⊥
+
+  -- a held Remove names the id
+  pub record Removed (i : Id) : Type 0 where
+    pub by : Update
+    pub by-held : Held ident S by
+    pub tag : List ℕ
+    pub named : List Id
+    pub is-remove : by .op ≡ Remove tag named
+    pub names : i ∈ named
+
+  -- "Set: the tags with a held Add that no held Remove names."
+  pub record Present (tag : List ℕ) : Type 0 where
+    pub add : Update
+    pub add-held : Held ident S add
+    pub is-add : add .op ≡ Add tag
+    pub kept : Removed (ident add) → ⊥
+
+  -- a held Delete of the id
+  pub record Deleted (i : Id) : Type 0 where
+    pub by : Update
+    pub by-held : Held ident S by
+    pub is-delete : by .op ≡ Delete i
+
+  -- "For an update, its rank is the number of its ancestors": n, counted by a list that has each ancestor's id once.
+  pub record Rank (u : Update) (n : ℕ) : Type 0 where
+    pub ids : List Id
+    pub once : Distinct (λ (i : Id). i) ids
+    pub counts : (x : Update) → Ancestor ident S x u → ident x ∈ ids
+    pub only : (i : Id) → i ∈ ids → (x : Update) × Ancestor ident S x u × (ident x ≡ i)
+    pub number : length ids ≡ n
+
+  -- u is a held Insert with this anchor
+  pub record InsertAt (anchor : Id) (u : Update) : Type 0 where
+    pub is-held : Held ident S u
+    pub value : List ℕ
+    pub is-insert : u .op ≡ Insert anchor value
+
+  -- "Among siblings higher rank comes first, then the larger id." u comes before v.
+  pub record Sooner (u v : Update) : Type 0 where
+    pub rank-u : ℕ
+    pub rank-v : ℕ
+    pub is-rank-u : Rank u rank-u
+    pub is-rank-v : Rank v rank-v
+    pub larger : before (rank-v ∷ ident v) (rank-u ∷ ident u) ≡ true
+
+  pub data Ordered : List Update → Type 0 where
+    none : Ordered []
+    first : {u : Update} {us : List Update} → ((v : Update) → v ∈ us → Sooner u v) → Ordered us → Ordered (u ∷ us)
+
+  -- the siblings at an anchor: the held Inserts there, in their order
+  pub record Siblings (At : Update → Type 0) (us : List Update) : Type 0 where
+    pub ordered : Ordered us
+    pub all-in : (u : Update) → At u → u ∈ us
+    pub only : (u : Update) → u ∈ us → At u
+
+  -- what stands at the list's beginning, and what hangs under e. The zero anchor is the beginning, whatever ids there are, so nothing hangs
+  -- under an Insert whose own id is zero.
+  abbrev pub First : Update → Type 0
+  First u = InsertAt beginning u
+
+  abbrev pub Under : Update → Update → Type 0
+  Under e u = InsertAt (ident e) u × (ident e ≡ beginning → ⊥)
+
+  -- "List: a tree, each Insert under its anchor, walked parent first, all that hangs under an entry before its next sibling." The walk of
+  -- siblings is the second list.
+  pub data Walk : List Update → List Update → Type 0 where
+    none : Walk [] []
+    entry : {e : Update} {es under below next : List Update} → Siblings (Under e) under → Walk under below → Walk es next
+        → Walk (e ∷ es) (e ∷ (below ++ next))
+
+  -- "Deleted entries are left out of the list, their children stay." The values of a walk's entries that no held Delete names.
+  pub data Shown : List Update → List (List ℕ) → Type 0 where
+    none : Shown [] []
+    left-out : {e : Update} {es : List Update} {vs : List (List ℕ)} → Deleted (ident e) → Shown es vs → Shown (e ∷ es) vs
+    shown : {e : Update} {es : List Update} {a : Id} {v : List ℕ} {vs : List (List ℕ)} → (Deleted (ident e) → ⊥) → e .op ≡ Insert a v
+        → Shown es vs → Shown (e ∷ es) (v ∷ vs)
+
+  -- the list: the values shown by the walk of what stands at the beginning
+  pub record Listed (vs : List (List ℕ)) : Type 0 where
+    pub first : List Update
+    pub walk : List Update
+    pub siblings : Siblings First first
+    pub walked : Walk first walk
+    pub shows : Shown walk vs

@@ -1,0 +1,201 @@
+-- What is computed from a settled table is what `ReadOff` defines.
+-- Assumes nothing.
+use Prim.Native.Nat.{ℕ}
+use native.Mathlib.Omega.{arith}
+use mathlib.Core.Path.{_≡_, refl, sym, _∙_, ap, subst, subst₂}
+use mathlib.Core.List.{List, [], _∷_, map, head-eq-of-cons-eq}
+use mathlib.Core.Bool.{Bool, true, not, _&&_}
+use lib.ListN.{length}
+use lib.Dec.{eqb}
+use borrow.Author.Tests.{eqb-true, eq-eqb}
+use Rattle.keys.specs.Order.{same}
+use Rattle.keys.specs.Member.{_∈_, member, keep, any, concatMap}
+use Rattle.keys.specs.MemberLaws.{∈-cast, ∈-map, map-∈, member→∈, ∈→member, ∈-concatMap, concatMap-∈}
+use Rattle.keys.specs.BoolLaws.{true-false}
+use Rattle.keys.specs.OrderLaws.{same→eq, eq→same}
+use Rattle.keys.specs.SortLaws.{sort-∈, ∈-sort}
+use Rattle.keys.specs.Distinct.{Distinct}
+use Rattle.format.specs.Update.{Id, Update}
+use Rattle.rules.specs.Standing.{beginning, Ancestor, Held}
+use Rattle.rules.specs.ReadOff.{Head, Marked, Removed, Present, Rank, InsertAt, Walk, Shown, Listed}
+use Rattle.rules.specs.Settle.{Row, Table, held, heldRow, covered, heads, forkedBy, marks, removed, names, tagsOf, tags, list, entries, rank}
+use Rattle.rules.specs.Decides.{Decides}
+use Rattle.rules.specs.TableLaws.{not-true→, not-true, all-four→, →all-four, tagsOf-∈, ∈-tagsOf, names→, →names, HeldRow, any-held→, →any-held, keep-held→, →keep-held, row-held, row-id, row-rank, held-row, ancestor→above, above→ancestor, rank-bound}
+use Rattle.rules.specs.ListLaws.{Entry, atBeginning, firstRows, siblings-∈, walk-entry, walk-all, walk-distinct}
+use Rattle.rules.specs.ListedLaws.{first-right, walk-right, shown-right, siblings-unique, walk-unique, shown-unique}
+
+-- the test of `forkedBy` on a held row
+forked : Row → Row → Bool
+forked r q =
+    eqb (r .update .author) (q .update .author)
+    && (not (same (r .id) (q .id)) && (not (member (r .id) (q .above)) && not (member (q .id) (r .above))))
+
+module _ (ident : Update → Id) (S : List Update) (T : Table) (distinct : Distinct ident S) (decides : Decides ident S T) where
+  -- heads
+
+  covered→ : (r : Row) → HeldRow T r → covered T r ≡ true → (v : Update) × Held ident S v × Ancestor ident S (r .update) v
+  unfolding covered
+  covered→ r h e =
+      let f = any-held→ T (λ (q : Row). member (r .id) (q .above)) e in
+      (f .0 .update, row-held distinct decides (f .1), above→ancestor distinct decides h (f .1) (member→∈ (r .id) (f .0 .above) (f .2)))
+
+  →covered : (r : Row) → HeldRow T r → (v : Update) → Held ident S v → Ancestor ident S (r .update) v → covered T r ≡ true
+  unfolding covered
+  →covered r h v k a =
+      let f = held-row distinct decides k in
+      →any-held T (λ (q : Row). member (r .id) (q .above)) (f .1)
+      (∈→member (ancestor→above distinct decides h (f .1) (subst (Ancestor ident S (r .update)) (sym (f .2)) a)))
+
+  pub head-right : (r : Row) → r ∈ heads T → Head ident S (r .update)
+  unfolding heads
+  head-right r m =
+      let f = keep-held→ T (λ (q : Row). not (covered T q)) m in
+      record { is-held = row-held distinct decides (f .0); on-top = λ v k a. true-false (→covered r (f .0) v k a) (not-true→ (covered T r) (f .1)) }
+
+  pub head-all : (u : Update) → Head ident S u → (r : Row) × (r ∈ heads T) × (r .update ≡ u)
+  unfolding heads
+  head-all u h =
+      let f = held-row distinct decides (h .is-held) in (
+        f .0,
+        →keep-held T (λ (q : Row). not (covered T q)) (f .1)
+            (not-true (covered T (f .0)) (λ e. let c = covered→ (f .0) (f .1) e in h .on-top (c .0) (c .1) (subst (λ (x : Update). Ancestor ident S x (c .0)) (f .2) (c .2)))),
+        f .2,
+      )
+
+  -- marks
+
+  apart→ : {r q : Row} → HeldRow T r → HeldRow T q → not (member (r .id) (q .above)) ≡ true → Ancestor ident S (r .update) (q .update) → ⊥
+  apart→ {r} {q} h k e a = true-false (∈→member (ancestor→above distinct decides h k a)) (not-true→ (member (r .id) (q .above)) e)
+
+  →apart : {r q : Row} → HeldRow T r → HeldRow T q → (Ancestor ident S (r .update) (q .update) → ⊥) → not (member (r .id) (q .above)) ≡ true
+  →apart {r} {q} h k n = not-true (member (r .id) (q .above)) (λ e. n (above→ancestor distinct decides h k (member→∈ (r .id) (q .above) e)))
+
+  forked→ : {r q : Row} → HeldRow T r → HeldRow T q → forked r q ≡ true → Marked ident S (r .update .author)
+  unfolding forked
+  forked→ {r} {q} h k e =
+      let t = all-four→ (eqb (r .update .author) (q .update .author)) (not (same (r .id) (q .id))) (not (member (r .id) (q .above))) (not (member (q .id) (r .above))) e in
+      record {
+        one = r .update;
+        other = q .update;
+        one-held = row-held distinct decides h;
+        other-held = row-held distinct decides k;
+        one-by = refl;
+        other-by = sym (eqb-true (r .update .author) (q .update .author) (t .0));
+        two = λ i. true-false (eq→same (r .id) (q .id) (row-id distinct decides h ∙ i ∙ sym (row-id distinct decides k))) (not-true→ (same (r .id) (q .id)) (t .1));
+        one-apart = apart→ h k (t .2);
+        other-apart = apart→ k h (t .3);
+      }
+
+  →forked : {r q : Row} → HeldRow T r → HeldRow T q → r .update .author ≡ q .update .author → (ident (r .update) ≡ ident (q .update) → ⊥)
+      → (Ancestor ident S (r .update) (q .update) → ⊥) → (Ancestor ident S (q .update) (r .update) → ⊥) → forked r q ≡ true
+  unfolding forked
+  →forked {r} {q} h k by two one-apart other-apart =
+      →all-four (eqb (r .update .author) (q .update .author)) (not (same (r .id) (q .id))) (not (member (r .id) (q .above))) (not (member (q .id) (r .above)))
+      (eq-eqb (r .update .author) (q .update .author) by)
+      (not-true (same (r .id) (q .id)) (λ e. two (sym (row-id distinct decides h) ∙ same→eq (r .id) (q .id) e ∙ row-id distinct decides k))) (→apart h k one-apart) (→apart k h other-apart)
+
+  pub mark-right : (a : ℕ) → a ∈ marks T → Marked ident S a
+  unfolding marks forkedBy forked
+  mark-right a m =
+      let p : Row → Bool = λ (r : Row). any (forkedBy r) T in
+      let k = map-∈ (λ (r : Row). r .update .author) (keep (λ (r : Row). heldRow r && p r) T) (sort-∈ (λ (a : ℕ). a ∷ []) (map (λ (r : Row). r .update .author) (keep (λ (r : Row). heldRow r && p r) T)) m) in
+      let f = keep-held→ T p (k .1) in
+      let g = any-held→ T (forked (k .0)) (f .1) in
+      subst (Marked ident S) (k .2) (forked→ (f .0) (g .1) (g .2))
+
+  pub mark-all : (a : ℕ) → Marked ident S a → a ∈ marks T
+  unfolding marks forkedBy forked
+  mark-all a h =
+      let f = held-row distinct decides (h .one-held) in
+      let g = held-row distinct decides (h .other-held) in
+      let by : f .0 .update .author ≡ a = ap (λ (u : Update). u .author) (f .2) ∙ h .one-by in
+      let by′ : g .0 .update .author ≡ a = ap (λ (u : Update). u .author) (g .2) ∙ h .other-by in
+      let e : forked (f .0) (g .0) ≡ true =
+      →forked (f .1) (g .1) (by ∙ sym by′) (λ i. h .two (ap ident (sym (f .2)) ∙ i ∙ ap ident (g .2))) (λ x. h .one-apart (subst₂ (Ancestor ident S) (f .2) (g .2) x))
+      (λ x. h .other-apart (subst₂ (Ancestor ident S) (g .2) (f .2) x)) in
+      ∈-sort (λ (a : ℕ). a ∷ []) (λ x y m n e. head-eq-of-cons-eq e)
+      (∈-cast (sym by) (∈-map (λ (r : Row). r .update .author) (→keep-held T (λ (r : Row). any (forkedBy r) T) (f .1) (→any-held T (forked (f .0)) (g .1) e))))
+
+  -- tags
+
+  removed→ : {r : Row} → HeldRow T r → removed T (r .id) ≡ true → Removed ident S (ident (r .update))
+  unfolding removed
+  removed→ {r} h e =
+      let f = any-held→ T (λ (q : Row). names (r .id) (q .update .op)) e in
+      let g = names→ (r .id) (f .0 .update .op) (f .2) in
+      record { by = f .0 .update; by-held = row-held distinct decides (f .1); tag = g .0; named = g .1; is-remove = g .2; names = ∈-cast (sym (row-id distinct decides h)) (g .3) }
+
+  →removed : {r : Row} → HeldRow T r → Removed ident S (ident (r .update)) → removed T (r .id) ≡ true
+  unfolding removed
+  →removed {r} h k =
+      let f = held-row distinct decides (k .by-held) in
+      →any-held T (λ (q : Row). names (r .id) (q .update .op)) (f .1)
+      (→names (ap (λ (u : Update). u .op) (f .2) ∙ k .is-remove) (∈-cast (row-id distinct decides h) (k .names)))
+
+  pub tag-right : (t : List ℕ) → t ∈ tags T → Present ident S t
+  unfolding tags
+  tag-right t m =
+      let p : Row → Bool = λ (r : Row). not (removed T (r .id)) in
+      let F : Row → List (List ℕ) = λ (r : Row). tagsOf (r .update .op) in
+      let k = concatMap-∈ F (keep (λ (r : Row). heldRow r && p r) T) (sort-∈ (λ (t : List ℕ). t) (concatMap F (keep (λ (r : Row). heldRow r && p r) T)) m) in
+      let f = keep-held→ T p (k .1) in
+      record {
+        add = k .0 .update;
+        add-held = row-held distinct decides (f .0);
+        is-add = tagsOf-∈ (k .0 .update .op) (k .2);
+        kept = λ x. true-false (→removed (f .0) x) (not-true→ (removed T (k .0 .id)) (f .1));
+      }
+
+  pub tag-all : (t : List ℕ) → Present ident S t → t ∈ tags T
+  unfolding tags
+  tag-all t h =
+      let f = held-row distinct decides (h .add-held) in
+      ∈-sort (λ (t : List ℕ). t) (λ x y m n e. e)
+      (∈-concatMap (λ (r : Row). tagsOf (r .update .op))
+      (→keep-held T (λ (r : Row). not (removed T (r .id))) (f .1) (not-true (removed T (f .0 .id)) (λ e. h .kept (subst (λ (u : Update). Removed ident S (ident u)) (f .2) (removed→ (f .1) e)))))
+      (∈-tagsOf (ap (λ (u : Update). u .op) (f .2) ∙ h .is-add)))
+
+  -- the list
+
+  pub rank-right : (r : Row) → r ∈ T → r .verdict ≡ held → Rank ident S (r .update) (rank r)
+  rank-right r m e = row-rank distinct decides (record { row-in = m; ruled-held = e })
+
+  first-entry : (r : Row) → r ∈ firstRows T → Entry T r
+  first-entry r m = siblings-∈ distinct decides atBeginning m .0
+
+  entries-∈ : (r : Row) → r ∈ entries T → Entry T r
+  unfolding entries
+  entries-∈ r m = walk-entry distinct decides (length T) (firstRows T) first-entry m
+
+  -- each held Insert is met exactly once
+  pub entry-right : (r : Row) → r ∈ entries T → (r ∈ T) × (a : Id) × InsertAt ident S a (r .update)
+  entry-right r m =
+      let e = entries-∈ r m in
+      (e .row .row-in, e .anchor, record { is-held = row-held distinct decides (e .row); value = e .value; is-insert = e .is-insert })
+
+  pub entry-all : (a : Id) (u : Update) → InsertAt ident S a u → (r : Row) × (r ∈ entries T) × (r .update ≡ u)
+  unfolding entries
+  entry-all a u h =
+      let f = held-row distinct decides (h .is-held) in
+      let e : Entry T (f .0) = record { row = f .1; anchor = a; value = h .value; is-insert = ap (λ (v : Update). v .op) (f .2) ∙ h .is-insert } in
+      (f .0, walk-all distinct decides (length T) (f .0) e (rank-bound distinct decides (f .1)), f .2)
+
+  pub entry-once : Distinct (λ (r : Row). r .id) (entries T)
+  unfolding entries
+  entry-once = walk-distinct distinct decides (length T) atBeginning (λ a b p q. same→eq a beginning p ∙ sym (same→eq b beginning q))
+
+  pub list-right : Listed ident S (list T)
+  unfolding list entries
+  list-right = record {
+    first = map (λ (r : Row). r .update) (firstRows T);
+    walk = map (λ (r : Row). r .update) (entries T);
+    siblings = first-right distinct decides;
+    walked = walk-right distinct decides (length T) (firstRows T) (λ e m. first-entry e m .row) (λ e m. omega arith);
+    shows = shown-right distinct decides (entries T) entries-∈;
+  }
+
+-- the definition determines the list
+pub listed-unique : (ident : Update → Id) (S : List Update) → Distinct ident S → {vs ws : List (List ℕ)} → Listed ident S vs → Listed ident S ws → vs ≡ ws
+listed-unique ident S distinct {vs} l m =
+    let w = walk-unique (subst (λ (es : List Update). Walk ident S es (l .walk)) (siblings-unique (l .siblings) (m .siblings)) (l .walked)) (m .walked) in
+    shown-unique (subst (λ (es : List Update). Shown ident S es vs) w (l .shows)) (m .shows)

@@ -1,0 +1,72 @@
+-- Document 01, "Command and report": the report's text, byte for byte, from a set alone.
+-- Assumes nothing.
+use Prim.Native.Nat.{ℕ, zero, suc, _+_, _/_, _%_}
+use Prim.Native.String.{String, len, charAt}
+use Prim.Native.Char.{Char, code}
+use mathlib.Core.List.{List, [], _∷_, _++_}
+use mathlib.Core.Bool.{cond}
+use lib.Dec.{ltb}
+use Rattle.keys.specs.Member.{keep, concatMap}
+use Rattle.format.specs.Update.{Id, Update}
+use Rattle.rules.specs.Settle.{Row, Table, isHeld, isWaiting, isVoid, settled, heads, marks, tags, list}
+
+-- the bytes of a text of plain ASCII
+unfoldable pub codes : String → ℕ → ℕ → List ℕ
+codes s i zero = []
+codes s i (suc n) = code (charAt s i) ∷ codes s (i + 1) n
+
+unfoldable pub ascii : String → List ℕ
+ascii s = codes s 0 (len s)
+
+-- one hexadecimal digit, lowercase; a byte's two; "64 lowercase hexadecimal digits"
+unfoldable pub digit : ℕ → ℕ
+digit n = cond (ltb n 10) (48 + n) (87 + n)
+
+unfoldable pub hexByte : ℕ → List ℕ
+hexByte b = digit (b / 16) ∷ digit (b % 16) ∷ []
+
+unfoldable pub hex : List ℕ → List ℕ
+hex bs = concatMap hexByte bs
+
+-- base ten, of a number of at most k digits
+unfoldable pub decimalIn : ℕ → ℕ → List ℕ
+decimalIn zero n = []
+decimalIn (suc k) n = cond (ltb n 10) (digit n ∷ []) (decimalIn k (n / 10) ++ (digit (n % 10) ∷ []))
+
+unfoldable pub decimal : ℕ → List ℕ
+decimal n = decimalIn 20 n
+
+-- "Each line ends in a newline. Held, waiting and void have lines `(ID author)`, heads `(ID)` .. Marks: `(author)` .., base ten. Set: `(TAG)` ..;
+-- list: `(VALUE)`"
+unfoldable pub updateLine : Row → List ℕ
+updateLine r = ascii "(" ++ (hex (r .id) ++ (ascii " " ++ (decimal (r .update .author) ++ ascii ")\n")))
+
+unfoldable pub bytesLine : List ℕ → List ℕ
+bytesLine bs = ascii "(" ++ (hex bs ++ ascii ")\n")
+
+unfoldable pub idLine : Row → List ℕ
+idLine r = bytesLine (r .id)
+
+unfoldable pub markLine : ℕ → List ℕ
+markLine a = ascii "(" ++ (decimal a ++ ascii ")\n")
+
+-- one part: its word, a line for each element, the closing bracket; then the rest
+unfoldable pub part : {A : Type 0} → String → (A → List ℕ) → List A → List ℕ → List ℕ
+part word line xs rest = ascii word ++ (concatMap line xs ++ (ascii ")\n" ++ rest))
+
+-- the text of a settled table
+unfoldable pub reportText : Table → List ℕ
+reportText T =
+    ascii "(ledger 1\n"
+    ++ part "(held\n" updateLine (keep (λ (r : Row). isHeld (r .verdict)) T)
+    (part "(heads\n" idLine (heads T)
+    (part "(waiting\n" updateLine (keep (λ (r : Row). isWaiting (r .verdict)) T)
+    (part "(void\n" updateLine (keep (λ (r : Row). isVoid (r .verdict)) T)
+    (part "(marks\n" markLine (marks T)
+    (part "(set\n" bytesLine (tags T)
+    (part "(list\n" bytesLine (list T)
+    (ascii ")\n")))))))
+
+-- "The report that the rules give for a set is the text laid out below, each part worked out from that set alone."
+unfoldable pub reportOf : (Update → Id) → List Update → List ℕ
+reportOf ident S = reportText (settled ident S)

@@ -1,0 +1,223 @@
+-- The rules as they are computed: rounds over a table of verdicts that judge again what waits, and the read-offs from the settled table. The
+-- theorems of `Settling` and `ReadOffLaws` say that these are the standings and read-offs of `Standing` and `ReadOff`.
+-- Assumes nothing.
+use Prim.Native.Nat.{ℕ, zero, suc}
+use mathlib.Core.List.{List, [], _∷_, _++_, map, reverse}
+use mathlib.Core.Bool.{Bool, true, false, cond, not, _&&_, _||_}
+use lib.ListN.{length}
+use lib.Dec.{eqb}
+use Rattle.keys.specs.Order.{same}
+use Rattle.keys.specs.Member.{member, keep, any, all, concatMap}
+use Rattle.keys.specs.Sort.{sort}
+use Rattle.format.specs.Update.{Id, Operation, Add, Remove, Insert, Delete, Update}
+use Rattle.rules.specs.Standing.{beginning}
+
+pub data Verdict : Type 0 where
+  held : Verdict
+  waiting : Verdict
+  void : Verdict
+
+-- an update with its id, its verdict so far and, once it is held, the ids of its ancestors
+pub record Row : Type 0 where
+  pub id : Id
+  pub update : Update
+  pub verdict : Verdict
+  pub above : List Id
+
+abbrev pub Table : Type 0
+Table = List Row
+
+-- tests of a row
+
+unfoldable pub isHeld : Verdict → Bool
+isHeld held = true
+isHeld waiting = false
+isHeld void = false
+
+unfoldable pub isWaiting : Verdict → Bool
+isWaiting held = false
+isWaiting waiting = true
+isWaiting void = false
+
+unfoldable pub isVoid : Verdict → Bool
+isVoid held = false
+isVoid waiting = false
+isVoid void = true
+
+unfoldable pub isAdd : List ℕ → Operation → Bool
+isAdd t (Add t′) = same t t′
+isAdd t (Remove t′ named) = false
+isAdd t (Insert a v) = false
+isAdd t (Delete i) = false
+
+unfoldable pub isInsert : Operation → Bool
+isInsert (Add t) = false
+isInsert (Remove t named) = false
+isInsert (Insert a v) = true
+isInsert (Delete i) = false
+
+-- tests of an id in a table
+
+unfoldable pub heldIn : Table → Id → Bool
+heldIn T i = any (λ (r : Row). same (r .id) i && isHeld (r .verdict)) T
+
+unfoldable pub voidIn : Table → Id → Bool
+voidIn T i = any (λ (r : Row). same (r .id) i && isVoid (r .verdict)) T
+
+unfoldable pub addIn : Table → List ℕ → Id → Bool
+addIn T t i = any (λ (r : Row). same (r .id) i && isAdd t (r .update .op)) T
+
+unfoldable pub insertIn : Table → Id → Bool
+insertIn T i = any (λ (r : Row). same (r .id) i && isInsert (r .update .op)) T
+
+-- x is an ancestor of the update with the id i
+unfoldable pub aboveIn : Table → Id → Id → Bool
+aboveIn T x i = any (λ (r : Row). same (r .id) i && member x (r .above)) T
+
+-- the ids of a table's rows that are predecessors of u or ancestors of one
+unfoldable pub ancestorsOf : Table → Update → List Id
+ancestorsOf T u =
+    map (λ (r : Row). r .id)
+    (keep (λ (r : Row). member (r .id) (u .preds) || any (λ (p : Id). aboveIn T (r .id) p) (u .preds)) T)
+
+-- no predecessor is an ancestor of another
+unfoldable pub antichain : Table → List Id → Bool
+antichain T ps = all (λ (p : Id). all (λ (q : Id). not (aboveIn T p q)) ps) ps
+
+-- the operation is valid, for an update with these ancestors
+unfoldable pub validOp : Table → List Id → Operation → Bool
+validOp T up (Add t) = true
+validOp T up (Remove t named) = all (λ (i : Id). member i up && addIn T t i) named
+validOp T up (Insert a v) = same a beginning || (member a up && insertIn T a)
+validOp T up (Delete i) = member i up && insertIn T i
+
+-- a row that waits is judged by the table; a settled one stays
+
+unfoldable pub ruled : Verdict → List Id → Row → Row
+ruled v up r = record { id = r .id; update = r .update; verdict = v; above = up }
+
+unfoldable pub judgeFine : Bool → List Id → Row → Row
+judgeFine true up r = ruled held up r
+judgeFine false up r = ruled void [] r
+
+unfoldable pub judgeKnown : Table → Row → List Id → Row
+judgeKnown T r up = judgeFine (antichain T (r .update .preds) && validOp T up (r .update .op)) up r
+
+-- whether some predecessor is void, and whether all are held
+unfoldable pub judgeBy : Bool → Bool → Table → Row → Row
+judgeBy true h T r = ruled void [] r
+judgeBy false true T r = judgeKnown T r (ancestorsOf T (r .update))
+judgeBy false false T r = r
+
+unfoldable pub judgeFrom : Verdict → Table → Row → Row
+judgeFrom held T r = r
+judgeFrom void T r = r
+judgeFrom waiting T r = judgeBy (any (voidIn T) (r .update .preds)) (all (heldIn T) (r .update .preds)) T r
+
+unfoldable pub judge : Table → Row → Row
+judge T r = judgeFrom (r .verdict) T r
+
+unfoldable pub round : Table → Table
+round T = map (judge T) T
+
+unfoldable pub rounds : ℕ → Table → Table
+rounds zero T = T
+rounds (suc n) T = round (rounds n T)
+
+unfoldable pub start : (Update → Id) → Update → Row
+start ident u = record { id = ident u; update = u; verdict = waiting; above = [] }
+
+-- the settled table of a set, ascending by id
+unfoldable pub startAll : (Update → Id) → List Update → Table
+startAll ident S = map (start ident) (sort ident S)
+
+unfoldable pub settled : (Update → Id) → List Update → Table
+settled ident S = rounds (length S) (startAll ident S)
+
+-- what is read from a settled table
+
+unfoldable pub heldRow : Row → Bool
+heldRow r = isHeld (r .verdict)
+
+-- a held row has r's update above it
+unfoldable pub covered : Table → Row → Bool
+covered T r = any (λ (q : Row). heldRow q && member (r .id) (q .above)) T
+
+unfoldable pub heads : Table → Table
+heads T = keep (λ (r : Row). heldRow r && not (covered T r)) T
+
+-- q is another held update of r's author, neither an ancestor of the other
+unfoldable pub forkedBy : Row → Row → Bool
+forkedBy r q =
+    heldRow q && (eqb (r .update .author) (q .update .author)
+    && (not (same (r .id) (q .id)) && (not (member (r .id) (q .above)) && not (member (q .id) (r .above)))))
+
+unfoldable pub marks : Table → List ℕ
+marks T =
+    sort (λ (a : ℕ). a ∷ [])
+    (map (λ (r : Row). r .update .author) (keep (λ (r : Row). heldRow r && any (forkedBy r) T) T))
+
+unfoldable pub names : Id → Operation → Bool
+names i (Add t) = false
+names i (Remove t named) = member i named
+names i (Insert a v) = false
+names i (Delete d) = false
+
+unfoldable pub removed : Table → Id → Bool
+removed T i = any (λ (q : Row). heldRow q && names i (q .update .op)) T
+
+unfoldable pub tagsOf : Operation → List (List ℕ)
+tagsOf (Add t) = t ∷ []
+tagsOf (Remove t named) = []
+tagsOf (Insert a v) = []
+tagsOf (Delete i) = []
+
+unfoldable pub tags : Table → List (List ℕ)
+tags T =
+    sort (λ (t : List ℕ). t)
+    (concatMap (λ (r : Row). tagsOf (r .update .op)) (keep (λ (r : Row). heldRow r && not (removed T (r .id))) T))
+
+-- the list
+
+unfoldable pub rank : Row → ℕ
+rank r = length (r .above)
+
+unfoldable pub anchored : (Id → Bool) → Operation → Bool
+anchored p (Add t) = false
+anchored p (Remove t named) = false
+anchored p (Insert a v) = p a
+anchored p (Delete i) = false
+
+-- the held Inserts whose anchor passes a test, higher rank first, then the larger id
+unfoldable pub siblings : Table → (Id → Bool) → Table
+siblings T p =
+    reverse (sort (λ (r : Row). rank r ∷ r .id) (keep (λ (r : Row). heldRow r && anchored p (r .update .op)) T))
+
+unfoldable pub under : Row → Id → Bool
+under e a = not (same a beginning) && same a (e .id)
+
+-- parent first, all that hangs under an entry before its next sibling; n bounds the depth
+unfoldable pub walk : ℕ → Table → Table → Table
+walk zero T es = []
+walk (suc n) T es = concatMap (λ (e : Row). e ∷ walk n T (siblings T (under e))) es
+
+unfoldable pub entries : Table → Table
+entries T = walk (length T) T (siblings T (λ (a : Id). same a beginning))
+
+unfoldable pub deletes : Id → Operation → Bool
+deletes i (Add t) = false
+deletes i (Remove t named) = false
+deletes i (Insert a v) = false
+deletes i (Delete d) = same i d
+
+unfoldable pub deleted : Table → Id → Bool
+deleted T i = any (λ (q : Row). heldRow q && deletes i (q .update .op)) T
+
+unfoldable pub valuesOf : Operation → List (List ℕ)
+valuesOf (Add t) = []
+valuesOf (Remove t named) = []
+valuesOf (Insert a v) = v ∷ []
+valuesOf (Delete i) = []
+
+unfoldable pub list : Table → List (List ℕ)
+list T = concatMap (λ (r : Row). valuesOf (r .update .op)) (keep (λ (r : Row). not (deleted T (r .id))) (entries T))

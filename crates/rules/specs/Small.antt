@@ -1,0 +1,332 @@
+-- Document 01, "Sixteen small ledgers": the rules computed on small sets, with short stand-in ids, as a table that one theorem covers.
+--
+-- The stand-in ids are chosen so that the careless rules of "Where a careful hand goes wrong" fail here:
+--   a Remove judged by the whole set: 10 (it would be held, and remove a);
+--   siblings by id alone: 13 (q has the smaller id, and comes first by its rank);
+--   only direct successors settled: 8 (e stands three steps above b, and has the smallest id);
+--   a void update forgotten: 8 and 9 (e would wait);
+--   no antichain test: 7, 8 and 9 (d would be held);
+--   marks from waiting updates: the further ledger `waits`; marks from void ones: 7 (d is by author 1).
+-- Assumes nothing.
+use Prim.Native.Nat.{ℕ}
+use mathlib.Core.Path.{_≡_, refl}
+use mathlib.Core.List.{List, [], _∷_, map, _++_, reverse, reverseAux}
+use mathlib.Core.Bool.{Bool, true, false, cond}
+use lib.ListN.{length, replicate}
+use Rattle.keys.specs.Order.{same, before}
+use Rattle.keys.specs.Member.{member, keep, any, all, concatMap}
+use Rattle.keys.specs.Sort.{insert, sort}
+use Rattle.format.specs.Update.{Id, Operation, Add, Remove, Insert, Delete, Update, encode, encodeOperation}
+use Rattle.rules.specs.Standing.{beginning}
+use Rattle.rules.specs.Settle.{Row, Table, Verdict, held, waiting, void, isHeld, isWaiting, isVoid, isAdd, isInsert, heldIn, voidIn, addIn, insertIn, aboveIn, ancestorsOf, antichain, validOp, ruled, judgeFine, judgeKnown, judgeBy, judgeFrom, judge, round, rounds, start, startAll, settled, heldRow, covered, heads, forkedBy, marks, names, removed, tagsOf, tags, rank, anchored, siblings, under, walk, entries, deletes, deleted, valuesOf, list}
+
+-- an update with its stand-in id
+pub record Named : Type 0 where
+  pub name : Id
+  pub update : Update
+
+-- the id function that a directory gives: the name of the entry with the same bytes, or no bytes
+unfoldable pub nameIn : List Named → Update → Id
+nameIn [] u = []
+nameIn (n ∷ ns) u = cond (same (encode (n .update)) (encode u)) (n .name) (nameIn ns u)
+
+unfoldable pub by : Id → ℕ → List Id → Operation → Named
+by i a ps o = record { name = i; update = record { author = a; preds = ps; op = o } }
+
+-- what the rules give: ids, authors, tags, values
+pub record Outcome : Type 0 where
+  pub held-ids : List Id
+  pub head-ids : List Id
+  pub waiting-ids : List Id
+  pub void-ids : List Id
+  pub marked : List ℕ
+  pub in-set : List (List ℕ)
+  pub in-list : List (List ℕ)
+
+unfoldable pub idsOf : Table → List Id
+idsOf T = map (λ (r : Row). r .id) T
+
+unfoldable pub read : Table → Outcome
+read T =
+    record {
+      held-ids = idsOf (keep (λ (r : Row). isHeld (r .verdict)) T);
+      head-ids = idsOf (heads T);
+      waiting-ids = idsOf (keep (λ (r : Row). isWaiting (r .verdict)) T);
+      void-ids = idsOf (keep (λ (r : Row). isVoid (r .verdict)) T);
+      marked = marks T;
+      in-set = tags T;
+      in-list = list T;
+    }
+
+unfoldable pub outcome : List Named → Outcome
+outcome ns = read (settled (nameIn ns) (map (λ (n : Named). n .update) ns))
+
+unfoldable pub expect : List Id → List Id → List Id → List Id → List ℕ → List (List ℕ) → List (List ℕ) → Outcome
+expect h t w v m s l =
+    record { held-ids = h; head-ids = t; waiting-ids = w; void-ids = v; marked = m; in-set = s; in-list = l }
+
+-- the stand-in ids, tags and values
+abbrev pub #a : List ℕ
+#a = 20 ∷ []
+
+abbrev pub #b : List ℕ
+#b = 10 ∷ []
+
+abbrev pub #d : List ℕ
+#d = 30 ∷ []
+
+abbrev pub #e : List ℕ
+#e = 5 ∷ []
+
+abbrev pub #e′ : List ℕ
+#e′ = 6 ∷ []
+
+abbrev pub #a′ : List ℕ
+#a′ = 15 ∷ []
+
+abbrev pub #r : List ℕ
+#r = 25 ∷ []
+
+abbrev pub #r′ : List ℕ
+#r′ = 26 ∷ []
+
+abbrev pub #c : List ℕ
+#c = 12 ∷ []
+
+abbrev pub #p : List ℕ
+#p = 40 ∷ []
+
+abbrev pub #q : List ℕ
+#q = 35 ∷ []
+
+abbrev pub #q′ : List ℕ
+#q′ = 45 ∷ []
+
+abbrev pub #i : List ℕ
+#i = 50 ∷ []
+
+abbrev pub #x : List ℕ
+#x = 55 ∷ []
+
+abbrev pub #m : List ℕ
+#m = 60 ∷ []
+
+abbrev pub #none : List ℕ
+#none = 99 ∷ []
+
+abbrev pub #f : List ℕ
+#f = 61 ∷ []
+
+abbrev pub #g : List ℕ
+#g = 62 ∷ []
+
+abbrev pub #w : List ℕ
+#w = 63 ∷ []
+
+abbrev pub #y : List ℕ
+#y = 64 ∷ []
+
+abbrev pub #i′ : List ℕ
+#i′ = 65 ∷ []
+
+abbrev pub #x′ : List ℕ
+#x′ = 66 ∷ []
+
+abbrev pub #v : List ℕ
+#v = 67 ∷ []
+
+abbrev pub #u : List ℕ
+#u = 68 ∷ []
+
+abbrev pub #x″ : List ℕ
+#x″ = 69 ∷ []
+
+abbrev pub #k : List ℕ
+#k = 70 ∷ []
+
+abbrev pub t : List ℕ
+t = 7 ∷ []
+
+abbrev pub t′ : List ℕ
+t′ = 8 ∷ []
+
+abbrev pub t″ : List ℕ
+t″ = 9 ∷ []
+
+abbrev pub P : List ℕ
+P = 1 ∷ []
+
+abbrev pub Q : List ℕ
+Q = 2 ∷ []
+
+abbrev pub R : List ℕ
+R = 3 ∷ []
+
+abbrev pub Y : List ℕ
+Y = 4 ∷ []
+
+abbrev pub Z : List ℕ
+Z = 5 ∷ []
+
+-- an Add of t by author 1 without predecessors
+unfoldable pub a : Named
+a = by #a 1 [] (Add t)
+
+-- an Add by 1 after a
+unfoldable pub b : Named
+b = by #b 1 (#a ∷ []) (Add t′)
+
+-- another root by 1
+unfoldable pub a′ : Named
+a′ = by #a′ 1 [] (Add t′)
+
+-- after a and b, of which a is an ancestor of b
+unfoldable pub d : Named
+d = by #d 1 (#b ∷ #a ∷ []) (Add t″)
+
+-- after d
+unfoldable pub e : Named
+e = by #e 3 (#d ∷ []) (Add t″)
+
+-- after d and a missing id
+unfoldable pub e′ : Named
+e′ = by #e′ 3 (#d ∷ #none ∷ []) (Add t″)
+
+-- a root Remove of t naming a
+unfoldable pub r : Named
+r = by #r 2 [] (Remove t (#a ∷ []))
+
+-- the same after a
+unfoldable pub r′ : Named
+r′ = by #r′ 2 (#a ∷ []) (Remove t (#a ∷ []))
+
+-- another Add of t
+unfoldable pub c : Named
+c = by #c 3 [] (Add t)
+
+-- an Insert at the beginning
+unfoldable pub p : Named
+p = by #p 1 [] (Insert beginning P)
+
+-- another there after p, with the smaller id
+unfoldable pub q : Named
+q = by #q 2 (#p ∷ []) (Insert beginning Q)
+
+-- a root at the beginning, with the larger id
+unfoldable pub q′ : Named
+q′ = by #q′ 2 [] (Insert beginning Q)
+
+-- anchored at p
+unfoldable pub i : Named
+i = by #i 1 (#p ∷ []) (Insert #p R)
+
+-- deletes p
+unfoldable pub x : Named
+x = by #x 2 (#p ∷ []) (Delete #p)
+
+-- a Remove with m = 0
+unfoldable pub m : Named
+m = by #m 1 [] (Remove t [])
+
+-- f and g name each other
+unfoldable pub f : Named
+f = by #f 1 (#g ∷ []) (Add t)
+
+unfoldable pub g : Named
+g = by #g 2 (#f ∷ []) (Add t)
+
+-- waits for a missing id
+unfoldable pub w : Named
+w = by #w 1 (#none ∷ []) (Add t)
+
+-- its own id is zero
+unfoldable pub z : Named
+z = by beginning 1 [] (Insert beginning Z)
+
+-- at the beginning, after z
+unfoldable pub y : Named
+y = by #y 2 (beginning ∷ []) (Insert beginning Y)
+
+-- anchored at p, after p was deleted
+unfoldable pub i′ : Named
+i′ = by #i′ 1 (#x ∷ []) (Insert #p R)
+
+-- deletes p again
+unfoldable pub x′ : Named
+x′ = by #x′ 2 (#x ∷ []) (Delete #p)
+
+-- names an Add of another tag
+unfoldable pub v : Named
+v = by #v 2 (#a ∷ []) (Remove t′ (#a ∷ []))
+
+-- its anchor is no ancestor
+unfoldable pub u : Named
+u = by #u 2 (#a ∷ []) (Insert #p R)
+
+-- an Insert at the beginning after p, higher in rank than q′
+unfoldable pub k : Named
+k = by #k 3 (#p ∷ []) (Insert beginning Y)
+
+pub record Small : Type 0 where
+  pub updates : List Named
+  pub gives : Outcome
+
+-- the sixteen of document 01, in its words
+unfoldable pub sixteen : List Small
+sixteen =
+    -- 1. Nothing: all parts empty.
+    record { updates = []; gives = expect [] [] [] [] [] [] [] }
+    -- 2. a: held, head a.
+    ∷ record { updates = (a ∷ []); gives = expect (#a ∷ []) (#a ∷ []) [] [] [] (t ∷ []) [] }
+    -- 3. b only: waiting.
+    ∷ record { updates = (b ∷ []); gives = expect [] [] (#b ∷ []) [] [] [] [] }
+    -- 4. b, then a: both held, head b.
+    ∷ record { updates = (b ∷ a ∷ []); gives = expect (#b ∷ #a ∷ []) (#b ∷ []) [] [] [] (t ∷ t′ ∷ []) [] }
+    -- 5. a and another root by 1: mark 1.
+    ∷ record { updates = (a ∷ a′ ∷ []); gives = expect (#a′ ∷ #a ∷ []) (#a′ ∷ #a ∷ []) [] [] (1 ∷ []) (t ∷ t′ ∷ []) [] }
+    -- 6. a, b: no mark.
+    ∷ record { updates = (a ∷ b ∷ []); gives = expect (#b ∷ #a ∷ []) (#b ∷ []) [] [] [] (t ∷ t′ ∷ []) [] }
+    -- 7. a, b, then d after {a, b}: d void.
+    ∷ record { updates = (a ∷ b ∷ d ∷ []); gives = expect (#b ∷ #a ∷ []) (#b ∷ []) [] (#d ∷ []) [] (t ∷ t′ ∷ []) [] }
+    -- 8. e after d: void.
+    ∷ record { updates = (a ∷ b ∷ d ∷ e ∷ []); gives = expect (#b ∷ #a ∷ []) (#b ∷ []) [] (#e ∷ #d ∷ []) [] (t ∷ t′ ∷ []) [] }
+    -- 9. e after d and a missing id: void.
+    ∷ record { updates = (a ∷ b ∷ d ∷ e′ ∷ []); gives = expect (#b ∷ #a ∷ []) (#b ∷ []) [] (#e′ ∷ #d ∷ []) [] (t ∷ t′ ∷ []) [] }
+    -- 10. a, and a root Remove of t naming a: void.
+    ∷ record { updates = (a ∷ r ∷ []); gives = expect (#a ∷ []) (#a ∷ []) [] (#r ∷ []) [] (t ∷ []) [] }
+    -- 11. The same after a: set empty.
+    ∷ record { updates = (a ∷ r′ ∷ []); gives = expect (#a ∷ #r′ ∷ []) (#r′ ∷ []) [] [] [] [] [] }
+    -- 12. 11 with another Add of t: t present.
+    ∷ record { updates = (a ∷ r′ ∷ c ∷ []); gives = expect (#c ∷ #a ∷ #r′ ∷ []) (#c ∷ #r′ ∷ []) [] [] [] (t ∷ []) [] }
+    -- 13. Insert p at the beginning, q there after p: list q, p.
+    ∷ record { updates = (p ∷ q ∷ []); gives = expect (#q ∷ #p ∷ []) (#q ∷ []) [] [] [] [] (Q ∷ P ∷ []) }
+    -- 14. p, q two roots at the beginning, id p under id q: list q, p.
+    ∷ record { updates = (p ∷ q′ ∷ []); gives = expect (#p ∷ #q′ ∷ []) (#p ∷ #q′ ∷ []) [] [] [] [] (Q ∷ P ∷ []) }
+    -- 15. p, r anchored at p, p deleted: list r.
+    ∷ record { updates = (p ∷ i ∷ x ∷ []); gives = expect (#p ∷ #i ∷ #x ∷ []) (#i ∷ #x ∷ []) [] [] [] [] (R ∷ []) }
+    -- 16. Remove with m = 0: held.
+    ∷ record { updates = (m ∷ []); gives = expect (#m ∷ []) (#m ∷ []) [] [] [] [] [] }
+    ∷ []
+
+-- what the sixteen do not reach
+unfoldable pub further : List Small
+further =
+    -- a cycle of two: both wait
+    record { updates = (f ∷ g ∷ []); gives = expect [] [] (#f ∷ #g ∷ []) [] [] [] [] }
+    -- `waits`: author 1 has a held and a waiting update, and no mark
+    ∷ record { updates = (a ∷ w ∷ []); gives = expect (#a ∷ []) (#a ∷ []) (#w ∷ []) [] [] (t ∷ []) [] }
+    -- an Insert whose id is zero: nothing hangs under it, and the walk ends
+    ∷ record { updates = (z ∷ y ∷ []); gives = expect (beginning ∷ #y ∷ []) (#y ∷ []) [] [] [] [] (Y ∷ Z ∷ []) }
+    -- an Insert under a deleted Insert stays; deleting twice is valid
+    ∷ record { updates = (p ∷ x ∷ i′ ∷ x′ ∷ []); gives = expect (#p ∷ #x ∷ #i′ ∷ #x′ ∷ []) (#i′ ∷ #x′ ∷ []) [] [] [] [] (R ∷ []) }
+    -- all that hangs under an entry comes before its next sibling
+    ∷ record { updates = (p ∷ k ∷ q′ ∷ i ∷ []); gives = expect (#p ∷ #q′ ∷ #i ∷ #k ∷ []) (#q′ ∷ #i ∷ #k ∷ []) [] [] [] [] (Y ∷ Q ∷ P ∷ R ∷ []) }
+    -- a Remove that names an Add of another tag is void
+    ∷ record { updates = (a ∷ v ∷ []); gives = expect (#a ∷ []) (#a ∷ []) [] (#v ∷ []) [] (t ∷ []) [] }
+    -- an Insert whose anchor is no ancestor is void
+    ∷ record { updates = (a ∷ p ∷ u ∷ []); gives = expect (#a ∷ #p ∷ []) (#a ∷ #p ∷ []) [] (#u ∷ []) (1 ∷ []) (t ∷ []) (P ∷ []) }
+    ∷ []
+
+pub small-ledgers : map (λ (c : Small). outcome (c .updates)) (sixteen ++ further) ≡ map (λ (c : Small). c .gives) (sixteen ++ further)
+unfolding sixteen further outcome expect read idsOf by nameIn encode encodeOperation same before member keep any all concatMap insert sort isHeld isWaiting isVoid isAdd isInsert heldIn voidIn addIn insertIn aboveIn ancestorsOf antichain validOp ruled judgeFine judgeKnown judgeBy judgeFrom judge round rounds start startAll settled heldRow covered heads forkedBy marks names removed tagsOf tags rank anchored siblings under walk entries deletes deleted valuesOf list a b a′ d e e′ r r′ c p q q′ i x m f g w z y i′ x′ v u k
+small-ledgers = refl

@@ -1,0 +1,100 @@
+-- Bytes written into a list.
+-- Assumes nothing.
+use mathlib.Core.Path.{_≡_, refl, _∙_}
+use mathlib.Core.List.{List, [], _∷_, _++_, append-assoc}
+use Prim.Native.Nat.{ℕ, zero, suc, _+_, _-_, _/_, _%_, _≤_, _<_}
+use native.Mathlib.Nat.{add-zero, add-suc}
+use native.Mathlib.Numerals.{add-one}
+use native.Mathlib.Omega.{arith}
+use lib.ListN.{length, getD, take, drop, set, replicate, take-append-drop, length-append, length-set}
+use lib.Seq.{take-suc, drop-cons, take-set-le, drop-set-lt, set-at, take-at, length-take-le, getD-set-same}
+use Rattle.sha256.specs.Fips180.{bigEndian, bytesOf, SHA-256}
+
+-- d with xs in the place of the k bytes from `at` on
+abbrev pub splice : List ℕ → ℕ → ℕ → List ℕ → List ℕ
+splice d at k xs = take at d ++ (xs ++ drop (at + k) d)
+
+pub length-bigEndian : (k n : ℕ) → length (bigEndian k n) ≡ k
+unfolding bigEndian
+length-bigEndian zero n = refl
+length-bigEndian (suc k) n = rw (length-append, length-bigEndian k (n / 256), add-one)
+
+drop-set-same : (d : List ℕ) (i v : ℕ) → i < length d → drop i (set d i v) ≡ v ∷ drop (suc i) d
+drop-set-same d i v h =
+    let l : i < length (set d i v) = simp length-set h in
+    rw (drop-cons (set d i v) i 0 l, getD-set-same d i v 0 h, drop-set-lt (suc i) d i v (omega arith))
+
+splice-suc
+    : (d : List ℕ) (at j y : ℕ)
+    → at + suc j ≤ length d
+    → splice (set d (at + j) (y % 256)) at j (bigEndian j (y / 256)) ≡ splice d at (suc j) (bigEndian (suc j) y)
+unfolding bigEndian
+splice-suc d at j y h =
+    rw (
+      take-set-le at d (at + j) (y % 256) (omega arith),
+      drop-set-same d (at + j) (y % 256) (omega arith),
+      append-assoc (bigEndian j (y / 256)) (y % 256 ∷ []) (drop (at + suc j) d),
+      add-suc at j,
+    )
+
+-- with the last of the j bytes written, j - 1 are left to be written
+pub splice-one
+    : (d : List ℕ) (at j y : ℕ)
+    → 0 < j
+    → at + j ≤ length d
+    → splice (set d (at + (j - 1)) (y % 256)) at (j - 1) (bigEndian (j - 1) (y / 256)) ≡ splice d at j (bigEndian j y)
+splice-one d at zero y p h = absurd (omega arith)
+splice-one d at (suc j) y p h = let e : suc j - 1 ≡ j = omega arith in rw e (splice-suc d at j y h)
+
+pub splice-none : (d : List ℕ) (at y : ℕ) → splice d at 0 (bigEndian 0 y) ≡ d
+unfolding bigEndian
+splice-none d at y = rw (add-zero, take-append-drop)
+
+-- the bytes up to the end of those written
+pub take-splice
+    : (d xs : List ℕ) (at k : ℕ) → length xs ≡ k → at ≤ length d → take (at + k) (splice d at k xs) ≡ take at d ++ xs
+take-splice d xs at k h l =
+    rw (← append-assoc (take at d) xs (drop (at + k) d))
+    (take-at (take at d ++ xs) (drop (at + k) d) (at + k)
+    (rw (length-append, length-take-le at d l, h)))
+
+-- one more byte copied to the front
+pub copied
+    : (d s : List ℕ) (i : ℕ)
+    → i < length s
+    → i < length d
+    → set (take i s ++ drop i d) i (getD s i 0) ≡ take (i + 1) s ++ drop (i + 1) d
+copied d s i h l =
+    rw (
+      add-one,
+      drop-cons d i 0 l,
+      set-at (take i s) (getD d i 0) (drop (suc i) d) (getD s i 0) i (length-take-le i s (omega arith)),
+      take-suc s i 0 h,
+      append-assoc (take i s) (getD s i 0 ∷ []) (drop (suc i) d),
+    )
+
+-- d has room for the eight words of a digest, and its first n bytes are p
+pub record Front (n : ℕ) (p d : List ℕ) : Type 0 where
+  pub size : length d ≡ 32
+  pub front : take n d ≡ p
+
+pub blank : Front 0 [] (replicate 32 0)
+blank = record { size = refl; front = refl }
+
+-- one more word written
+pub written
+    : {p d d′ : List ℕ} (at x : ℕ)
+    → Front at p d
+    → at ≤ 32
+    → d′ ≡ splice d at 4 (bigEndian 4 x)
+    → length d′ ≡ length d
+    → Front (at + 4) (p ++ bigEndian 4 x) d′
+written {p} {d} {d′} at x f h e k =
+    record {
+      size = k ∙ f .size;
+      front = rw (e, take-splice d (bigEndian 4 x) at 4 (length-bigEndian 4 x) (omega arith), f .front);
+    }
+
+pub length-digest : (m : List ℕ) → length (SHA-256 m) ≡ 32
+unfolding SHA-256 bytesOf
+length-digest m = simp (length-append, length-bigEndian)

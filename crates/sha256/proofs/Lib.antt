@@ -1,0 +1,4 @@
+pub mod Steps
+pub mod Schedule
+pub mod Bytes
+pub mod Padding

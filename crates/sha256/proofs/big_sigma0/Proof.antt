@@ -1,0 +1,13 @@
+-- `sha256::big_sigma0` meets its contract: the definition, at what the rotations ensure.
+-- Assumes nothing.
+use borrow.Author.Needs.{needs}
+use Rattle.sha256.specs.Fips180.{Σ₀}
+use Rattle.sha256.proofs.big_sigma0.Statement.{statement}
+use Rattle.sha256.proofs.big_sigma0.Tie as tie
+
+returns : tie.Need-returns
+unfolding Σ₀
+returns c = cc
+
+pub big-sigma0-spec : {M : Type 1} → statement M
+big-sigma0-spec = tie.close (tie.spec (λ c κs. search needs) (λ c κs. search needs) (λ c κs. search needs) returns)

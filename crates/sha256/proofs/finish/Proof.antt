@@ -1,0 +1,52 @@
+-- `sha256::finish` meets its contract: one or two blocks more.
+-- Assumes nothing.
+use mathlib.Core.Path.{sym, _∙_}
+use borrow.Author.Needs.{needs}
+use Rattle.sha256.proofs.Padding.{else-two-blocks, last-one, last-two}
+use Rattle.sha256.proofs.finish.Statement.{statement}
+use Rattle.sha256.proofs.finish.Tie as tie
+
+returns : tie.Need-returns
+returns c =
+    let l : tie.After-last-size = c .before in
+    let k : tie.After-compress = l .before in
+    let b : tie.After-last-blocks = k .before .before .before in
+    let a : tie.Start = b .before .before in
+    cc (
+      last-one (a .args .s .now) (b .last-blocks .result) (b .last-blocks .ensures .0) (b .last-blocks .ensures .1)
+          (sym (l .last-size .ensures .0) ∙ c .if1 .taken),
+      k .compress .ensures,
+      a .pre .0,
+    )
+
+returns-2 : tie.Need-returns-2
+returns-2 c =
+    let t : tie.Else1 = c .before .before .before in
+    let l : tie.After-last-size = t .before in
+    let k : tie.After-compress = l .before in
+    let b : tie.After-last-blocks = k .before .before .before in
+    let a : tie.Start = b .before .before in
+    cc (
+      last-two (a .args .s .now) (b .last-blocks .result) (b .last-blocks .ensures .0) (b .last-blocks .ensures .1)
+          (else-two-blocks _ (λ e. t .if1 .left (l .last-size .ensures .0 ∙ e))),
+      c .compress2 .ensures,
+      k .compress .ensures,
+      a .pre .0,
+    )
+
+pub finish-spec : {M : Type 1} → statement M
+finish-spec =
+    tie.close
+    (tie.spec
+    (λ c κs. search needs)
+    (λ c. search needs)
+    (λ c. search needs)
+    (λ c. search needs)
+    (λ c κs. search needs)
+    (λ c κs. search needs)
+    returns
+    (λ c. search needs)
+    (λ c. search needs)
+    (λ c. search needs)
+    (λ c κs. search needs)
+    returns-2)

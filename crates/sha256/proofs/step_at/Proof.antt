@@ -1,0 +1,22 @@
+-- `sha256::step_at` meets its contract: one more step of the definition.
+-- Assumes nothing.
+use borrow.Author.Needs.{needs}
+use Rattle.sha256.proofs.Steps.{steps-one}
+use Rattle.sha256.proofs.step_at.Statement.{statement}
+use Rattle.sha256.proofs.step_at.Tie as tie
+
+returns : tie.Need-returns
+returns c H e =
+    let a : tie.Start = c .before .before .before in
+    cc (c .step .ensures, steps-one (a .args .t) (a .args .w .now) H, a .pre .1)
+
+pub step-at-spec : {M : Type 1} → statement M
+step-at-spec =
+    tie.close
+    (tie.spec
+    (λ c. search needs)
+    (λ c. search needs)
+    (λ c. search needs)
+    (λ c. search needs)
+    (λ c κs. search needs)
+    returns)
