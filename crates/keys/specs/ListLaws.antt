@@ -1,14 +1,20 @@
--- Further laws of lists: counts, lengths and distinct keys. Assumes nothing.
-use Prim.Native.Nat.{_*_, _+_, _<_, _≤_, suc, suc-le-suc, zero-le, ℕ}
+-- Further laws of lists: counts, lengths, distinct keys, first and greatest elements. Assumes nothing.
+use Prim.Native.Nat.{_*_, _+_, _<_, _≤_, suc, suc-le-suc, zero-le, ℕ, zero}
+use Rattle.keys.specs.Ascending.{Ascending, ascending-nil, ascending-cons}
+use Rattle.keys.specs.BoolLaws.{or-true→, and-true→}
 use Rattle.keys.specs.Distinct.{Distinct, distinct-cons, distinct-nil}
 use Rattle.keys.specs.Member.{_∈_, concatMap, keep}
-use Rattle.keys.specs.MemberLaws.{keep-false, keep-true, ∈-cases}
-use lib.ListN.{length, length-append}
-use mathlib.Core.Bool.{Bool, cond, false, true}
+use Rattle.keys.specs.MemberLaws.{keep-false, keep-true, ∈-cases, ∈-append-left, map-∈, reverse-∈}
+use Rattle.keys.specs.Order.{before}
+use Rattle.keys.specs.OrderLaws.{before-trans}
+use borrow.Author.Tests.{ltb-true, eqb-true}
+use lib.Dec.{ltb, eqb}
+use lib.ListN.{length, length-append, take, drop, take-append-drop}
+use mathlib.Core.Bool.{Bool, cond, false, true, _&&_}
 use mathlib.Core.List.{List, List·Memᴰ·head, List·Memᴰ·not-nil, List·Memᴰ·tail, [], _++_, _∷_, map, reverse, reverseAux}
 use mathlib.Core.Logic.{_⊎_, inl, inr, ⊎-elim}
-use mathlib.Core.Path.{_∙_, _≡_, ap, refl, subst, sym}
-use native.Mathlib.Nat.{le-of-eq, le-of-lt, mul-suc}
+use mathlib.Core.Path.{_∙_, _≡_, ap, refl, subst, sym, subst₂}
+use native.Mathlib.Nat.{le-of-eq, le-of-lt, mul-suc, not-suc-le-zero, le-of-suc-le-suc}
 use native.Mathlib.Omega.{arith}
 
 -- if each member gives P or Q, then all give P, or Q holds
@@ -90,3 +96,68 @@ module _ {A B : Type 0} where
           → length (concatMap f (cond b (x ∷ keep p xs) (keep p xs))) ≤ length (f x ++ concatMap f xs)
       step true h e e′ = omega arith
       step false h e e′ = omega arith
+
+-- of two keys in order the first numbers are in order
+pub before-first : (m n : ℕ) (xs ys : List ℕ) → before (m ∷ xs) (n ∷ ys) ≡ true → m ≤ n
+unfolding before
+before-first m n xs ys e =
+    ⊎-elim (λ (h : ltb m n ≡ true). le-of-lt (ltb-true m n h))
+    (λ (h : (eqb m n && before xs ys) ≡ true). le-of-eq (eqb-true m n (and-true→ (eqb m n) (before xs ys) h .0)))
+    (or-true→ (ltb m n) (eqb m n && before xs ys) e)
+
+module _ {A : Type 0} where
+  pub take-∈ : (n : ℕ) (xs : List A) {x : A} → x ∈ take n xs → x ∈ xs
+  take-∈ n xs {x} m = subst (λ (ys : List A). x ∈ ys) (take-append-drop n xs) (∈-append-left (drop n xs) m)
+
+  -- the members of a short front are taken
+  pub front-∈ : (n : ℕ) (xs ys : List A) {x : A} → length xs ≤ n → x ∈ xs → x ∈ take n (xs ++ ys)
+  front-∈ n [] ys h m = absurd (List·Memᴰ·not-nil m)
+  front-∈ zero (y ∷ xs) ys h m = absurd (not-suc-le-zero h)
+  front-∈ (suc n) (y ∷ xs) ys {x} h m =
+      ⊎-elim (λ (e : x ≡ y). List·Memᴰ·head e) (λ (k : x ∈ xs). List·Memᴰ·tail (front-∈ n xs ys (le-of-suc-le-suc h) k)) (∈-cases m)
+
+  -- some are taken of a list with a member
+  pub some-taken : (n : ℕ) {xs : List A} {x : A} → x ∈ xs → (y : A) × (y ∈ take (suc n) xs)
+  some-taken n (List·Memᴰ·head {x = y} e) = (y, List·Memᴰ·head refl)
+  some-taken n (List·Memᴰ·tail {x = y} m) = (y, List·Memᴰ·head refl)
+
+module _ {A : Type 0} (key : A → List ℕ) where
+  -- t has the greatest key of xs
+  abbrev pub Greatest : A → List A → Type 0
+  Greatest t xs = (x : A) → x ∈ xs → (x ≡ t) ⊎ (before (key x) (key t) ≡ true)
+
+  greatest-cons : {t y : A} {ys : List A} (x : A) → before (key x) (key y) ≡ true → Greatest t (y ∷ ys) → Greatest t (x ∷ y ∷ ys)
+  greatest-cons {t} {y} {ys} x b g z m =
+      ⊎-elim
+      (λ (e : z ≡ x).
+      inr
+      (subst (λ (v : A). before (key v) (key t) ≡ true) (sym e)
+      (⊎-elim (λ (d : y ≡ t). subst (λ (v : A). before (key x) (key v) ≡ true) d b)
+      (λ (c : before (key y) (key t) ≡ true). before-trans (key x) (key y) (key t) b c) (g y (List·Memᴰ·head refl)))))
+      (λ (k : z ∈ y ∷ ys). g z k) (∈-cases m)
+
+  greatest-reverseAux : (x : A) (xs r : List A) → Ascending key (x ∷ xs)
+      → (t : A) × (ts : List A) × (reverseAux xs (x ∷ r) ≡ t ∷ ts) × Greatest t (x ∷ xs)
+  greatest-reverseAux x [] r a = (x, r, refl, λ y m. ⊎-elim inl (λ (k : y ∈ []). absurd (List·Memᴰ·not-nil k)) (∈-cases m))
+  greatest-reverseAux x (y ∷ ys) r (ascending-cons b a) =
+      let f = greatest-reverseAux y ys (x ∷ r) a in
+      (f .0, f .1, f .2, greatest-cons x (b y (List·Memᴰ·head refl)) (f .3))
+
+  -- an ascending list with a member, read backwards, begins with the member of greatest key
+  pub greatest-first : (xs : List A) {x : A} → Ascending key xs → x ∈ xs
+      → (t : A) × (ts : List A) × (reverse xs ≡ t ∷ ts) × (t ∈ xs) × Greatest t xs
+  greatest-first [] a m = absurd (List·Memᴰ·not-nil m)
+  greatest-first (x ∷ xs) a m =
+      let f = greatest-reverseAux x xs [] a in
+      (f .0, f .1, f .2, reverse-∈ (x ∷ xs) (subst (λ (ys : List A). f .0 ∈ ys) (sym (f .2)) (List·Memᴰ·head refl)), f .3)
+
+-- a map that keeps the keys keeps the order
+pub ascending-map : {A B : Type 0} {key : A → List ℕ} (key′ : B → List ℕ) (f : A → B) {xs : List A} → Ascending key xs
+    → ((x : A) → key′ (f x) ≡ key x) → Ascending key′ (map f xs)
+ascending-map key′ f ascending-nil e = ascending-nil
+ascending-map {key = key} key′ f (ascending-cons {x = x} {xs = xs} b a) e =
+    ascending-cons
+    (λ y m.
+    let q = map-∈ f xs m in
+    subst₂ (λ (i j : List ℕ). before i j ≡ true) (sym (e x)) (sym (e (q .0)) ∙ ap key′ (q .2)) (b (q .0) (q .1)))
+    (ascending-map key′ f a e)

@@ -16,7 +16,7 @@ use Rattle.rules.specs.LeastSets.{held-stored, void-stored}
 use Rattle.keys.specs.ListLaws.{all-or}
 
 -- every predecessor of u that is in the set is held
-abbrev PredsHeld : (Update → Id) → List Update → Update → Type 0
+abbrev pub PredsHeld : (Update → Id) → List Update → Update → Type 0
 PredsHeld ident S u = (v : Update) → v ∈ S → ident v ∈ u .preds → Held ident S v
 
 -- what is valid by the ancestors in S is valid by those in S′, if S′ has them
@@ -83,14 +83,21 @@ module _ (ident : Update → Id) (S S′ : List Update) (more : (u : Update) →
         valid = keep-valid ident S′ S u (λ x. ancestors-stay k (λ y n p b. held-ancestors-stay (hs y n p) b)) (u .op) (f .valid);
       }
 
+  -- an update of S′ that is fine in S, its predecessors held in both, is held
+  pub grow-ready : {u : Update} → u ∈ S′ → Known ident S u → PredsHeld ident S u → ((v : Update) → v ∈ S → ident v ∈ u .preds → Held ident S′ v)
+      → Fine ident S u → Held ident S′ u
+  grow-ready m k hs hs′ f = Held.held m (grow-known k) (λ v n p. hs′ v (pred-stays k n p) p) (grow-fine k hs f)
+
   pub grow-held : {u : Update} → Held ident S u → Held ident S′ u
-  grow-held {u} (Held.held m k hs f) =
-      Held.held (more u m) (grow-known k) (λ v n p. grow-held (hs v (pred-stays k n p) p)) (grow-fine k hs f)
+  grow-held {u} (Held.held m k hs f) = grow-ready (more u m) k hs (λ v n p. grow-held (hs v n p)) f
+
+  -- and one that is not fine in S is void
+  pub grow-broken : {u : Update} → u ∈ S′ → Known ident S u → PredsHeld ident S u → (Fine ident S u → ⊥) → Void ident S′ u
+  grow-broken m k hs bad = Void.broken m (grow-known k) (λ v n p. grow-held (hs v (pred-stays k n p) p)) (λ f. bad (fine-before k hs f))
 
   pub grow-void : {u : Update} → Void ident S u → Void ident S′ u
   grow-void (Void.after {u = u} {v = v} m n p w) = Void.after (more u m) (more v n) p (grow-void w)
-  grow-void (Void.broken {u = u} m k hs bad) =
-      Void.broken (more u m) (grow-known k) (λ v n p. grow-held (hs v (pred-stays k n p) p)) (λ f. bad (fine-before k hs f))
+  grow-void (Void.broken {u = u} m k hs bad) = grow-broken (more u m) k hs bad
 
   pub grow-rank : {u : Update} {n : ℕ} → Held ident S u → Rank ident S u n → Rank ident S′ u n
   grow-rank h r =

@@ -15,3 +15,6 @@ pub mod ReadOffLaws
 pub mod TextLaws
 pub mod LengthLaws
 pub mod ReportLaws
+pub mod Writing
+pub mod ChoiceLaws
+pub mod WritingLaws

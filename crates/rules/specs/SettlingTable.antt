@@ -171,7 +171,7 @@ module _ {ident : Update → Id} {S : List Update} {T : Table} (sound : SoundTab
   right-as {r} v m e d = subst₂ (λ (w : Verdict) (x : Update). Right ident S w x (r .above)) d e (sound .rows r m .right)
 
   module _ {u : Update} (ready : Ready T u) where
-    preds-known : Known ident S u
+    pub preds-known : Known ident S u
     preds-known =
         record {
           found = λ i m. let r = ready .held-row i m in let s = sound .rows (r .0) (r .1) in (r .0 .update, s .of-set, sym (s .has-id) ∙ r .2);
@@ -185,7 +185,7 @@ module _ {ident : Update → Id} {S : List Update} {T : Table} (sound : SoundTab
         let h = right-as held (r .1) (update-of (r .1) k (r .2)) (r .3) in
         (r .0, r .1, r .2, h .0, h .1)
 
-    preds-held : (v : Update) → v ∈ S → ident v ∈ u .preds → Held ident S v
+    pub preds-held : (v : Update) → v ∈ S → ident v ∈ u .preds → Held ident S v
     preds-held v k p = pred-row k p .3
 
     -- aboveIn, at a predecessor's id: an ancestor of the predecessor
@@ -297,7 +297,7 @@ module _ {ident : Update → Id} {S : List Update} {T : Table} (sound : SoundTab
     unfolding insertIn
     →insert a = row-ancestor isInsert (a .above) (a .has-id) (→isInsert (a .is-insert))
 
-    valid→ : (o : Operation) → validOp T (ancestorsOf T u) o ≡ true → Valid ident S u o
+    pub valid→ : (o : Operation) → validOp T (ancestorsOf T u) o ≡ true → Valid ident S u o
     unfolding validOp addIn
     valid→ (Add t) e = tt
     valid→ (Remove t named) e = λ i m.
@@ -309,7 +309,7 @@ module _ {ident : Update → Id} {S : List Update} {T : Table} (sound : SoundTab
         (or-true→ (same a beginning) (member a (ancestorsOf T u) && insertIn T a) e)
     valid→ (Delete i) e = insert→ i e
 
-    →valid : (o : Operation) → Valid ident S u o → validOp T (ancestorsOf T u) o ≡ true
+    pub →valid : (o : Operation) → Valid ident S u o → validOp T (ancestorsOf T u) o ≡ true
     unfolding validOp addIn
     →valid (Add t) v = refl
     →valid (Remove t named) v =

@@ -1,0 +1,1 @@
+// Two copies of the ledger side by side.

@@ -1,0 +1,68 @@
+-- What an offer and a question answer, from what the calls within them answered.
+-- Assumes nothing.
+use mathlib.Core.Path.{_≡_, refl, sym, ap, subst, _∙_}
+use Prim.Native.Nat.{ℕ, _-_, _*_, _<_}
+use mathlib.Core.List.{List}
+use mathlib.Core.Option.{none, some}
+use mathlib.Core.Bool.{Bool, true, false}
+use Rattle.sha256.specs.Fips180.{SHA-256}
+use Rattle.format.specs.Update.{Id, maxLength}
+use Rattle.format.specs.Decode.{decode}
+use Rattle.format.specs.Reading.{decodedOf, valueOf}
+use Rattle.format.specs.declared.Malformed.{Malformed}
+use Rattle.format.specs.declared.Parsed.{Parsed}
+use Rattle.format.specs.declared.Reading.{Reading}
+use Rattle.format.specs.declared.Reading.the-variants.{Update as Accepted, Refused as NotRead}
+use Rattle.state.specs.declared.Ledger.{Ledger}
+use Rattle.state.specs.declared.Place.{Place}
+use Rattle.state.specs.State.{places, placeAt, written, findIn, isHeld, isVoid, countOf}
+use Rattle.state.specs.Row1.{sound}
+use Rattle.ledger.specs.declared.Refusal.the-variants.{Unfit, Malformed as Bad, Full}
+use Rattle.ledger.specs.declared.Answer.the-variants.{Taken, Known, Refused}
+use Rattle.ledger.specs.declared.Offered.{Offered}
+use Rattle.ledger.specs.declared.Asked.the-variants.{Is, Unknown, Refused as NotAsked}
+use Rattle.ledger.specs.Offer.{left, Took, Formed, Offering, unfit, malformed, known, full, taken, askedOf}
+
+module _ (l : Ledger) (s b : List ℕ) where
+  pub offered-unfit : sound l s ≡ false → {o : Offered} → o ≡ left l (Refused Unfit) → Offering l s b o s
+  offered-unfit h e = rw e (unfit h)
+
+  -- by what reading the bytes answered
+  module _ (fits : sound l s ≡ true) (r : Reading) (read : decodedOf b r ≡ decode b) where
+    pub offered-malformed : (m : Malformed) → r ≡ NotRead m → {o : Offered} → o ≡ left l (Refused (Bad m)) → Offering l s b o s
+    offered-malformed m h e = rw e (malformed m fits (sym read ∙ ap (decodedOf b) h))
+
+    pub read-formed : (p : Parsed) → r ≡ Accepted p → Formed l s b
+    read-formed p h = record { is-sound = fits; value = valueOf b p; decodes = sym read ∙ ap (decodedOf b) h }
+
+  -- by where the id was found
+  module _ (f : Formed l s b) (i : Id) (hashed : i ≡ SHA-256 b) where
+    pub offered-known : (k : ℕ) → findIn l i ≡ some k → {p : Place} → p ≡ placeAt l k → {o : Offered} → o ≡ left l (Known (p .standing))
+        → Offering l s b o s
+    offered-known k h at e = rw (e, at) (known (f .value) k (f .is-sound) (f .decodes) (ap (findIn l) (sym hashed) ∙ h))
+
+    pub offered-full : findIn l i ≡ none → l .used ≡ places → {o : Offered} → o ≡ left l (Refused Full) → Offering l s b o s
+    offered-full h n e = rw e (full (f .value) (f .is-sound) (f .decodes) (ap (findIn l) (sym hashed) ∙ h) n)
+
+    -- a place is taken: the new place, and the counts after and before
+    pub offered-taken : findIn l i ≡ none → l .used < places → {r : Ledger} {s′ : List ℕ} → Took l s b (f .value) r s′
+        → s′ ≡ written s (maxLength * l .used) b → {p : Place} → p ≡ placeAt r (l .used) → {h₁ h₀ v₁ v₀ : ℕ}
+        → h₁ ≡ countOf isHeld r → h₀ ≡ countOf isHeld l → v₁ ≡ countOf isVoid r → v₀ ≡ countOf isVoid l
+        → Offering l s b (record { answer = Taken (p .standing) (h₁ - h₀) (v₁ - v₀); ledger = r }) s′
+    offered-taken h n {r} t w at e₁ e₀ d₁ d₀ =
+        rw (at, e₁, e₀, d₁, d₀, w)
+        (taken (f .value) r (f .is-sound) (f .decodes) (ap (findIn l) (sym hashed) ∙ h) n (subst (Took l s b (f .value) r) w t))
+
+-- the standing of an id
+module _ (l : Ledger) (s : List ℕ) (i : Id) where
+  pub asked-unfit : sound l s ≡ false → NotAsked Unfit ≡ askedOf l s i
+  unfolding askedOf
+  asked-unfit h = rw h
+
+  pub asked-at : sound l s ≡ true → (k : ℕ) → findIn l i ≡ some k → {p : Place} → p ≡ placeAt l k → Is (p .standing) ≡ askedOf l s i
+  unfolding askedOf
+  asked-at h k f at = rw (h, f, at)
+
+  pub asked-nowhere : sound l s ≡ true → findIn l i ≡ none → Unknown ≡ askedOf l s i
+  unfolding askedOf
+  asked-nowhere h f = rw (h, f)

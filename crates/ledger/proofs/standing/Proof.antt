@@ -1,0 +1,50 @@
+-- `standing` meets its contract, by row 1 and by where the id was found.
+-- Assumes nothing.
+use mathlib.Core.Path.{sym, _∙_}
+use native.Mathlib.Omega.{arith}
+use borrow.Author.Needs.{needs}
+use borrow.Author.Tests.{not-true, not-false}
+use denote.Ref.{now}
+use Rattle.state.specs.State.{findIn}
+use Rattle.state.specs.Row1Laws.{sound→}
+use Rattle.state.proofs.Judging.{found-at, found-nowhere, found-inside}
+use Rattle.ledger.proofs.OfferLaws.{asked-unfit, asked-at, asked-nowhere}
+use Rattle.ledger.proofs.standing.Statement.{statement}
+use Rattle.ledger.proofs.standing.Tie as tie
+
+pub standing-spec : {M : Type 1} → statement M
+standing-spec =
+    tie.close
+    (tie.spec
+    (λ c κs. search needs)
+    (λ c.
+    let a = c .before .before .before .args in
+    asked-unfit (a .ledger) (now (a .store)) (a .t3) (sym (c .before .sound .ensures) ∙ not-true _ (c .if1 .taken)))
+    (λ c. search needs)
+    (λ c κs.
+    let d = c .before .before in
+    let a = d .before .before .args in
+    sound→ (a .ledger) (now (a .store)) (sym (d .sound .ensures) ∙ not-false _ (c .before .if1 .left)) .few)
+    (λ c. search needs)
+    (λ c κs.
+    let f = c .before .before .before in
+    let d = f .before .before .before in
+    let a = d .before .before .args in
+    let h = sound→ (a .ledger) (now (a .store)) (sym (d .sound .ensures) ∙ not-false _ (f .before .before .if1 .left)) in
+    let e = found-at (findIn (a .ledger) (a .t3)) _ (sym (f .find .ensures) ∙ c .before .k .given .1) in
+    omega (arith, found-inside (a .ledger) (a .t3) _ e, h .few))
+    (λ c. search needs)
+    (λ c.
+    let k = c .before .before in
+    let f = k .before .before in
+    let d = f .before .before .before in
+    let a = d .before .before .args in
+    asked-at (a .ledger) (now (a .store)) (a .t3) (sym (d .sound .ensures) ∙ not-false _ (f .before .before .if1 .left)) _
+    (found-at (findIn (a .ledger) (a .t3)) _ (sym (f .find .ensures) ∙ k .k .given .1))
+    (c .place .ensures))
+    (λ c.
+    let f = c .before .before in
+    let d = f .before .before .before in
+    let a = d .before .before .args in
+    asked-nowhere (a .ledger) (now (a .store)) (a .t3) (sym (d .sound .ensures) ∙ not-false _ (f .before .before .if1 .left))
+    (found-nowhere (findIn (a .ledger) (a .t3)) (sym (f .find .ensures) ∙ c .enum-told .given .1))))

@@ -1,0 +1,163 @@
+-- Demand 2, its first half: any list of offers to a fresh ledger, refused and repeated ones between, with any first contents of the store.
+-- Assumes nothing.
+use mathlib.Core.Path.{_≡_, refl, sym, ap, subst, _∙_}
+use Prim.Native.Nat.{ℕ, _<_}
+use native.Mathlib.Nat.{le-of-eq}
+use borrow.Author.Tests.{le-ltb, lt-ltb}
+use mathlib.Core.Option.{Option, none, some}
+use mathlib.Core.List.{List, [], _∷_, _++_, map}
+use mathlib.Core.Bool.{true, false, cond}
+use lib.ListN.{length}
+use lib.Dec.{ltb}
+use Rattle.keys.specs.Member.{_∈_, member}
+use Rattle.keys.specs.BoolLaws.{true-false}
+use Rattle.keys.specs.MemberLaws.{∈-cast, ∈-map, map-∈, ∈→member, member-false}
+use Rattle.sha256.specs.Fips180.{SHA-256}
+use Rattle.format.specs.Update.{Id, Update}
+use Rattle.format.specs.Decode.{Decoded, refused, update, decode}
+use Rattle.format.specs.Laws.{decode-sound}
+use Rattle.rules.specs.Standing.{Held, Void, Waiting}
+use Rattle.rules.specs.LeastSets.{held-stored, void-stored, held-not-void}
+use Rattle.state.specs.declared.Ledger.{Ledger}
+use Rattle.state.specs.declared.Standing.the-variants.{Held as IsHeld, Waiting as IsWaiting, Void as IsVoid}
+use Rattle.state.specs.declared.Standing.{Standing}
+use Rattle.state.specs.State.{places, storeLength, placeAt, findIn}
+use Rattle.state.specs.Stands.{ident, updateAt, Stands}
+use Rattle.state.specs.FindLaws.{stored-at, place-of, find-right, find-all, find-none}
+use Rattle.state.specs.TakeLaws.{stands-sound, fresh-stands}
+use Rattle.ledger.specs.declared.Offered.{Offered}
+use Rattle.ledger.specs.declared.Asked.the-variants.{Is, Unknown, Refused}
+use Rattle.ledger.specs.Offer.{Offering, unfit, malformed, known, full, taken, askedAt, askedOf, freshLedger}
+
+-- "Each offer is handed the ledger and store that the one before left": offers of the byte strings, one after the other, each with what the entry
+-- `offer` ensures
+pub data Calls : Ledger → List ℕ → List (List ℕ) → Ledger → List ℕ → Type 0 where
+  done : {l : Ledger} {s : List ℕ} → Calls l s [] l s
+  call : {l l′ : Ledger} {s s₁ s′ b : List ℕ} {bs : List (List ℕ)} {r : Offered}
+      → Offering l s b r s₁ → Calls (r .ledger) s₁ bs l′ s′ → Calls l s (b ∷ bs) l′ s′
+
+-- the stored updates after an offer: a well-formed one with a new id is stored while a place is free ("Two updates with one id count as the same: the
+-- first is kept.")
+unfoldable pub acceptDecoded : List Update → Decoded → List Update
+acceptDecoded us (refused n) = us
+acceptDecoded us (update u) = cond (member (ident u) (map ident us)) us (cond (ltb (length us) places) (us ++ (u ∷ [])) us)
+
+unfoldable pub storedFrom : List Update → List (List ℕ) → List Update
+storedFrom us [] = us
+storedFrom us (b ∷ bs) = storedFrom (acceptDecoded us (decode b)) bs
+
+-- the first 64 distinct well-formed updates, by id, in the order offered
+abbrev pub stored : List (List ℕ) → List Update
+stored bs = storedFrom [] bs
+
+-- what a standing says of an update, and that the rules give an update only one
+abbrev Says : List Update → Standing → Update → Type 0
+Says us IsHeld u = Held ident us u
+Says us IsWaiting u = Waiting ident us u
+Says us IsVoid u = Void ident us u
+
+only-held : (us : List Update) (v : Standing) (u : Update) → Says us v u → Held ident us u → v ≡ IsHeld
+only-held us IsHeld u a h = refl
+only-held us IsWaiting u a h = absurd (a .not-held h)
+only-held us IsVoid u a h = absurd (held-not-void ident us h a)
+
+only-waiting : (us : List Update) (v : Standing) (u : Update) → Says us v u → Waiting ident us u → v ≡ IsWaiting
+only-waiting us IsHeld u a h = absurd (h .not-held a)
+only-waiting us IsWaiting u a h = refl
+only-waiting us IsVoid u a h = absurd (h .not-void a)
+
+only-void : (us : List Update) (v : Standing) (u : Update) → Says us v u → Void ident us u → v ≡ IsVoid
+only-void us IsHeld u a h = absurd (held-not-void ident us a h)
+only-void us IsWaiting u a h = absurd (a .not-void h)
+only-void us IsVoid u a h = refl
+
+module _ (l : Ledger) (s : List ℕ) (us : List Update) (stands : Stands l s us) (b : List ℕ) where
+  -- an update that the bytes decode to has the id SHA-256 of the bytes
+  decoded-id : {u : Update} → decode b ≡ update u → ident u ≡ SHA-256 b
+  unfolding ident
+  decoded-id {u} d = ap SHA-256 (decode-sound b u d .1)
+
+  -- an id that is found is known, one that is not is new
+  found-known : {u : Update} {k : ℕ} → decode b ≡ update u → findIn l (SHA-256 b) ≡ some k → member (ident u) (map ident us) ≡ true
+  found-known {u} {k} d f =
+      let r = find-right l s us (stands .holds) (SHA-256 b) k f in
+      ∈→member (∈-cast (decoded-id d ∙ sym (r .1)) (∈-map ident (stored-at us k (r .0))))
+
+  none-new : {u : Update} → decode b ≡ update u → findIn l (SHA-256 b) ≡ none → member (ident u) (map ident us) ≡ false
+  none-new {u} d f =
+      member-false (ident u) (map ident us)
+      (λ m. let r = map-∈ ident us m in find-none l s us (stands .holds) (SHA-256 b) f (r .0) (r .1) (r .2 ∙ decoded-id d))
+
+  accept-known : {u : Update} → decode b ≡ update u → member (ident u) (map ident us) ≡ true → acceptDecoded us (decode b) ≡ us
+  unfolding acceptDecoded
+  accept-known d m = rw (d, m)
+
+  accept-full : {u : Update} → decode b ≡ update u → member (ident u) (map ident us) ≡ false → l .used ≡ places → acceptDecoded us (decode b) ≡ us
+  unfolding acceptDecoded
+  accept-full d m e = rw (d, m, le-ltb (length us) places (le-of-eq (sym e ∙ stands .holds .number)))
+
+  accept-new : {u : Update} → decode b ≡ update u → member (ident u) (map ident us) ≡ false → l .used < places
+      → acceptDecoded us (decode b) ≡ us ++ (u ∷ [])
+  unfolding acceptDecoded
+  accept-new d m h = rw (d, m, lt-ltb (length us) places (subst (λ (n : ℕ). n < places) (stands .holds .number) h))
+
+  -- an offer leads from a ledger that stands to one that stands for what is then stored
+  pub offer-stands : {r : Offered} {s′ : List ℕ} → Offering l s b r s′ → Stands (r .ledger) s′ (acceptDecoded us (decode b))
+  unfolding acceptDecoded
+  offer-stands (unfit e) = absurd (true-false (stands-sound l s us stands) e)
+  offer-stands (malformed m e d) = rw d stands
+  offer-stands (known u k e d f) = rw (accept-known d (found-known d f)) stands
+  offer-stands (full u e d f n) = rw (accept-full d (none-new d f) n) stands
+  offer-stands (taken u r e d f n t) = rw (accept-new d (none-new d f) n) (t .settles us stands)
+
+-- from a ledger that stands, offers lead to one that stands for what is stored
+pub calls-stand : {l l′ : Ledger} {s s′ : List ℕ} {bs : List (List ℕ)} (us : List Update) → Stands l s us → Calls l s bs l′ s′ → Stands l′ s′ (storedFrom us bs)
+unfolding storedFrom
+calls-stand us h done = h
+calls-stand us h (call {l = l} {s = s} {b = b} o c) = calls-stand (acceptDecoded us (decode b)) (offer-stands l s us h b o) c
+
+-- Demand 2 of offers: after any offers to a fresh ledger, with any store of the length, the ledger stands for the updates stored: their set, and each
+-- held, waiting or void exactly as the rules say for that set
+pub offers-stand : {l′ : Ledger} {s s′ : List ℕ} {bs : List (List ℕ)} → length s ≡ storeLength → Calls freshLedger s bs l′ s′ → Stands l′ s′ (stored bs)
+unfolding freshLedger
+offers-stand {s = s} h c = calls-stand [] (fresh-stands freshLedger s refl refl h) c
+
+-- and `standing` answers so for every id
+pub record AnswersFor (l : Ledger) (s : List ℕ) (us : List Update) : Type 0 where
+  pub held-asked : (u : Update) → Held ident us u → askedOf l s (ident u) ≡ Is IsHeld
+  pub waiting-asked : (u : Update) → Waiting ident us u → askedOf l s (ident u) ≡ Is IsWaiting
+  pub void-asked : (u : Update) → Void ident us u → askedOf l s (ident u) ≡ Is IsVoid
+  pub unknown-asked : (i : Id) → ((u : Update) → u ∈ us → ident u ≡ i → ⊥) → askedOf l s i ≡ Unknown
+
+module _ (l : Ledger) (s : List ℕ) (us : List Update) (stands : Stands l s us) where
+  asked-found : (i : Id) (o : Option ℕ) → findIn l i ≡ o → askedOf l s i ≡ askedAt l o
+  unfolding askedOf
+  asked-found i o e = rw (stands-sound l s us stands, e)
+
+  -- the place of an update says what the rules say
+  says : (v : Standing) (k : ℕ) → k < length us → placeAt l k .standing ≡ v → Says us v (updateAt us k)
+  says IsHeld k h e = stands .truthful .held-right k h e
+  says IsWaiting k h e = stands .settled .waiting-right k h e
+  says IsVoid k h e = stands .truthful .void-right k h e
+
+  asked-says : (u : Update) → u ∈ us → (v : Standing) × Says us v u × (askedOf l s (ident u) ≡ Is v)
+  asked-says u m =
+      let r = place-of us m in
+      let v = placeAt l (r .0) .standing in
+      let f : findIn l (ident u) ≡ some (r .0) = ap (λ (w : Update). findIn l (ident w)) (sym (r .2)) ∙ find-all l s us (stands .holds) (r .0) (r .1) in
+      (v, subst (Says us v) (r .2) (says v (r .0) (r .1) refl), asked-found (ident u) (some (r .0)) f)
+
+  pub stands-answers : AnswersFor l s us
+  stands-answers =
+      record {
+        held-asked = λ u h. let r = asked-says u (held-stored ident us h) in r .2 ∙ ap Is (only-held us (r .0) u (r .1) h);
+        waiting-asked = λ u h. let r = asked-says u (h .stored) in r .2 ∙ ap Is (only-waiting us (r .0) u (r .1) h);
+        void-asked = λ u h. let r = asked-says u (void-stored ident us h) in r .2 ∙ ap Is (only-void us (r .0) u (r .1) h);
+        unknown-asked = λ i new. asked-found i none (unfound i new (findIn l i) refl);
+      }
+    where
+      unfound : (i : Id) → ((u : Update) → u ∈ us → ident u ≡ i → ⊥) → (o : Option ℕ) → findIn l i ≡ o → findIn l i ≡ none
+      unfound i new none e = e
+      unfound i new (some k) e =
+          let r = find-right l s us (stands .holds) i k e in
+          absurd (new (updateAt us k) (stored-at us k (r .0)) (r .1))

@@ -1,0 +1,4 @@
+pub mod Words
+pub mod Offer
+pub mod Calls
+pub mod Report

@@ -1,0 +1,105 @@
+// The hours ledger: the public library. Copies of the ledger take updates in any order; each stored update is held, waiting or void by its ancestors
+// alone. The bookkeeping goes in by value and the new one comes back; the updates' bytes lie in a store that the caller lends.
+ghost use mathlib.Core.Path.{_≡_};
+ghost use Rattle.ledger.specs.Offer.{Offering, askedOf, freshLedger};
+pub use state::Ledger;
+pub use state::Standing;
+
+mod taking;
+
+use format::Malformed;
+use format::Reading;
+use state::Found;
+use state::find::find;
+use state::row1::sound;
+
+// Why a call is refused. `refusalNumber` of specs/Words.antt has document 01's number of each.
+pub enum Refusal {
+    // Row 1: the ledger and the store do not fit each other.
+    Unfit,
+    // Rows 2 to 9: the bytes are no update.
+    Malformed(Malformed),
+    // Row 10: all places are taken.
+    Full,
+    // Row 11: the output buffer is shorter than the result.
+    Short,
+}
+
+// What an offer answers.
+pub enum Answer {
+    // The update took a place: how it stands, how many updates are newly held, and how many newly void.
+    Taken {
+        standing: Standing,
+        held: usize,
+        void: usize,
+    },
+    // The update was stored before, and stands so.
+    Known(Standing),
+    Refused(Refusal),
+}
+
+// An answer beside the ledger that the next call is handed.
+pub struct Offered {
+    pub answer: Answer,
+    pub ledger: Ledger,
+}
+
+// How an id stands.
+pub enum Asked {
+    Is(Standing),
+    Unknown,
+    Refused(Refusal),
+}
+
+// A ledger with no place taken.
+pub fn fresh() -> Ledger
+    ensures { λ r. ⌜ r ≡ freshLedger ⌝ }
+{
+    let free = state::Place {
+        id: [0u8; 32],
+        length: 0,
+        ancestors: 0,
+        standing: Standing::Held,
+    };
+    Ledger {
+        used: 0,
+        places: [free; state::PLACES],
+    }
+}
+
+// Offers bytes of any length. A well-formed update with a new id takes the next place, and all stored updates are settled. Every other offer leaves the
+// ledger and the store as they were.
+pub fn offer(ledger: Ledger, store: &mut [u8], update: &[u8]) -> Offered
+    ensures { λ r. ⌜ Offering ledger (now (store .entry)) (now (update .entry)) r (now (store .exit)) ⌝ }
+{
+    if !sound(ledger, store) {
+        return taking::left(ledger, Answer::Refused(Refusal::Unfit));
+    }
+    match format::read(update) {
+        Reading::Refused(m) => taking::left(ledger, Answer::Refused(Refusal::Malformed(m))),
+        Reading::Update(_) => taking::offer_formed(ledger, store, update),
+    }
+}
+
+// The standing of an id.
+pub fn standing(ledger: Ledger, store: &[u8], id: [u8; 32]) -> Asked
+    ensures { λ r. ⌜ r ≡ askedOf ledger (now (store .entry)) id ⌝ }
+{
+    if !sound(ledger, store) {
+        return Asked::Refused(Refusal::Unfit);
+    }
+    match find(ledger, &id) {
+        Found::At(k) => {
+            let p = ledger.place(k);
+            let standing = p.standing;
+            Asked::Is(standing)
+        }
+        Found::Nowhere => Asked::Unknown,
+    }
+}
+
+// What a report answers: how many bytes of the output buffer it takes.
+pub enum Reported {
+    Written(usize),
+    Refused(Refusal),
+}

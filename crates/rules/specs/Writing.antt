@@ -1,0 +1,56 @@
+-- Document 01, "Writing": the predecessors that a new update names, and the update written.
+-- Assumes nothing.
+use Prim.Native.Nat.{ℕ}
+use mathlib.Core.List.{List, [], _∷_, _++_, map, reverse}
+use mathlib.Core.Bool.{Bool, cond, not, _&&_, _||_}
+use lib.ListN.{length, take}
+use lib.Dec.{leb, eqb}
+use Rattle.keys.specs.Order.{same}
+use Rattle.keys.specs.Member.{member, keep}
+use Rattle.keys.specs.Sort.{sort}
+use Rattle.format.specs.Update.{Id, maxPredecessors, Operation, Update}
+use Rattle.rules.specs.Settle.{Row, Table, heldRow, heads, rank, ancestorsOf, validOp, settled}
+
+-- the held updates of an author
+unfoldable pub heldBy : Table → ℕ → Table
+heldBy T a = keep (λ (r : Row). heldRow r && eqb (r .update .author) a) T
+
+-- "that author's held update of highest rank (on a tie, larger id)": the first of these, if there is one
+unfoldable pub ranked : Table → Table
+ranked rs = reverse (sort (λ (r : Row). rank r ∷ r .id) rs)
+
+-- the head h is at or above the update of the row t
+unfoldable pub atOrAbove : Row → Row → Bool
+atOrAbove t h = same (h .id) (t .id) || member (t .id) (h .above)
+
+-- "first .. the lowest head at or above" it: the first of the ascending heads that is
+unfoldable pub firstHeads : Table → Table → Table
+firstHeads hs [] = []
+firstHeads hs (t ∷ ts) = take 1 (keep (atOrAbove t) hs)
+
+-- "then the lowest others"
+unfoldable pub others : Table → Table → Table
+others hs first = keep (λ (h : Row). not (member (h .id) (map (λ (r : Row). r .id) first))) hs
+
+-- "The new update names the heads. Above eight heads it names eight: first, if its author has held updates, the lowest head at or above that author's held
+-- update of highest rank (on a tie, larger id), then the lowest others." In an update predecessors stand ascending.
+unfoldable pub chosenFrom : Table → Table → Table
+chosenFrom hs first =
+    cond (leb (length hs) maxPredecessors) hs (sort (λ (r : Row). r .id) (take maxPredecessors (first ++ others hs first)))
+
+unfoldable pub chosen : Table → ℕ → Table
+chosen T a = chosenFrom (heads T) (firstHeads (heads T) (ranked (heldBy T a)))
+
+unfoldable pub written : Table → ℕ → Operation → Update
+written T a o = record { author = a; preds = map (λ (r : Row). r .id) (chosen T a); op = o }
+
+-- the operation would not be void under the predecessors named
+unfoldable pub writable : Table → ℕ → Operation → Bool
+writable T a o = validOp T (ancestorsOf T (written T a o)) o
+
+-- the update that an author writes with an operation, from a set alone
+unfoldable pub writtenOf : (Update → Id) → List Update → ℕ → Operation → Update
+writtenOf ident S a o = written (settled ident S) a o
+
+unfoldable pub writableOf : (Update → Id) → List Update → ℕ → Operation → Bool
+writableOf ident S a o = writable (settled ident S) a o

@@ -1,0 +1,183 @@
+-- A written update is laid out, is held where it is offered next, and forms no fork with the held updates of an author who is not marked.
+-- Assumes nothing.
+use mathlib.Core.Path.{_≡_, refl, sym, _∙_, ap, subst}
+use mathlib.Core.Logic.{⊎-elim}
+use Prim.Native.Nat.{ℕ, zero, suc, _≤_}
+use mathlib.Core.List.{List, [], _∷_, _++_, List·Memᴰ·head, List·Memᴰ·not-nil}
+use mathlib.Core.Bool.{true, false}
+use lib.ListN.{length, length-map}
+use Rattle.keys.specs.Member.{_∈_}
+use Rattle.keys.specs.BoolLaws.{true-false}
+use Rattle.keys.specs.MemberLaws.{∈-singleton, ∈-cast, ∈-append-right, ∈-map, map-∈}
+use Rattle.keys.specs.Distinct.{Distinct, distinct-nil, distinct-cons}
+use Rattle.keys.specs.DistinctLaws.{distinct-eq, distinct-append}
+use Rattle.keys.specs.Ascending.{Ascending}
+use Rattle.keys.specs.SortLaws.{Ascending→ascending, sort-ascending}
+use Rattle.format.specs.Update.{Id, idLength, maxAuthor, maxPredecessors, Operation, Add, Update, Bounded, BoundedOperation}
+use Rattle.rules.specs.Standing.{Ancestor, Known, Fine, Held, Void}
+use Rattle.rules.specs.ReadOff.{Head, Marked}
+use Rattle.rules.specs.Settle.{Verdict, held, waiting, void, Row, Table, judge, round, rounds, start, startAll, settled, heads, validOp}
+use Rattle.rules.specs.Decides.{Decides}
+use Rattle.keys.specs.ListLaws.{ascending-map}
+use Rattle.rules.specs.LeastSets.{held-stored, held-not-void}
+use Rattle.rules.specs.Growth.{added, added-more, PredsHeld, grow-ready, grow-broken, held-kept}
+use Rattle.rules.specs.SettlingTable.{Right, SoundTable, Ready, judge-id, preds-known, preds-held, valid→, →valid}
+use Rattle.rules.specs.Settling.{settled-decides}
+use Rattle.rules.specs.TableLaws.{row-eq, row-id, held-row, above→ancestor}
+use Rattle.rules.specs.ReadOffLaws.{head-right, head-all}
+use Rattle.rules.specs.ChoiceLaws.{rowId, chosen-all, chosen-few, chosen-ascending, chosen-head, chosen-some, head-row, some-head, named}
+use Rattle.rules.specs.Writing.{chosen, written, writable, writtenOf, writableOf}
+
+-- the settled table is ascending by id
+
+rounds-ascending : {T : Table} → Ascending rowId T → (n : ℕ) → Ascending rowId (rounds n T)
+unfolding rounds round
+rounds-ascending a zero = a
+rounds-ascending {T} a (suc n) = ascending-map rowId (judge (rounds n T)) (rounds-ascending a n) (judge-id (rounds n T))
+
+pub settled-ascending : (ident : Update → Id) (S : List Update) → Ascending rowId (settled ident S)
+unfolding settled startAll start
+settled-ascending ident S = rounds-ascending (ascending-map rowId (start ident) (sort-ascending ident S) (λ u. refl)) (length S)
+
+-- a table that decides its set is sound
+decides-sound : {ident : Update → Id} {S : List Update} {T : Table} → Decides ident S T → SoundTable ident S T
+decides-sound {ident} {S} {T} d =
+    record {
+      rows = λ r m. record { of-set = d .of-set r m; has-id = d .has-id r m; right = right r m (r .verdict) refl };
+      row-for = d .row-for;
+      once = d .once;
+    }
+  where
+    right : (r : Row) → r ∈ T → (v : Verdict) → r .verdict ≡ v → Right ident S v (r .update) (r .above)
+    right r m held e = (d .held-right r m e, record { only = d .above-right r m e; each = d .above-all r m e; once = d .above-once r m e })
+    right r m waiting e = tt
+    right r m void e = d .void-right r m e
+
+module _ (ident : Update → Id) (S : List Update) (distinct : Distinct ident S) (a : ℕ) (o : Operation) where
+  abbrev table : Table
+  table = settled ident S
+
+  decides : Decides ident S table
+  decides = settled-decides ident S distinct
+
+  -- the row of a predecessor
+  pred-head : {i : Id} → i ∈ writtenOf ident S a o .preds → (r : Row) × (r ∈ heads table) × (r .id ≡ i)
+  unfolding writtenOf written
+  pred-head m = let f = map-∈ rowId (chosen table a) m in (f .0, chosen-head table a (f .1), f .2)
+
+  -- it is bounded, so that it decodes to itself
+  pub written-bounded : ((u : Update) → length (ident u) ≡ idLength) → a ≤ maxAuthor → BoundedOperation o → Bounded (writtenOf ident S a o)
+  unfolding writtenOf written
+  written-bounded sized small op =
+      record {
+        author-small = small;
+        preds-bounded = record {
+          few = subst (λ (n : ℕ). n ≤ maxPredecessors) (sym (length-map (chosen table a) rowId)) (chosen-few table a);
+          sized = λ i m. let f = pred-head m in ap length (sym (f .2) ∙ row-id distinct decides (head-row distinct decides (f .1))) ∙ sized (f .0 .update);
+          ordered = Ascending→ascending (chosen-ascending table a (settled-ascending ident S));
+        };
+        op-bounded = op;
+      }
+
+  -- it names heads only, and all of them where they are at most eight
+  pub written-heads : (i : Id) → i ∈ writtenOf ident S a o .preds → (u : Update) × Head ident S u × (ident u ≡ i)
+  written-heads i m =
+      let f = pred-head m in
+      (f .0 .update, head-right ident S table distinct decides (f .0) (f .1), sym (row-id distinct decides (head-row distinct decides (f .1))) ∙ f .2)
+
+  pub written-all-heads : length (heads (settled ident S)) ≤ maxPredecessors → (u : Update) → Head ident S u → ident u ∈ writtenOf ident S a o .preds
+  unfolding writtenOf written
+  written-all-heads few u h =
+      let f = head-all ident S table distinct decides u h in
+      let m : f .0 ∈ chosen table a = subst (λ (rs : Table). f .0 ∈ rs) (sym (chosen-all table a few)) (f .1) in
+      ∈-cast (sym (row-id distinct decides (head-row distinct decides (f .1)) ∙ ap ident (f .2))) (∈-map rowId m)
+
+  -- the predecessors are held, and none is an ancestor of a held update
+
+  ready : Ready table (writtenOf ident S a o)
+  ready =
+      record {
+        held-row = λ i m. let f = pred-head m in let k = head-row distinct decides (f .1) in (f .0, k .row-in, f .2, k .ruled-held);
+      }
+
+  known : Known ident S (writtenOf ident S a o)
+  known = preds-known (decides-sound decides) ready
+
+  below : PredsHeld ident S (writtenOf ident S a o)
+  below = preds-held (decides-sound decides) ready
+
+  pred-on-top : {x : Update} → x ∈ S → ident x ∈ writtenOf ident S a o .preds → (v : Update) → Held ident S v → Ancestor ident S x v → ⊥
+  pred-on-top {x} m p v k b =
+      let f = written-heads (ident x) p in
+      f .1 .on-top v k (subst (λ (y : Update). Ancestor ident S y v) (distinct-eq distinct m (held-stored ident S (f .1 .is-held)) (sym (f .2))) b)
+
+  -- writable is fine
+
+  writable-fine : writableOf ident S a o ≡ true → Fine ident S (writtenOf ident S a o)
+  unfolding writtenOf written writableOf writable
+  writable-fine e =
+      record { antichain = λ x y m n p q. pred-on-top m p y (below y n q); valid = valid→ (decides-sound decides) ready o e }
+
+  fine-writable : Fine ident S (writtenOf ident S a o) → writableOf ident S a o ≡ true
+  unfolding writtenOf written writableOf writable
+  fine-writable f = →valid (decides-sound decides) ready o (f .valid)
+
+  -- no stored update has its id
+  abbrev New : Type 0
+  New = (u : Update) → u ∈ S → ident u ≡ ident (writtenOf ident S a o) → ⊥
+
+  added-distinct : New → Distinct ident (added S (writtenOf ident S a o))
+  added-distinct new =
+      distinct-append distinct (distinct-cons (λ y m. absurd (List·Memᴰ·not-nil m)) distinct-nil)
+      (λ x y m k e. new x m (e ∙ ap ident (∈-singleton k)))
+
+  -- offered next, where no stored update has its id, it is held exactly when it was writable
+  pub written-held : ((u : Update) → u ∈ S → ident u ≡ ident (writtenOf ident S a o) → ⊥) → writableOf ident S a o ≡ true
+      → Held ident (S ++ (writtenOf ident S a o ∷ [])) (writtenOf ident S a o)
+  written-held new e =
+      let w : Update = writtenOf ident S a o in
+      grow-ready ident S (added S w) (added-more S w) (added-distinct new) (∈-append-right S (List·Memᴰ·head refl)) known below
+      (λ v m p. held-kept ident S w (added-distinct new) (below v m p)) (writable-fine e)
+
+  -- and void otherwise
+  pub written-void : ((u : Update) → u ∈ S → ident u ≡ ident (writtenOf ident S a o) → ⊥) → writableOf ident S a o ≡ false
+      → Void ident (S ++ (writtenOf ident S a o ∷ [])) (writtenOf ident S a o)
+  written-void new e =
+      let w : Update = writtenOf ident S a o in
+      grow-broken ident S (added S w) (added-more S w) (added-distinct new) (∈-append-right S (List·Memᴰ·head refl)) known below
+      (λ f. true-false (fine-writable f) e)
+
+  pub unwritable-void : ((u : Update) → u ∈ S → ident u ≡ ident (writtenOf ident S a o) → ⊥) → writableOf ident S a o ≡ false
+      → Held ident (S ++ (writtenOf ident S a o ∷ [])) (writtenOf ident S a o) → ⊥
+  unwritable-void new e h = held-not-void ident (S ++ (writtenOf ident S a o ∷ [])) h (written-void new e)
+
+  -- a writable one is not stored: a stored update with its id is another update
+  pub written-new : writableOf ident S a o ≡ true → writtenOf ident S a o ∈ S → ⊥
+  unfolding writtenOf written
+  written-new e m =
+      let h : Held ident S (writtenOf ident S a o) = Held.held m known below (writable-fine e) in
+      let r = held-row distinct decides h in
+      let c = chosen-some table a (some-head distinct decides (r .1) .1) in
+      let k = head-row distinct decides (chosen-head table a (c .1)) in
+      let n : c .0 .update ∈ S = decides .of-set (c .0) (k .row-in) in
+      let p : ident (c .0 .update) ∈ writtenOf ident S a o .preds = ∈-cast (sym (row-id distinct decides k)) (∈-map rowId (c .1)) in
+      pred-on-top n p (writtenOf ident S a o) h (Ancestor.direct n p)
+
+  -- every held update of an author who is not marked is its ancestor: it forms no fork
+  pub written-no-fork : (Marked ident S a → ⊥) → (u : Update) → Held ident S u → u .author ≡ a → Ancestor ident S u (writtenOf ident S a o)
+  unfolding writtenOf written
+  written-no-fork n u k e =
+      let r = held-row distinct decides k in
+      let f = named distinct decides a n (r .1) (ap (λ (v : Update). v .author) (r .2) ∙ e) in
+      let m : f .0 .update ∈ S = decides .of-set (f .0) (f .2 .row-in) in
+      let p : ident (f .0 .update) ∈ writtenOf ident S a o .preds = ∈-cast (sym (row-id distinct decides (f .2))) (∈-map rowId (f .1)) in
+      subst (λ (v : Update). Ancestor ident S v (writtenOf ident S a o)) (r .2)
+      (⊎-elim
+      (λ (i : f .0 .id ≡ r .0 .id).
+      subst (λ (q : Row). Ancestor ident S (q .update) (writtenOf ident S a o)) (row-eq distinct decides (f .2 .row-in) (r .1 .row-in) i) (Ancestor.direct m p))
+      (λ (i : r .0 .id ∈ f .0 .above). Ancestor.further m p (above→ancestor distinct decides (r .1) (f .2) i)) (f .3))
+
+-- an Add is always writable
+pub add-writable : (ident : Update → Id) (S : List Update) (a : ℕ) (t : List ℕ) → writableOf ident S a (Add t) ≡ true
+unfolding writableOf writable validOp
+add-writable ident S a t = refl

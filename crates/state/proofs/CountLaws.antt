@@ -1,0 +1,58 @@
+-- The count of a standing, one place after the other.
+-- Assumes nothing.
+use Prim.Native.Nat.{ℕ, _+_}
+use mathlib.Core.Path.{_≡_, refl, sym, ap, _∙_}
+use mathlib.Core.Bool.{Bool, true, false}
+use Rattle.bits.specs.Below.{countBelow}
+use Rattle.bits.specs.BelowLaws.{countBelow-more, countBelow-cong}
+use Rattle.state.specs.State.{placeAt, isHeld, isVoid, countOf}
+use Rattle.state.specs.Number.{hasStanding}
+use Rattle.state.specs.declared.Ledger.{Ledger}
+use Rattle.state.specs.declared.Place.{Place}
+use Rattle.state.specs.declared.Standing.{Standing}
+use Rattle.state.specs.declared.Standing.the-variants.{Held, Waiting, Void}
+
+-- place k has the standing s
+abbrev standsAt : Ledger → Standing → ℕ → Bool
+standsAt l s k = hasStanding s (placeAt l k .standing)
+
+-- how many places below k have the standing s
+unfoldable pub counted : Ledger → Standing → ℕ → ℕ
+counted l s k = countBelow k (standsAt l s)
+
+module _ (l : Ledger) (s : Standing) where
+  pub counted-first : 0 ≡ counted l s 0
+  unfolding counted countBelow
+  counted-first = refl
+
+  pub counted-whole : (k : ℕ) {n : ℕ} → k ≡ l .used → n ≡ counted l s k → n ≡ countOf (hasStanding s) l
+  unfolding counted countOf
+  counted-whole k e h = h ∙ ap (λ (m : ℕ). countBelow m (standsAt l s)) e
+
+  module _ (k : ℕ) {p : Place} {r : Bool} (e : p ≡ placeAt l k) (t : r ≡ hasStanding s (p .standing)) where
+    test-standing : standsAt l s k ≡ r
+    test-standing = sym (t ∙ ap (λ (q : Place). hasStanding s (q .standing)) e)
+
+    pub counted-one : r ≡ true → {n : ℕ} → n ≡ counted l s k → n + 1 ≡ counted l s (k + 1)
+    unfolding counted
+    counted-one b h = rw (countBelow-more, test-standing, b, h)
+
+    pub counted-none : r ≡ false → {n : ℕ} → n ≡ counted l s k → n ≡ counted l s (k + 1)
+    unfolding counted
+    counted-none b h = rw (countBelow-more, test-standing, b, h)
+
+pub is-held : (v : Standing) → hasStanding Held v ≡ isHeld v
+unfolding hasStanding isHeld
+is-held Held = refl
+is-held Waiting = refl
+is-held Void = refl
+
+pub is-void : (v : Standing) → hasStanding Void v ≡ isVoid v
+unfolding hasStanding isVoid
+is-void Held = refl
+is-void Waiting = refl
+is-void Void = refl
+
+pub countOf-cong : (p q : Standing → Bool) → ((v : Standing) → p v ≡ q v) → (l : Ledger) → countOf p l ≡ countOf q l
+unfolding countOf
+countOf-cong p q f l = countBelow-cong (l .used) _ _ (λ k h. f (placeAt l k .standing))

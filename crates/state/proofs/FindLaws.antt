@@ -1,0 +1,44 @@
+-- The search for an id, one place after the other.
+-- Assumes nothing.
+use Prim.Native.Nat.{ℕ, _+_, _<_}
+use mathlib.Core.Path.{_≡_, refl, sym, ap, _∙_}
+use mathlib.Core.Bool.{Bool, true, false}
+use mathlib.Core.List.{List}
+use mathlib.Core.Option.{none}
+use Rattle.keys.specs.Order.{same}
+use Rattle.format.specs.Update.{Id}
+use Rattle.bits.specs.Below.{firstBelow, orElse}
+use Rattle.bits.specs.BelowLaws.{firstBelow-more, firstBelow-some←, firstBelow-none→}
+use Rattle.state.specs.State.{placeAt, findIn, foundOf}
+use Rattle.state.specs.declared.Ledger.{Ledger}
+use Rattle.state.specs.declared.Place.{Place}
+use Rattle.state.specs.declared.Found.the-variants.{At, Nowhere}
+
+-- place k has the id i
+abbrev pub hasId : Ledger → List ℕ → ℕ → Bool
+hasId l i k = same (placeAt l k .id) i
+
+-- no place below k has the id i
+unfoldable pub NoneBelow : Ledger → List ℕ → ℕ → Type 0
+NoneBelow l i k = firstBelow k (hasId l i) ≡ none
+
+module _ (l : Ledger) (i : Id) where
+  pub none-first : NoneBelow l i 0
+  unfolding NoneBelow firstBelow
+  none-first = refl
+
+  pub none-more : (k : ℕ) → NoneBelow l i k → hasId l i k ≡ false → NoneBelow l i (k + 1)
+  unfolding NoneBelow orElse
+  none-more k h e = rw (firstBelow-more, h, e)
+
+  -- what a test of the place says
+  pub test-id : (k : ℕ) {p : Place} {r : Bool} → p ≡ placeAt l k → r ≡ same (p .id) i → hasId l i k ≡ r
+  test-id k e t = sym (t ∙ ap (λ (q : Place). same (q .id) i) e)
+
+  pub found : (k : ℕ) → k < l .used → NoneBelow l i k → hasId l i k ≡ true → At k ≡ foundOf (findIn l i)
+  unfolding NoneBelow findIn
+  found k b h e = ap foundOf (sym (firstBelow-some← (l .used) (hasId l i) k b e (firstBelow-none→ k (hasId l i) h)))
+
+  pub nowhere : (k : ℕ) → k ≡ l .used → NoneBelow l i k → Nowhere ≡ foundOf (findIn l i)
+  unfolding NoneBelow findIn
+  nowhere k e h = ap foundOf (sym (ap (λ (n : ℕ). firstBelow n (hasId l i)) (sym e) ∙ h))

@@ -1,0 +1,170 @@
+-- What finding an id, reading a stored update and judging it come to, by cases.
+-- Assumes nothing.
+use Prim.Native.Nat.{ℕ, _*_, _<_}
+use mathlib.Core.Path.{_≡_, refl, sym, ap, ap₂, _∙_}
+use mathlib.Core.List.{List}
+use mathlib.Core.Option.{Option, none, some}
+use mathlib.Core.Bool.{Bool, true, false, cond, _&&_, _||_}
+use native.Mathlib.Omega.{arith}
+use Rattle.keys.specs.Order.{same}
+use Rattle.keys.specs.Member.{all}
+use borrow.Author.Tests.{eq-eqb, ne-eqb}
+use Rattle.format.specs.Update as U
+use Rattle.format.specs.Update.{Id, idLength, tagLength, maxLength}
+use Rattle.format.specs.Decode.{part, idsAt, decode}
+use Rattle.format.specs.Reading.{operationAt, valueOf, decodedOf}
+use Rattle.format.specs.declared.Malformed.{Malformed}
+use Rattle.format.specs.declared.Operation.{Operation}
+use Rattle.format.specs.declared.Operation.the-variants.{Add, Remove, Insert, Delete}
+use Rattle.format.specs.declared.Parsed.{Parsed}
+use Rattle.format.specs.declared.Reading.{Reading}
+use Rattle.format.specs.declared.Reading.the-variants.{Update as Accepted, Refused}
+use Rattle.rules.specs.Standing.{beginning}
+use Rattle.rules.specs.Settle.{isAdd, isInsert}
+use Rattle.bits.specs.Bits.{has, including, join, meet}
+use Rattle.bits.specs.BelowLaws.{firstBelow-some→}
+use Rattle.state.specs.declared.Ledger.{Ledger}
+use Rattle.state.specs.declared.Gathered.{Gathered}
+use Rattle.state.specs.declared.Place.{Place}
+use Rattle.state.specs.declared.Standing.{Standing}
+use Rattle.state.specs.declared.Standing.the-variants.{Held, Waiting, Void}
+use Rattle.state.specs.declared.Found.{Found}
+use Rattle.state.specs.declared.Found.the-variants.{At, Nowhere}
+use Rattle.state.specs.declared.Judgement.{Judgement}
+use Rattle.state.specs.declared.Judgement.the-variants.{Holds, Fails, Waits}
+use Rattle.state.specs.State.{placeAt, storedAt, findIn, foundOf}
+use Rattle.state.specs.Judge.{gatherBy, gatherAt, testOf, namesAt, names, valid, nothingGathered, gather, judgeReady, judgeGathered, judgeDecoded, judge}
+
+-- where an id was found
+pub found-at : (o : Option ℕ) (j : ℕ) → foundOf o ≡ At j → o ≡ some j
+found-at none j e = let z : _≡_ {A = ℕ} 0 1 = cc in absurd (omega arith)
+found-at (some k) j e = cc
+
+pub found-nowhere : (o : Option ℕ) → foundOf o ≡ Nowhere → o ≡ none
+found-nowhere none e = refl
+found-nowhere (some k) e = let z : _≡_ {A = ℕ} 0 1 = cc in absurd (omega arith)
+
+pub found-inside : (l : Ledger) (i : Id) (j : ℕ) → findIn l i ≡ some j → j < l .used
+unfolding findIn
+found-inside l i j e = firstBelow-some→ (l .used) _ e .0
+
+-- what is gathered with the predecessor at place j, by its standing
+module _ (l : Ledger) (g : Gathered) (j : ℕ) (p : Place) (placed : p ≡ placeAt l j) where
+  standing-at : (v : Standing) → p .standing ≡ v → placeAt l j .standing ≡ v
+  standing-at v e = ap (λ (q : Place). q .standing) (sym placed) ∙ e
+
+  pub by-held : (d a : ℕ) → p .standing ≡ Held → d ≡ including (g .direct) j → a ≡ join (g .above) (p .ancestors)
+      → record { ready = g .ready; void = g .void; direct = d; above = a } ≡ gatherAt l g (some j)
+  by-held d a v e f =
+      ap₂ (λ (x y : ℕ). record { ready = g .ready; void = g .void; direct = x; above = y }) e
+      (f ∙ ap (λ (q : Place). join (g .above) (q .ancestors)) placed)
+      ∙ ap (gatherBy l g j) (sym (standing-at Held v))
+
+  pub by-waiting : p .standing ≡ Waiting
+      → record { ready = false; void = g .void; direct = g .direct; above = g .above } ≡ gatherAt l g (some j)
+  by-waiting v = ap (gatherBy l g j) (sym (standing-at Waiting v))
+
+  pub by-void : p .standing ≡ Void
+      → record { ready = g .ready; void = true; direct = g .direct; above = g .above } ≡ gatherAt l g (some j)
+  by-void v = ap (gatherBy l g j) (sym (standing-at Void v))
+
+-- the bytes b of a place j, and what reading them answered
+module _ (l : Ledger) (s : List ℕ) (j : ℕ) (b : List ℕ) (q : Place) (placed : q ≡ placeAt l j) (stored : b ≡ part s (maxLength * j) (q .length))
+    (r : Reading) (read : decodedOf b r ≡ decode b) where
+  is-stored : b ≡ storedAt l s j
+  is-stored = stored ∙ ap (λ (x : Place). part s (maxLength * j) (x .length)) placed
+
+  decoded : (x : Reading) → r ≡ x → decodedOf b x ≡ decode (storedAt l s j)
+  decoded x e = ap (decodedOf b) (sym e) ∙ read ∙ ap decode is-stored
+
+  -- a test of the stored update's operation
+  module _ (p : U.Operation → Bool) where
+    pub test-update : (u : Parsed) → r ≡ Accepted u → p (operationAt b (u .operation)) ≡ testOf p (decode (storedAt l s j))
+    unfolding testOf
+    test-update u e = ap (testOf p) (decoded (Accepted u) e)
+
+    pub test-refused : (m : Malformed) → r ≡ Refused m → false ≡ testOf p (decode (storedAt l s j))
+    unfolding testOf
+    test-refused m e = ap (testOf p) (decoded (Refused m) e)
+
+  -- the judgement of the stored update
+  pub judge-update : (u : Parsed) → r ≡ Accepted u
+      → judgeGathered l s (valueOf b u .op) (gather l nothingGathered (valueOf b u .preds)) ≡ judge l s j
+  unfolding judge judgeDecoded
+  judge-update u e = ap (judgeDecoded l s) (decoded (Accepted u) e)
+
+  pub judge-refused : (m : Malformed) → r ≡ Refused m → Waits ≡ judge l s j
+  unfolding judge judgeDecoded
+  judge-refused m e = ap (judgeDecoded l s) (decoded (Refused m) e)
+
+-- an id that names a place in the set `up`
+module _ (l : Ledger) (s : List ℕ) (p : U.Operation → Bool) (up : ℕ) (i : Id) where
+  pub names-in : (j : ℕ) → findIn l i ≡ some j → has up j ≡ true → testOf p (decode (storedAt l s j)) ≡ names l s p up i
+  unfolding names namesAt
+  names-in j e h = rw (e, h)
+
+  pub names-out : (j : ℕ) → findIn l i ≡ some j → has up j ≡ false → false ≡ names l s p up i
+  unfolding names namesAt
+  names-out j e h = rw (e, h)
+
+  pub names-nowhere : findIn l i ≡ none → false ≡ names l s p up i
+  unfolding names namesAt
+  names-nowhere e = rw e
+
+-- the operation o, laid out in b, by its kind
+module _ (l : Ledger) (s : List ℕ) (up : ℕ) (b : List ℕ) (o : Operation) where
+  abbrev judged : Operation → Bool
+  judged x = valid l s up (operationAt b x)
+
+  pub valid-add : (t : ℕ) → o ≡ Add t → true ≡ judged o
+  unfolding valid
+  valid-add t e = ap judged (sym e)
+
+  pub valid-remove : (t n c : ℕ) → o ≡ Remove t n c → (x : List ℕ) → x ≡ part b t tagLength
+      → all (names l s (isAdd x) up) (idsAt b n c) ≡ judged o
+  unfolding valid
+  valid-remove t n c e x f = ap (λ (y : List ℕ). all (names l s (isAdd y) up) (idsAt b n c)) f ∙ ap judged (sym e)
+
+  pub valid-delete : (i : ℕ) → o ≡ Delete i → (x : List ℕ) → x ≡ part b i idLength → names l s isInsert up x ≡ judged o
+  unfolding valid
+  valid-delete i e x f = ap (names l s isInsert up) f ∙ ap judged (sym e)
+
+  module _ (a v : ℕ) (e : o ≡ Insert a v) (x : List ℕ) (f : x ≡ part b a idLength) where
+    at-anchor : judged o ≡ (same x beginning || names l s isInsert up x)
+    unfolding valid
+    at-anchor = ap judged e ∙ ap (λ (y : List ℕ). same y beginning || names l s isInsert up y) (sym f)
+
+    pub valid-first : same x beginning ≡ true → true ≡ judged o
+    valid-first h = sym (at-anchor ∙ ap (λ (y : Bool). y || names l s isInsert up x) h)
+
+    pub valid-insert : same x beginning ≡ false → names l s isInsert up x ≡ judged o
+    valid-insert h = sym (at-anchor ∙ ap (λ (y : Bool). y || names l s isInsert up x) h)
+
+-- the judgement by the predecessors' places and ancestors
+module _ (l : Ledger) (s : List ℕ) (o : U.Operation) where
+  module _ (direct above : ℕ) where
+    pub ready-above : (meet direct above ≡ 0 → ⊥) → Fails ≡ judgeReady l s o direct above
+    unfolding judgeReady
+    ready-above h = rw (ne-eqb _ _ h)
+
+    module _ (apart : meet direct above ≡ 0) (up : ℕ) (joined : up ≡ join direct above) where
+      pub ready-valid : valid l s up o ≡ true → Holds up ≡ judgeReady l s o direct above
+      unfolding judgeReady
+      ready-valid v = rw (eq-eqb _ _ apart, ← joined, v)
+
+      pub ready-invalid : valid l s up o ≡ false → Fails ≡ judgeReady l s o direct above
+      unfolding judgeReady
+      ready-invalid v = rw (eq-eqb _ _ apart, ← joined, v)
+
+  module _ (g : Gathered) where
+    pub gathered-void : g .void ≡ true → Fails ≡ judgeGathered l s o g
+    unfolding judgeGathered
+    gathered-void v = rw v
+
+    pub gathered-ready : g .void ≡ false → g .ready ≡ true → judgeReady l s o (g .direct) (g .above) ≡ judgeGathered l s o g
+    unfolding judgeGathered
+    gathered-ready v r = rw (v, r)
+
+    pub gathered-waits : g .void ≡ false → g .ready ≡ false → Waits ≡ judgeGathered l s o g
+    unfolding judgeGathered
+    gathered-waits v r = rw (v, r)

@@ -1,0 +1,46 @@
+-- `settle` meets its contract. The loop's invariant: the ledger is what passes come to, and where the last one changed nothing, none is left to make.
+-- The measure: how many places wait, and one more while there is a pass to make.
+-- Assumes nothing.
+use Prim.Native.Nat.{_<_}
+use mathlib.Core.Path.{_≡_, sym, subst, _∙_}
+use mathlib.Core.Bool.{Bool}
+use lib.ListN.{length, length-map}
+use native.Mathlib.Omega.{arith}
+use borrow.Author.Needs.{needs}
+use denote.Ref.{now}
+use Rattle.state.proofs.Settling.{Reached, left, reached-none, reached-next, left-falls, reached-settled}
+use Rattle.state.proofs.Ledger.settle.Statement.{statement}
+use Rattle.state.proofs.Ledger.settle.Tie as tie
+
+abbrev Inv-loop : tie.InvT-loop
+Inv-loop self₀ store changed₀ self changed = Reached self₀ store self changed
+
+abbrev μ-loop : tie.MeasureT-loop
+μ-loop self₀ store changed₀ self changed = left self changed
+
+pub settle-spec : {M : Type 1} → statement M
+settle-spec =
+    tie.close
+    (tie.spec
+    Inv-loop
+    μ-loop
+    (λ c. let a = c .before .args in reached-none (a .self) (now (a .store)))
+    (λ c κs. omega (arith, c .before .loop .inv .used-kept))
+    (λ c.
+    let h = c .before .before .before in
+    let a = h .before .before .args in
+    let g = h .before .before .good .0 in
+    let whole : length (a .self .places) ≡ 64 = sym (length-map (a .self .places) _) ∙ g .1 .1 .1 .0 .1 .0 .1 in
+    let p = c .before .pass .result in
+    subst (λ (b : Bool). left (p .ledger) (p .changed) < left (h .loop .self) b) (sym (c .before .before .loop-test .taken))
+    (left-falls (a .self) (now (a .store)) (h .loop .self) (h .loop .changed) (h .loop .inv) p (c .before .pass .ensures)
+    (omega (arith, h .loop .inv .used-kept, h .loop .inv .places-kept, whole))))
+    (λ c.
+    let h = c .before .before .before in
+    let a = h .before .before .args in
+    reached-next (a .self) (now (a .store)) _ _ (h .loop .inv) _ (c .before .pass .ensures))
+    (λ c.
+    let h = c .before in
+    let a = h .before .before .args in
+    reached-settled (a .self) (now (a .store)) (h .loop .self)
+    (subst (Reached (a .self) (now (a .store)) (h .loop .self)) (c .loop-test .left) (h .loop .inv))))

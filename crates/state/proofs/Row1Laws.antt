@@ -1,0 +1,72 @@
+-- Row 1, from the tests that led to its answer.
+-- Assumes nothing.
+use Prim.Native.Nat.{ℕ, _+_, _≤_, _<_}
+use mathlib.Core.Path.{_≡_, refl, sym, ap, _∙_}
+use mathlib.Core.List.{List}
+use mathlib.Core.Bool.{Bool, true, false}
+use borrow.Author.Tests.{le-leb, lt-leb, eq-eqb, ne-eqb}
+use lib.ListN.{length}
+use Rattle.format.specs.Update.{minLength, maxLength}
+use Rattle.bits.specs.Below.{allBelow}
+use Rattle.bits.specs.BelowLaws.{allBelow-more, allBelow-false←}
+use Rattle.bits.specs.Bits.{within}
+use Rattle.state.specs.State.{places, storeLength, placeAt}
+use Rattle.state.specs.Row1.{soundPlace, sound}
+use Rattle.state.specs.declared.Ledger.{Ledger}
+use Rattle.state.specs.declared.Place.{Place}
+
+-- one place
+module _ (used : ℕ) (p : Place) where
+  pub short : p .length < minLength → false ≡ soundPlace used p
+  unfolding soundPlace
+  short h = rw (lt-leb _ _ h)
+
+  pub long : minLength ≤ p .length → maxLength < p .length → false ≡ soundPlace used p
+  unfolding soundPlace
+  long l h = rw (le-leb _ _ l, lt-leb _ _ h)
+
+  pub by-ancestors : minLength ≤ p .length → p .length ≤ maxLength → within (p .ancestors) used ≡ soundPlace used p
+  unfolding soundPlace
+  by-ancestors l h = rw (le-leb _ _ l, le-leb _ _ h)
+
+-- place k is sound
+abbrev pub soundAt : Ledger → ℕ → Bool
+soundAt l k = soundPlace (l .used) (placeAt l k)
+
+-- the places below k are sound
+unfoldable pub SoundBelow : Ledger → ℕ → Type 0
+SoundBelow l k = allBelow k (soundAt l) ≡ true
+
+pub sound-first : (l : Ledger) → SoundBelow l 0
+unfolding SoundBelow allBelow
+sound-first l = refl
+
+-- what a test of place k says
+module _ (l : Ledger) (k : ℕ) {p : Place} {r : Bool} (f : p ≡ placeAt l k) (t : r ≡ soundPlace (l .used) p) where
+  test-place : soundAt l k ≡ r
+  test-place = sym (t ∙ ap (soundPlace (l .used)) f)
+
+  pub sound-more : r ≡ true → SoundBelow l k → SoundBelow l (k + 1)
+  unfolding SoundBelow
+  sound-more b h = rw (allBelow-more, h, test-place, b)
+
+  pub unsound : k < l .used → r ≡ false → allBelow (l .used) (soundAt l) ≡ false
+  unsound h b = allBelow-false← (l .used) (soundAt l) k h (test-place ∙ b)
+
+-- the ledger and the store
+module _ (l : Ledger) (s : List ℕ) where
+  pub wrong-store : (length s ≡ storeLength → ⊥) → false ≡ sound l s
+  unfolding sound
+  wrong-store h = rw (ne-eqb _ _ h)
+
+  pub too-many : length s ≡ storeLength → places < l .used → false ≡ sound l s
+  unfolding sound
+  too-many e h = rw (eq-eqb _ _ e, lt-leb _ _ h)
+
+  pub by-places : length s ≡ storeLength → l .used ≤ places → allBelow (l .used) (soundAt l) ≡ sound l s
+  unfolding sound
+  by-places e u = rw (eq-eqb _ _ e, le-leb _ _ u)
+
+pub all-sound : (l : Ledger) (k : ℕ) → k ≡ l .used → SoundBelow l k → allBelow (l .used) (soundAt l) ≡ true
+unfolding SoundBelow
+all-sound l k q h = ap (λ (m : ℕ). allBelow m (soundAt l)) (sym q) ∙ h

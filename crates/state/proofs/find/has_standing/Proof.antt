@@ -1,0 +1,15 @@
+-- `has_standing` meets its contract.
+-- Assumes nothing.
+use mathlib.Core.Path.{ap₂}
+use borrow.Author.Needs.{needs}
+use lib.Dec.{eqb}
+use Rattle.state.specs.Number.{hasStanding}
+use Rattle.state.proofs.find.has_standing.Statement.{statement}
+use Rattle.state.proofs.find.has_standing.Tie as tie
+
+returns : tie.Need-returns
+unfolding hasStanding
+returns c = ap₂ eqb (c .before .number-of .ensures) (c .number-of2 .ensures)
+
+pub has-standing-spec : {M : Type 1} → statement M
+has-standing-spec = tie.close (tie.spec (λ c κs. search needs) (λ c κs. search needs) returns)

@@ -1,0 +1,10 @@
+-- `held_count` meets its contract.
+-- Assumes nothing.
+use mathlib.Core.Path.{_∙_}
+use borrow.Author.Needs.{needs}
+use Rattle.state.proofs.CountLaws.{countOf-cong, is-held}
+use Rattle.state.proofs.find.held_count.Statement.{statement}
+use Rattle.state.proofs.find.held_count.Tie as tie
+
+pub held-count-spec : {M : Type 1} → statement M
+held-count-spec = tie.close (tie.spec (λ c κs. search needs) (λ c. c .count .ensures ∙ countOf-cong _ _ is-held _))

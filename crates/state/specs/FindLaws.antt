@@ -1,0 +1,55 @@
+-- Finding an id: with places that hold the updates `us`, it is found at the one place whose update has it.
+-- Assumes nothing.
+use mathlib.Core.Path.{_≡_, sym, _∙_, ap}
+use Prim.Native.Nat.{ℕ, _<_}
+use mathlib.Core.List.{List}
+use mathlib.Core.Option.{none, some}
+use mathlib.Core.Bool.{Bool}
+use lib.ListN.{length}
+use Rattle.keys.specs.Order.{same}
+use Rattle.keys.specs.OrderLaws.{same→eq, eq→same, same-false→ne}
+use Rattle.keys.specs.Member.{_∈_}
+use Rattle.format.specs.Update.{Id, Update}
+use Rattle.bits.specs.Below.{firstBelow}
+use Rattle.bits.specs.BelowLaws.{firstBelow-some→, firstBelow-one, firstBelow-none→}
+use Rattle.state.specs.declared.Ledger.{Ledger}
+use Rattle.state.specs.State.{placeAt, findIn}
+use Rattle.state.specs.Stands.{ident, noUpdate, updateAt, Holds}
+use Rattle.state.specs.ListFacts.{getD-∈, ∈-getD, distinct-index}
+
+-- each update stands at a place
+pub stored-at : (us : List Update) (k : ℕ) → k < length us → updateAt us k ∈ us
+stored-at us k h = getD-∈ us k noUpdate h
+
+pub place-of : (us : List Update) {u : Update} → u ∈ us → (k : ℕ) × (k < length us) × (updateAt us k ≡ u)
+place-of us m = ∈-getD noUpdate m
+
+module _ (l : Ledger) (s : List ℕ) (us : List Update) (holds : Holds l s us) where
+  has-id : Id → ℕ → Bool
+  has-id i k = same (placeAt l k .id) i
+
+  find-below : (i : Id) → findIn l i ≡ firstBelow (length us) (has-id i)
+  unfolding findIn has-id
+  find-below i = ap (λ (n : ℕ). firstBelow n (has-id i)) (holds .number)
+
+  pub find-right : (i : Id) (k : ℕ) → findIn l i ≡ some k → (k < length us) × (ident (updateAt us k) ≡ i)
+  unfolding has-id
+  find-right i k e =
+      let r = firstBelow-some→ (length us) (has-id i) (sym (find-below i) ∙ e) in
+      (r .0, sym (holds .ids k (r .0)) ∙ same→eq (placeAt l k .id) i (r .1))
+
+  pub find-all : (k : ℕ) → k < length us → findIn l (ident (updateAt us k)) ≡ some k
+  unfolding has-id
+  find-all k h =
+      find-below (ident (updateAt us k))
+      ∙ firstBelow-one (length us) (has-id (ident (updateAt us k))) k h
+      (eq→same (placeAt l k .id) (ident (updateAt us k)) (holds .ids k h))
+      (λ j g e.
+      distinct-index noUpdate (holds .distinct) j k g h (sym (holds .ids j g) ∙ same→eq (placeAt l j .id) (ident (updateAt us k)) e))
+
+  pub find-none : (i : Id) → findIn l i ≡ none → (u : Update) → u ∈ us → ident u ≡ i → ⊥
+  unfolding has-id
+  find-none i e u m q =
+      let p = place-of us m in
+      same-false→ne (placeAt l (p .0) .id) i (firstBelow-none→ (length us) (has-id i) (sym (find-below i) ∙ e) (p .0) (p .1))
+      (holds .ids (p .0) (p .1) ∙ ap ident (p .2) ∙ q)

@@ -1,0 +1,17 @@
+pub mod State
+pub mod Number
+pub mod Row1
+pub mod Judge
+pub mod Settle
+pub mod Stands
+pub mod ListFacts
+pub mod Row1Laws
+pub mod FindLaws
+pub mod GatherLaws
+pub mod JudgeWithin
+pub mod JudgeLaws
+pub mod Verdicts
+pub mod Passes
+pub mod SettleLaws
+pub mod TakeLaws
+pub mod CountLaws

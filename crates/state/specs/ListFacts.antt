@@ -1,0 +1,70 @@
+-- Members of a list by index, a store in a list by cases, parts, and counts by index.
+-- Assumes nothing.
+use mathlib.Core.Path.{_≡_, refl, sym, _∙_, ap}
+use Prim.Native.Nat.{ℕ, zero, suc, _+_, _≤_, _<_, suc-le-suc, zero-le}
+use native.Mathlib.Omega.{arith}
+use native.Mathlib.Nat.{le-of-suc-le-suc, not-suc-le-zero}
+use mathlib.Core.List.{List, [], _∷_, _++_, List·Memᴰ·head, List·Memᴰ·tail}
+use lib.ListN.{length, getD, set, take, drop, length-drop}
+use lib.Seq.{take-append-le, drop-append-le}
+use mathlib.Core.Bool.{Bool, true, false, cond}
+use Rattle.keys.specs.Member.{_∈_, keep}
+use Rattle.keys.specs.Distinct.{Distinct, distinct-nil, distinct-cons}
+use Rattle.bits.specs.Below.{countBelow}
+
+-- a count by its first number
+count-first : (p : ℕ → Bool) (n : ℕ)
+    → countBelow (suc n) p ≡ cond (p 0) (suc (countBelow n (λ (k : ℕ). p (suc k)))) (countBelow n (λ (k : ℕ). p (suc k)))
+unfolding countBelow
+count-first p zero = elim (p 0) as (λ b. cond b (0 + 1) 0 ≡ cond b 1 0) [ true ↦ refl | false ↦ refl ]
+count-first p (suc n) = step (p 0) (p (suc n)) (countBelow n (λ (k : ℕ). p (suc k))) (count-first p n)
+  where
+    step : (a b : Bool) (d : ℕ) {c : ℕ} → c ≡ cond a (suc d) d → cond b (c + 1) c ≡ cond a (suc (cond b (d + 1) d)) (cond b (d + 1) d)
+    step true true d e = omega arith
+    step true false d e = e
+    step false true d e = omega arith
+    step false false d e = e
+
+module _ {A : Type 0} where
+  pub getD-∈ : (xs : List A) (k : ℕ) (d : A) → k < length xs → getD xs k d ∈ xs
+  getD-∈ [] k d h = absurd (not-suc-le-zero h)
+  getD-∈ (x ∷ xs) zero d h = List·Memᴰ·head refl
+  getD-∈ (x ∷ xs) (suc k) d h = List·Memᴰ·tail (getD-∈ xs k d (le-of-suc-le-suc h))
+
+  pub ∈-getD : {x : A} {xs : List A} (d : A) → x ∈ xs → (k : ℕ) × (k < length xs) × (getD xs k d ≡ x)
+  ∈-getD d (List·Memᴰ·head e) = (0, suc-le-suc zero-le, sym e)
+  ∈-getD d (List·Memᴰ·tail m) = let r = ∈-getD d m in (suc (r .0), suc-le-suc (r .1), r .2)
+
+  -- with distinct keys, one key stands at one index
+  pub distinct-index : {key : A → List ℕ} {xs : List A} (d : A) → Distinct key xs → (i j : ℕ) → i < length xs → j < length xs
+      → key (getD xs i d) ≡ key (getD xs j d) → i ≡ j
+  distinct-index d distinct-nil i j h g e = absurd (not-suc-le-zero h)
+  distinct-index d (distinct-cons n s) zero zero h g e = refl
+  distinct-index d (distinct-cons {xs = xs} n s) zero (suc j) h g e = absurd (n (getD xs j d) (getD-∈ xs j d (le-of-suc-le-suc g)) e)
+  distinct-index d (distinct-cons {xs = xs} n s) (suc i) zero h g e =
+      absurd (n (getD xs i d) (getD-∈ xs i d (le-of-suc-le-suc h)) (sym e))
+  distinct-index d (distinct-cons n s) (suc i) (suc j) h g e =
+      ap suc (distinct-index d s i j (le-of-suc-le-suc h) (le-of-suc-le-suc g) e)
+
+  -- what stands at index j after a store at k: what stood there, or what was stored
+  pub set-cases : (P : A → Type 0) (xs : List A) (k j : ℕ) (a d : A) → P (getD xs j d) → (j ≡ k → P a) → P (getD (set xs k a) j d)
+  set-cases P [] k j a d p q = p
+  set-cases P (x ∷ xs) zero zero a d p q = q refl
+  set-cases P (x ∷ xs) zero (suc j) a d p q = p
+  set-cases P (x ∷ xs) (suc k) zero a d p q = p
+  set-cases P (x ∷ xs) (suc k) (suc j) a d p q = set-cases P xs k j a d p (λ e. q (ap suc e))
+
+  -- a part that ends before the seam
+  pub part-append : (p q : List A) (at n : ℕ) → at + n ≤ length p → take n (drop at (p ++ q)) ≡ take n (drop at p)
+  part-append p q at n h =
+      ap (take n) (drop-append-le at p q (omega arith)) ∙ take-append-le n (drop at p) q (omega (arith, length-drop at p))
+
+  -- the indices of the elements that pass, and those elements
+  pub count-keep : (p : A → Bool) (xs : List A) (d : A) → countBelow (length xs) (λ (k : ℕ). p (getD xs k d)) ≡ length (keep p xs)
+  unfolding countBelow keep
+  count-keep p [] d = refl
+  count-keep p (x ∷ xs) d = count-first (λ (k : ℕ). p (getD (x ∷ xs) k d)) (length xs) ∙ step (p x) (count-keep p xs d)
+    where
+      step : (b : Bool) {c : ℕ} → c ≡ length (keep p xs) → cond b (suc c) c ≡ length (cond b (x ∷ keep p xs) (keep p xs))
+      step true e = ap suc e
+      step false e = e

@@ -1,0 +1,22 @@
+-- Row 1 of document 01's table, exactly: "store not 34,112 bytes, over 64 places taken, or a taken place whose length is outside 20 to 533 or whose
+-- ancestor word names a place not taken".
+-- Assumes nothing.
+use Prim.Native.Nat.{ℕ}
+use mathlib.Core.List.{List}
+use mathlib.Core.Bool.{Bool, _&&_}
+use lib.ListN.{length}
+use lib.Dec.{leb, eqb}
+use Rattle.format.specs.Update.{minLength, maxLength}
+use Rattle.bits.specs.Below.{allBelow}
+use Rattle.bits.specs.Bits.{within}
+use Rattle.state.specs.declared.Ledger.{Ledger}
+use Rattle.state.specs.declared.Place.{Place}
+use Rattle.state.specs.State.{places, storeLength, placeAt}
+
+unfoldable pub soundPlace : ℕ → Place → Bool
+soundPlace used p = leb minLength (p .length) && (leb (p .length) maxLength && within (p .ancestors) used)
+
+-- row 1 does not apply
+unfoldable pub sound : Ledger → List ℕ → Bool
+sound l s =
+    eqb (length s) storeLength && (leb (l .used) places && allBelow (l .used) (λ (k : ℕ). soundPlace (l .used) (placeAt l k)))

@@ -1,0 +1,64 @@
+-- The standings of a ledger's places as verdicts on its updates.
+-- Assumes nothing.
+use mathlib.Core.Path.{_≡_, refl, sym, _∙_, ap}
+use Prim.Native.Nat.{ℕ, _<_}
+use mathlib.Core.List.{List}
+use mathlib.Core.Option.{Option, none, some}
+use mathlib.Core.Bool.{false≢true}
+use lib.ListN.{length}
+use Rattle.keys.specs.Member.{_∈_}
+use Rattle.format.specs.Update.{Update}
+use Rattle.rules.specs.Settle.{Verdict, held, waiting, void, isHeld, isWaiting, isVoid}
+use Rattle.state.specs.declared.Ledger.{Ledger}
+use Rattle.state.specs.declared.Standing.{Standing}
+use Rattle.state.specs.declared.Standing.the-variants.{Held as IsHeld, Waiting as IsWaiting, Void as IsVoid}
+use Rattle.state.specs.State.{placeAt, findIn}
+use Rattle.state.specs.Stands.{ident, noUpdate, updateAt, Holds}
+use Rattle.state.specs.ListFacts.{∈-getD}
+use Rattle.state.specs.JudgeLaws.{find-all}
+
+abbrev pub verdictOf : Standing → Verdict
+verdictOf IsHeld = held
+verdictOf IsWaiting = waiting
+verdictOf IsVoid = void
+
+pub verdict-held : (v : Standing) → verdictOf v ≡ held → v ≡ IsHeld
+unfolding isHeld
+verdict-held IsHeld e = refl
+verdict-held IsWaiting e = absurd (false≢true (ap isHeld e))
+verdict-held IsVoid e = absurd (false≢true (ap isHeld e))
+
+pub verdict-waiting : (v : Standing) → verdictOf v ≡ waiting → v ≡ IsWaiting
+unfolding isWaiting
+verdict-waiting IsHeld e = absurd (false≢true (ap isWaiting e))
+verdict-waiting IsWaiting e = refl
+verdict-waiting IsVoid e = absurd (false≢true (ap isWaiting e))
+
+pub verdict-void : (v : Standing) → verdictOf v ≡ void → v ≡ IsVoid
+unfolding isVoid
+verdict-void IsHeld e = absurd (false≢true (ap isVoid e))
+verdict-void IsWaiting e = absurd (false≢true (ap isVoid e))
+verdict-void IsVoid e = refl
+
+abbrev verdictAt : Ledger → Option ℕ → Verdict
+verdictAt l none = waiting
+verdictAt l (some k) = verdictOf (placeAt l k .standing)
+
+pub verdict : Ledger → Update → Verdict
+verdict l u = verdictAt l (findIn l (ident u))
+
+module _ (l : Ledger) (s : List ℕ) (us : List Update) (holds : Holds l s us) where
+  pub verdict-at : (k : ℕ) → k < length us → verdict l (updateAt us k) ≡ verdictOf (placeAt l k .standing)
+  unfolding verdict
+  verdict-at k g = ap (verdictAt l) (find-all l s us holds k g)
+
+  -- the place of a stored update, and what it says
+  pub record Placed (u : Update) : Type 0 where
+    pub place : ℕ
+    pub inside : place < length us
+    pub is : updateAt us place ≡ u
+    pub says : verdictOf (placeAt l place .standing) ≡ verdict l u
+
+  pub placed : {u : Update} → u ∈ us → Placed u
+  placed m =
+      let r = ∈-getD noUpdate m in record { place = r .0; inside = r .1; is = r .2; says = sym (verdict-at (r .0) (r .1)) ∙ ap (verdict l) (r .2) }

@@ -1,0 +1,299 @@
+// Judging a waiting update: by its predecessors, its ancestors and its operation.
+ghost use mathlib.Core.Path.{_≡_};
+ghost use mathlib.Core.Option.{some};
+ghost use Prim.Native.Nat.{ℕ, _≤_, _<_};
+ghost use mathlib.Core.List.{List};
+ghost use Rattle.keys.specs.Member.{all};
+ghost use Rattle.format.specs.Update.{tagLength};
+ghost use Rattle.format.specs.Decode.{part, idsAt, firstPredecessor, decode};
+ghost use Rattle.format.specs.Reading.{operationAt, valueOf};
+ghost use Rattle.rules.specs.Settle.{isAdd, isInsert};
+ghost use Rattle.state.specs.State.{findIn, storedAt};
+ghost use Rattle.state.specs.Judge.{nothingGathered, gatherBy, gatherAt, gather as gatherAll, testOf, names, valid as validOperation, judgeReady, judgeGathered, judge as judgeAt};
+use crate::Found;
+use crate::Gathered;
+use crate::Judgement;
+use crate::Ledger;
+use crate::Standing;
+use crate::find::find;
+use crate::store::stored;
+use format::Operation;
+use format::Parsed;
+use format::Reading;
+
+// What is gathered with the predecessor at place j.
+fn gather_by(l: Ledger, g: Gathered, j: usize) -> Gathered
+    requires { ⌜ j < 64 ⌝ }
+    ensures { λ r. ⌜ r ≡ gatherAt l g (some j) ⌝ }
+{
+    let p = l.place(j);
+    let standing = p.standing;
+    match standing {
+        Standing::Held => Gathered {
+            ready: g.ready,
+            void: g.void,
+            direct: bits::including(g.direct, j),
+            above: bits::join(g.above, p.ancestors),
+        },
+        Standing::Waiting => Gathered {
+            ready: false,
+            void: g.void,
+            direct: g.direct,
+            above: g.above,
+        },
+        Standing::Void => Gathered {
+            ready: g.ready,
+            void: true,
+            direct: g.direct,
+            above: g.above,
+        },
+    }
+}
+
+// What is gathered with one more predecessor.
+fn gather_one(l: Ledger, g: Gathered, id: &[u8]) -> Gathered
+    requires { ⌜ l .used ≤ 64 ⌝ }
+    ensures { λ r. ⌜ r ≡ gatherAt l g (findIn l (now (id .entry))) ⌝ }
+{
+    match find(l, id) {
+        Found::At(j) => gather_by(l, g, j),
+        Found::Nowhere => Gathered {
+            ready: false,
+            void: g.void,
+            direct: g.direct,
+            above: g.above,
+        },
+    }
+}
+
+// What the count predecessors of the update b say.
+fn gather(l: Ledger, b: &[u8], count: usize) -> Gathered
+    requires { ⌜ l .used ≤ 64 ⌝ }
+    ensures { λ r. ⌜ r ≡ gatherAll l nothingGathered (idsAt (now (b .entry)) firstPredecessor count) ⌝ }
+{
+    let mut g = Gathered {
+        ready: true,
+        void: false,
+        direct: 0,
+        above: 0,
+    };
+    let mut k: usize = 0;
+    while k < count {
+        g = gather_one(l, g, format::predecessor(b, k));
+        k += 1;
+    }
+    g
+}
+
+// Whether an operation is an Add of the tag.
+fn is_add(b: &[u8], operation: Operation, tag: &[u8]) -> bool
+    ensures { λ r. ⌜ r ≡ isAdd (now (tag .entry)) (operationAt (now (b .entry)) operation) ⌝ }
+{
+    match operation {
+        Operation::Add { tag: at } => keys::same(tag, format::part_of(b, at, 16)),
+        Operation::Remove {
+            tag: _,
+            named: _,
+            count: _,
+        } => false,
+        Operation::Insert {
+            anchor: _,
+            value: _,
+        } => false,
+        Operation::Delete { deleted: _ } => false,
+    }
+}
+
+// Whether place j holds an Add of the tag.
+fn add_at(l: Ledger, store: &[u8], j: usize, tag: &[u8]) -> bool
+    requires { ⌜ j < 64 ⌝ }
+    ensures { λ r. ⌜ r ≡ testOf (isAdd (now (tag .entry))) (decode (storedAt l (now (store .entry)) j)) ⌝ }
+{
+    let p = l.place(j);
+    let b = stored(store, j, p.length);
+    match format::read(b) {
+        Reading::Update(u) => {
+            let operation = u.operation;
+            is_add(b, operation, tag)
+        }
+        Reading::Refused(_) => false,
+    }
+}
+
+// Whether an operation is an Insert, of whatever bytes.
+fn is_insert(operation: Operation) -> bool
+    ensures { λ r. ⌜ ((b : List ℕ) → r ≡ isInsert (operationAt b operation)) ⌝ }
+{
+    match operation {
+        Operation::Insert {
+            anchor: _,
+            value: _,
+        } => true,
+        Operation::Add { tag: _ } => false,
+        Operation::Remove {
+            tag: _,
+            named: _,
+            count: _,
+        } => false,
+        Operation::Delete { deleted: _ } => false,
+    }
+}
+
+// Whether place j holds an Insert.
+fn insert_at(l: Ledger, store: &[u8], j: usize) -> bool
+    requires { ⌜ j < 64 ⌝ }
+    ensures { λ r. ⌜ r ≡ testOf isInsert (decode (storedAt l (now (store .entry)) j)) ⌝ }
+{
+    let p = l.place(j);
+    match format::read(stored(store, j, p.length)) {
+        Reading::Update(u) => {
+            let operation = u.operation;
+            is_insert(operation)
+        }
+        Reading::Refused(_) => false,
+    }
+}
+
+// Whether an id is that of an Add of the tag in the set `up`.
+fn names_add(l: Ledger, store: &[u8], up: u64, id: &[u8], tag: &[u8]) -> bool
+    requires { ⌜ l .used ≤ 64 ⌝ }
+    ensures { λ r. ⌜ r ≡ names l (now (store .entry)) (isAdd (now (tag .entry))) up (now (id .entry)) ⌝ }
+{
+    match find(l, id) {
+        Found::At(j) => {
+            if bits::has(up, j) {
+                add_at(l, store, j, tag)
+            } else {
+                false
+            }
+        }
+        Found::Nowhere => false,
+    }
+}
+
+// Whether an id is that of an Insert in the set `up`.
+fn names_insert(l: Ledger, store: &[u8], up: u64, id: &[u8]) -> bool
+    requires { ⌜ l .used ≤ 64 ⌝ }
+    ensures { λ r. ⌜ r ≡ names l (now (store .entry)) isInsert up (now (id .entry)) ⌝ }
+{
+    match find(l, id) {
+        Found::At(j) => {
+            if bits::has(up, j) {
+                insert_at(l, store, j)
+            } else {
+                false
+            }
+        }
+        Found::Nowhere => false,
+    }
+}
+
+// Whether each of the count ids from byte at on is that of an Add of the tag in the set `up`.
+fn names_adds(
+    l: Ledger,
+    store: &[u8],
+    up: u64,
+    b: &[u8],
+    at: usize,
+    count: usize,
+    tag: &[u8],
+) -> bool
+    requires { ⌜ l .used ≤ 64 ⌝ }
+    ensures { λ r. ⌜ r ≡ all (names l (now (store .entry)) (isAdd (now (tag .entry))) up) (idsAt (now (b .entry)) at count) ⌝ }
+{
+    let mut k: usize = 0;
+    while k < count {
+        if !names_add(l, store, up, format::named(b, at, k), tag) {
+            return false;
+        }
+        k += 1;
+    }
+    true
+}
+
+// Whether the operation is valid for the ancestors `up`.
+fn valid(l: Ledger, store: &[u8], up: u64, b: &[u8], operation: Operation) -> bool
+    requires { ⌜ l .used ≤ 64 ⌝ }
+    ensures { λ r. ⌜ r ≡ validOperation l (now (store .entry)) up (operationAt (now (b .entry)) operation) ⌝ }
+{
+    match operation {
+        Operation::Add { tag: _ } => true,
+        Operation::Remove { tag, named, count } => names_adds(
+            l,
+            store,
+            up,
+            b,
+            named,
+            count,
+            format::part_of(b, tag, 16),
+        ),
+        Operation::Insert { anchor, value: _ } => {
+            let a = format::part_of(b, anchor, 32);
+            let zero = [0u8; 32];
+            if keys::same(a, &zero) {
+                true
+            } else {
+                names_insert(l, store, up, a)
+            }
+        }
+        Operation::Delete { deleted } => names_insert(
+            l,
+            store,
+            up,
+            format::part_of(b, deleted, 32),
+        ),
+    }
+}
+
+// The judgement of an update whose predecessors are all held.
+fn judge_ready(
+    l: Ledger,
+    store: &[u8],
+    b: &[u8],
+    operation: Operation,
+    direct: u64,
+    above: u64,
+) -> Judgement
+    requires { ⌜ l .used ≤ 64 ⌝ }
+    ensures { λ r. ⌜ r ≡ judgeReady l (now (store .entry)) (operationAt (now (b .entry)) operation) direct above ⌝ }
+{
+    if bits::meet(direct, above) != 0 {
+        return Judgement::Fails;
+    }
+    let up = bits::join(direct, above);
+    if valid(l, store, up, b, operation) {
+        Judgement::Holds(up)
+    } else {
+        Judgement::Fails
+    }
+}
+
+// The judgement of an update, from what its predecessors say.
+fn judge_update(l: Ledger, store: &[u8], b: &[u8], u: Parsed) -> Judgement
+    requires { ⌜ l .used ≤ 64 ⌝ }
+    ensures { λ r. ⌜ r ≡ judgeGathered l (now (store .entry)) (valueOf (now (b .entry)) u .op) (gatherAll l nothingGathered (valueOf (now (b .entry)) u .preds)) ⌝ }
+{
+    let g = gather(l, b, u.count);
+    if g.void {
+        return Judgement::Fails;
+    }
+    if g.ready {
+        let operation = u.operation;
+        judge_ready(l, store, b, operation, g.direct, g.above)
+    } else {
+        Judgement::Waits
+    }
+}
+
+// The judgement of the update at place k.
+pub fn judge(l: Ledger, store: &[u8], k: usize) -> Judgement
+    requires { ⌜ (l .used ≤ 64) × (k < 64) ⌝ }
+    ensures { λ r. ⌜ r ≡ judgeAt l (now (store .entry)) k ⌝ }
+{
+    let p = l.place(k);
+    let b = stored(store, k, p.length);
+    match format::read(b) {
+        Reading::Update(u) => judge_update(l, store, b, u),
+        Reading::Refused(_) => Judgement::Waits,
+    }
+}
