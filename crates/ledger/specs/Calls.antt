@@ -51,39 +51,39 @@ abbrev pub stored : List (List ℕ) → List Update
 stored bs = storedFrom [] bs
 
 -- what a standing says of an update, and that the rules give an update only one
-abbrev Says : List Update → Standing → Update → Type 0
+abbrev pub Says : List Update → Standing → Update → Type 0
 Says us IsHeld u = Held ident us u
 Says us IsWaiting u = Waiting ident us u
 Says us IsVoid u = Void ident us u
 
-only-held : (us : List Update) (v : Standing) (u : Update) → Says us v u → Held ident us u → v ≡ IsHeld
+pub only-held : (us : List Update) (v : Standing) (u : Update) → Says us v u → Held ident us u → v ≡ IsHeld
 only-held us IsHeld u a h = refl
 only-held us IsWaiting u a h = absurd (a .not-held h)
 only-held us IsVoid u a h = absurd (held-not-void ident us h a)
 
-only-waiting : (us : List Update) (v : Standing) (u : Update) → Says us v u → Waiting ident us u → v ≡ IsWaiting
+pub only-waiting : (us : List Update) (v : Standing) (u : Update) → Says us v u → Waiting ident us u → v ≡ IsWaiting
 only-waiting us IsHeld u a h = absurd (h .not-held a)
 only-waiting us IsWaiting u a h = refl
 only-waiting us IsVoid u a h = absurd (h .not-void a)
 
-only-void : (us : List Update) (v : Standing) (u : Update) → Says us v u → Void ident us u → v ≡ IsVoid
+pub only-void : (us : List Update) (v : Standing) (u : Update) → Says us v u → Void ident us u → v ≡ IsVoid
 only-void us IsHeld u a h = absurd (held-not-void ident us a h)
 only-void us IsWaiting u a h = absurd (a .not-void h)
 only-void us IsVoid u a h = refl
 
 module _ (l : Ledger) (s : List ℕ) (us : List Update) (stands : Stands l s us) (b : List ℕ) where
   -- an update that the bytes decode to has the id SHA-256 of the bytes
-  decoded-id : {u : Update} → decode b ≡ update u → ident u ≡ SHA-256 b
+  pub decoded-id : {u : Update} → decode b ≡ update u → ident u ≡ SHA-256 b
   unfolding ident
   decoded-id {u} d = ap SHA-256 (decode-sound b u d .1)
 
   -- an id that is found is known, one that is not is new
-  found-known : {u : Update} {k : ℕ} → decode b ≡ update u → findIn l (SHA-256 b) ≡ some k → member (ident u) (map ident us) ≡ true
+  pub found-known : {u : Update} {k : ℕ} → decode b ≡ update u → findIn l (SHA-256 b) ≡ some k → member (ident u) (map ident us) ≡ true
   found-known {u} {k} d f =
       let r = find-right l s us (stands .holds) (SHA-256 b) k f in
       ∈→member (∈-cast (decoded-id d ∙ sym (r .1)) (∈-map ident (stored-at us k (r .0))))
 
-  none-new : {u : Update} → decode b ≡ update u → findIn l (SHA-256 b) ≡ none → member (ident u) (map ident us) ≡ false
+  pub none-new : {u : Update} → decode b ≡ update u → findIn l (SHA-256 b) ≡ none → member (ident u) (map ident us) ≡ false
   none-new {u} d f =
       member-false (ident u) (map ident us)
       (λ m. let r = map-∈ ident us m in find-none l s us (stands .holds) (SHA-256 b) f (r .0) (r .1) (r .2 ∙ decoded-id d))
@@ -135,7 +135,7 @@ module _ (l : Ledger) (s : List ℕ) (us : List Update) (stands : Stands l s us)
   asked-found i o e = rw (stands-sound l s us stands, e)
 
   -- the place of an update says what the rules say
-  says : (v : Standing) (k : ℕ) → k < length us → placeAt l k .standing ≡ v → Says us v (updateAt us k)
+  pub says : (v : Standing) (k : ℕ) → k < length us → placeAt l k .standing ≡ v → Says us v (updateAt us k)
   says IsHeld k h e = stands .truthful .held-right k h e
   says IsWaiting k h e = stands .settled .waiting-right k h e
   says IsVoid k h e = stands .truthful .void-right k h e

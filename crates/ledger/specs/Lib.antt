@@ -2,3 +2,4 @@ pub mod Words
 pub mod Offer
 pub mod Calls
 pub mod Report
+pub mod Answers
