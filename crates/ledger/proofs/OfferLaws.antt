@@ -1,10 +1,10 @@
 -- What an offer and a question answer, from what the calls within them answered.
 -- Assumes nothing.
-use mathlib.Core.Path.{_≡_, refl, sym, ap, subst, _∙_}
+use mathlib.Core.Path.{_≡_, sym, ap, subst, _∙_}
 use Prim.Native.Nat.{ℕ, _-_, _*_, _<_}
 use mathlib.Core.List.{List}
 use mathlib.Core.Option.{none, some}
-use mathlib.Core.Bool.{Bool, true, false}
+use mathlib.Core.Bool.{true, false}
 use Rattle.sha256.specs.Fips180.{SHA-256}
 use Rattle.format.specs.Update.{Id, maxLength}
 use Rattle.format.specs.Decode.{decode}
