@@ -1,2 +1,3 @@
 pub mod TakeLaws
 pub mod OfferLaws
+pub mod ReportLaws

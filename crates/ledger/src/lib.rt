@@ -2,6 +2,7 @@
 // alone. The bookkeeping goes in by value and the new one comes back; the updates' bytes lie in a store that the caller lends.
 ghost use mathlib.Core.Path.{_≡_};
 ghost use Rattle.ledger.specs.Offer.{Offering, askedOf, freshLedger};
+ghost use Rattle.ledger.specs.Report.{Reporting};
 pub use state::Ledger;
 pub use state::Standing;
 
@@ -102,4 +103,20 @@ pub fn standing(ledger: Ledger, store: &[u8], id: [u8; 32]) -> Asked
 pub enum Reported {
     Written(usize),
     Refused(Refusal),
+}
+
+// Puts the report at the start of the output buffer; the bytes after it keep their values.
+pub fn report(ledger: Ledger, store: &[u8], out: &mut [u8]) -> Reported
+    ensures { λ r. ⌜ Reporting ledger (now (store .entry)) (now (out .entry)) r (now (out .exit)) ⌝ }
+{
+    if !sound(ledger, store) {
+        return Reported::Refused(Refusal::Unfit);
+    }
+    let mut page = [0u8; 1];
+    let length = report::print(ledger, store, &mut page);
+    if out.len() < length {
+        return Reported::Refused(Refusal::Short);
+    }
+    report::print(ledger, store, out);
+    Reported::Written(length)
 }

@@ -1,0 +1,247 @@
+-- The tests of places, from what their parts answer.
+-- Assumes nothing.
+use Prim.Native.Nat.{ℕ, zero, suc, _+_, _≤_, _<_}
+use mathlib.Core.Path.{_≡_, refl, sym, ap, ap₂, _∙_}
+use mathlib.Core.Logic.{⊎-elim}
+use mathlib.Core.List.{List, [], _∷_, _++_, append-nil}
+use mathlib.Core.Bool.{Bool, true, false, cond, not, _&&_, _||_}
+use native.Mathlib.Nat.{le-of-suc-le-suc, eq-or-lt-of-le}
+use native.Mathlib.Numerals.{add-one}
+use native.Mathlib.Omega.{arith}
+use borrow.Author.Tests.{eq-eqb, ne-eqb, eqb-true}
+use lib.Dec.{eqb}
+use Rattle.keys.specs.BoolLaws.{or-left, or-right, test-ext}
+use Rattle.keys.specs.Member.{keep}
+use Rattle.keys.specs.MemberLaws.{keep-append, keep-cong}
+use Rattle.rules.specs.Settle.{isInsert}
+use Rattle.bits.specs.Below.{anyBelow, upTo}
+use Rattle.bits.specs.Bits.{has, including, count}
+use Rattle.bits.specs.BitsLaws.{has-including, has-none}
+use Rattle.state.specs.declared.Ledger.{Ledger}
+use Rattle.state.specs.declared.Standing.{Standing}
+use Rattle.state.specs.declared.Standing.the-variants.{Held, Waiting, Void}
+use Rattle.state.specs.State.{placeAt, isHeld, isWaiting, isVoid}
+use Rattle.state.specs.Judge.{testOf}
+use Rattle.report.specs.declared.Relation.{Relation}
+use Rattle.report.specs.declared.Relation.the-variants.{Covers, Forks, Removes, Deletes}
+use Rattle.report.specs.Board.{idAt, decodedAt, heldAt, waitingAt, voidAt, authorAt, coveredAt, headAt, forkedWith, forkedAt, markedAt, marksOf, removedAt, isAnyAdd, presentAt, insertAt, rankAt, deletedAt, shownAt}
+use Rattle.report.specs.Pieces.{numberOf, standsAs, neither, relates, someHeld, ranked}
+
+-- a test of the numbers below n
+pub any-hit : (n : ℕ) (p : ℕ → Bool) (k : ℕ) → k < n → p k ≡ true → anyBelow n p ≡ true
+unfolding anyBelow
+any-hit zero p k h e = absurd (omega arith)
+any-hit (suc n) p k h e =
+    ⊎-elim
+    (λ (q : k ≡ n). or-right (anyBelow n p) (p n) (ap p (sym q) ∙ e))
+    (λ (g : k < n). or-left (anyBelow n p) (p n) (any-hit n p k g e))
+    (eq-or-lt-of-le (le-of-suc-le-suc h))
+
+pub any-more : (n : ℕ) (p : ℕ → Bool) → anyBelow (n + 1) p ≡ anyBelow n p || p n
+unfolding anyBelow
+any-more n p = ap (λ (m : ℕ). anyBelow m p) (add-one n)
+
+pub any-zero : (p : ℕ → Bool) → anyBelow 0 p ≡ false
+unfolding anyBelow
+any-zero p = refl
+
+eqb-sym : (a b : ℕ) → eqb a b ≡ eqb b a
+eqb-sym a b = test-ext (eqb a b) (eqb b a) (λ e. eq-eqb b a (sym (eqb-true a b e))) (λ e. eq-eqb a b (sym (eqb-true b a e)))
+
+both-true : {a b c : Bool} → a ≡ true → b ≡ c → b ≡ (a && c)
+both-true {a} {b} {c} e f = f ∙ ap (λ (x : Bool). x && c) (sym e)
+
+first-false : {a : Bool} (c : Bool) → a ≡ false → false ≡ (a && c)
+first-false c e = ap (λ (x : Bool). x && c) (sym e)
+
+module _ (l : Ledger) (k : ℕ) where
+  pub apart-same : (q : ℕ) → k ≡ q → false ≡ neither l k q
+  apart-same q e = sym (ap (λ (b : Bool). not b && (not (has (placeAt l q .ancestors) k) && not (has (placeAt l k .ancestors) q))) (eq-eqb k q e))
+
+  pub apart-above : (q : ℕ) {b : Bool} → (k ≡ q → ⊥) → b ≡ has (placeAt l q .ancestors) k → b ≡ true → false ≡ neither l k q
+  apart-above q n e t =
+      sym
+      (ap₂ (λ (x y : Bool). not x && (not y && not (has (placeAt l k .ancestors) q))) (ne-eqb k q n) (sym e ∙ t))
+
+  pub apart-below : (q : ℕ) {b c : Bool} → (k ≡ q → ⊥) → b ≡ has (placeAt l q .ancestors) k → b ≡ false → c ≡ has (placeAt l k .ancestors) q → not c ≡ neither l k q
+  apart-below q n e t f =
+      ap not f ∙ sym (ap₂ (λ (x y : Bool). not x && (not y && not (has (placeAt l k .ancestors) q))) (ne-eqb k q n) (sym e ∙ t))
+
+module _ (l : Ledger) (s : List ℕ) (k : ℕ) where
+  -- the standings
+  pub held-is : {b : Bool} → b ≡ standsAs l Held k → b ≡ heldAt l s k
+  unfolding heldAt isHeld
+  held-is e = e ∙ go (placeAt l k .standing)
+    where
+      go : (v : Standing) → eqb (numberOf v) 0 ≡ isHeld v
+      go Held = refl
+      go Waiting = refl
+      go Void = refl
+
+  pub waiting-is : {b : Bool} → b ≡ standsAs l Waiting k → b ≡ waitingAt l s k
+  unfolding waitingAt isWaiting
+  waiting-is e = e ∙ go (placeAt l k .standing)
+    where
+      go : (v : Standing) → eqb (numberOf v) 1 ≡ isWaiting v
+      go Held = refl
+      go Waiting = refl
+      go Void = refl
+
+  pub void-is : {b : Bool} → b ≡ standsAs l Void k → b ≡ voidAt l s k
+  unfolding voidAt isVoid
+  void-is e = e ∙ go (placeAt l k .standing)
+    where
+      go : (v : Standing) → eqb (numberOf v) 2 ≡ isVoid v
+      go Held = refl
+      go Waiting = refl
+      go Void = refl
+
+  module _ {b : Bool} (h : b ≡ standsAs l Held k) where
+    yes : b ≡ true → heldAt l s k ≡ true
+    yes e = sym (held-is h) ∙ e
+
+    no : b ≡ false → heldAt l s k ≡ false
+    no e = sym (held-is h) ∙ e
+
+    -- a held place that stands so to another
+    pub held-related : (r : Relation) (j : ℕ) {c : Bool} → b ≡ true → c ≡ relates l s r j k → c ≡ heldAt l s k && relates l s r j k
+    held-related r j e f = both-true (yes e) f
+
+    pub held-unrelated : (r : Relation) (j : ℕ) → b ≡ false → false ≡ heldAt l s k && relates l s r j k
+    held-unrelated r j e = first-false (relates l s r j k) (no e)
+
+    pub head-held : {c : Bool} → b ≡ true → c ≡ someHeld l s Covers k → not c ≡ headAt l s k
+    unfolding headAt coveredAt someHeld
+    head-held e f = both-true (yes e) (ap not f)
+
+    pub head-none : b ≡ false → false ≡ headAt l s k
+    unfolding headAt
+    head-none e = first-false (not (coveredAt l s k)) (no e)
+
+    pub forked-held : {c : Bool} → b ≡ true → c ≡ someHeld l s Forks k → c ≡ forkedAt l s k
+    unfolding forkedAt forkedWith someHeld
+    forked-held e f = both-true (yes e) f
+
+    pub forked-none : b ≡ false → false ≡ forkedAt l s k
+    unfolding forkedAt
+    forked-none e = first-false (anyBelow (l .used) (forkedWith l s k)) (no e)
+
+    pub present-none : b ≡ false → false ≡ presentAt l s k
+    unfolding presentAt
+    present-none e = first-false (testOf isAnyAdd (decodedAt l s k) && not (removedAt l s (idAt l s k))) (no e)
+
+    pub present-other : {c : Bool} → b ≡ true → c ≡ testOf isAnyAdd (decodedAt l s k) → c ≡ false → false ≡ presentAt l s k
+    unfolding presentAt
+    present-other e f g = both-true (yes e) (first-false (not (removedAt l s (idAt l s k))) (sym f ∙ g))
+
+    pub present-add : {c d : Bool} → b ≡ true → c ≡ testOf isAnyAdd (decodedAt l s k) → c ≡ true → d ≡ someHeld l s Removes k → not d ≡ presentAt l s k
+    unfolding presentAt removedAt someHeld
+    present-add e f g r = both-true (yes e) (both-true (sym f ∙ g) (ap not r))
+
+    pub ranked-none : (n : ℕ) → b ≡ false → false ≡ ranked l s n k
+    unfolding ranked insertAt
+    ranked-none n e = ap (λ (x : Bool). (x && testOf isInsert (decodedAt l s k)) && eqb (rankAt l s k) n) (sym (no e))
+
+    pub ranked-other : (n : ℕ) {c : Bool} → b ≡ true → c ≡ testOf isInsert (decodedAt l s k) → c ≡ false → false ≡ ranked l s n k
+    unfolding ranked insertAt
+    ranked-other n e f g = ap₂ (λ (x y : Bool). (x && y) && eqb (rankAt l s k) n) (sym (yes e)) (sym (sym f ∙ g))
+
+    pub ranked-insert : (n : ℕ) {c : Bool} {m : ℕ} → b ≡ true → c ≡ testOf isInsert (decodedAt l s k) → c ≡ true → m ≡ count (placeAt l k .ancestors) → eqb m n ≡ ranked l s n k
+    unfolding ranked insertAt rankAt
+    ranked-insert n e f g r =
+        ap (λ (m : ℕ). eqb m n) r ∙ ap₂ (λ (x y : Bool). (x && y) && eqb (rankAt l s k) n) (sym (yes e)) (sym (sym f ∙ g))
+
+  pub shown-is : {c : Bool} → c ≡ someHeld l s Deletes k → not c ≡ shownAt l s k
+  unfolding shownAt deletedAt someHeld
+  shown-is e = ap not e
+
+  -- some held place, one after the other
+  module _ (r : Relation) where
+    abbrev passes : ℕ → Bool
+    passes q = heldAt l s q && relates l s r k q
+
+    pub some-start : anyBelow 0 passes ≡ false
+    some-start = any-zero passes
+
+    pub some-hit : (q : ℕ) {b : Bool} → q < l .used → b ≡ passes q → b ≡ true → true ≡ someHeld l s r k
+    unfolding someHeld
+    some-hit q h e t = sym (any-hit (l .used) passes q h (sym e ∙ t))
+
+    pub some-more : (q : ℕ) {b : Bool} → anyBelow q passes ≡ false → b ≡ passes q → b ≡ false → anyBelow (q + 1) passes ≡ false
+    some-more q i e t = any-more q passes ∙ ap₂ _||_ i (sym e ∙ t)
+
+    pub some-end : (q : ℕ) → q ≤ l .used → l .used ≤ q → anyBelow q passes ≡ false → false ≡ someHeld l s r k
+    unfolding someHeld
+    some-end q h g i = let e : q ≡ l .used = omega arith in sym i ∙ ap (λ (m : ℕ). anyBelow m passes) e
+
+  -- two updates of one author
+  pub fork-yes : (q : ℕ) {a b : ℕ} {c : Bool} → a ≡ authorAt l s k → b ≡ authorAt l s q → a ≡ b → c ≡ neither l k q → c ≡ relates l s Forks k q
+  fork-yes q e f g h = both-true (eq-eqb (authorAt l s k) (authorAt l s q) (sym e ∙ g ∙ f)) h
+
+  pub fork-no : (q : ℕ) {a b : ℕ} → a ≡ authorAt l s k → b ≡ authorAt l s q → (a ≡ b → ⊥) → false ≡ relates l s Forks k q
+  fork-no q e f g = first-false (neither l k q) (ne-eqb (authorAt l s k) (authorAt l s q) (λ h. g (e ∙ h ∙ sym f)))
+
+-- the marked authors
+module _ (l : Ledger) (s : List ℕ) where
+  -- place k marks author a
+  abbrev marksAt : ℕ → ℕ → Bool
+  marksAt a k = eqb (authorAt l s k) a && forkedAt l s k
+
+  pub author-added : (w k a : ℕ) {b : Bool} {c m : ℕ} → b ≡ forkedAt l s k → b ≡ true → c ≡ authorAt l s k → c ≤ 15 → m ≡ including w c → has m a ≡ has w a || marksAt a k
+  author-added w k a e t f h g =
+      ap (λ (x : ℕ). has x a) g
+      ∙ has-including w _ a (omega arith)
+      ∙ ap (λ (x : Bool). has w a || x) (eqb-sym a _ ∙ ap (λ (c : ℕ). eqb c a) f ∙ tail (eqb (authorAt l s k) a) ∙ ap (λ (x : Bool). eqb (authorAt l s k) a && x) (sym (sym e ∙ t)))
+    where
+      tail : (x : Bool) → x ≡ (x && true)
+      tail true = refl
+      tail false = refl
+
+  pub author-kept : (w k a : ℕ) {b : Bool} → b ≡ forkedAt l s k → b ≡ false → has w a ≡ has w a || marksAt a k
+  author-kept w k a e t = go (has w a) (eqb (authorAt l s k) a) ∙ ap (λ (x : Bool). has w a || (eqb (authorAt l s k) a && x)) (sym (sym e ∙ t))
+    where
+      go : (x y : Bool) → x ≡ x || (y && false)
+      go true y = refl
+      go false true = refl
+      go false false = refl
+
+  pub marked-start : (a : ℕ) → has 0 a ≡ anyBelow 0 (marksAt a)
+  marked-start a = has-none a ∙ sym (any-zero (marksAt a))
+
+  pub marked-more : (w w′ k : ℕ) → ((a : ℕ) → has w a ≡ anyBelow k (marksAt a)) → ((a : ℕ) → has w′ a ≡ has w a || marksAt a k) → (a : ℕ) → has w′ a ≡ anyBelow (k + 1) (marksAt a)
+  marked-more w w′ k i e a = e a ∙ ap (λ (x : Bool). x || marksAt a k) (i a) ∙ sym (any-more k (marksAt a))
+
+  pub marked-end : (w k : ℕ) → k ≤ l .used → l .used ≤ k → ((a : ℕ) → has w a ≡ anyBelow k (marksAt a)) → (a : ℕ) → has w a ≡ markedAt l s a
+  unfolding markedAt
+  marked-end w k h g i a = let e : k ≡ l .used = omega arith in i a ∙ ap (λ (m : ℕ). anyBelow m (marksAt a)) e
+
+  pub marks-end : (w a : ℕ) → a ≤ 16 → 16 ≤ a → ((a : ℕ) → has w a ≡ markedAt l s a) → keep (has w) (upTo a) ≡ marksOf l s
+  unfolding marksOf
+  marks-end w a h g i =
+      let e : a ≡ 16 = omega arith in
+      ap (λ (m : ℕ). keep (has w) (upTo m)) e ∙ keep-cong (has w) (markedAt l s) (upTo 16) (λ x m. i x)
+
+pub upTo-more : (p : ℕ → Bool) (a : ℕ) → keep p (upTo a) ++ keep p (a ∷ []) ≡ keep p (upTo (a + 1))
+unfolding upTo
+upTo-more p a = sym (ap (λ (m : ℕ). keep p (upTo m)) (add-one a) ∙ keep-append p (upTo a) (a ∷ []))
+
+pub upTo-start : (p : ℕ → Bool) → [] ≡ keep p (upTo 0)
+unfolding upTo keep
+upTo-start p = refl
+
+-- one more at the end
+pub keep-yes : (p : ℕ → Bool) (xs : List ℕ) (a : ℕ) {b : Bool} → b ≡ p a → b ≡ true → xs ++ (a ∷ []) ≡ xs ++ keep p (a ∷ [])
+unfolding keep
+keep-yes p xs a e t = ap (λ (b : Bool). xs ++ cond b (a ∷ []) []) (sym (sym e ∙ t))
+
+pub keep-nothing : (p : ℕ → Bool) (xs : List ℕ) (a : ℕ) {b : Bool} → b ≡ p a → b ≡ false → xs ≡ xs ++ keep p (a ∷ [])
+unfolding keep
+keep-nothing p xs a e t = sym (append-nil xs) ∙ ap (λ (b : Bool). xs ++ cond b (a ∷ []) []) (sym (sym e ∙ t))
+
+pub keep-no : (p : ℕ → Bool) (a : ℕ) {b : Bool} → b ≡ p a → b ≡ false → [] ≡ keep p (a ∷ [])
+unfolding keep
+keep-no p a e t = ap (λ (b : Bool). cond b (a ∷ []) []) (sym (sym e ∙ t))
+
+pub keep-one : (p : ℕ → Bool) (a : ℕ) {b : Bool} → b ≡ p a → b ≡ true → a ∷ [] ≡ keep p (a ∷ [])
+unfolding keep
+keep-one p a e t = ap (λ (b : Bool). cond b (a ∷ []) []) (sym (sym e ∙ t))

@@ -1,0 +1,38 @@
+-- `update_line` meets its contract.
+-- Assumes nothing.
+use native.Mathlib.Omega.{arith}
+use borrow.Author.Needs.{needs}
+use denote.Ref.{now}
+use Rattle.report.proofs.Printing.{both, same-text}
+use Rattle.report.proofs.Wording.{update-line}
+use Rattle.report.proofs.lines.update_line.Statement.{statement}
+use Rattle.report.proofs.lines.update_line.Tie as tie
+
+pub update-line-spec : {M : Type 1} → statement M
+update-line-spec =
+    tie.close
+    (tie.spec
+    (λ c κs. search needs)
+    (λ c κs. search needs)
+    (λ c. search needs)
+    (λ c κs. search needs)
+    (λ c κs.
+    let pre = c .before .before .before .before .before .before .before .before .before .before .before .before .before .pre in
+    let author-at = c .before .before .before .before .before .before .before .before .before .before .author-at in
+    let open-id = c .before .before .before .before .before .before .before .before .open-id in (
+      omega (arith, c .before .before .before .put .ensures .past, open-id .ensures .1, pre .0),
+      omega (arith, author-at .ensures .1),
+    ))
+    (λ c. search needs)
+    (λ c κs. search needs)
+    (λ c. search needs)
+    (λ c.
+    let args = c .before .before .before .before .before .before .before .before .before .before .before .before .before .before .before .before .before .before .before .before .before .args in
+    let author-at = c .before .before .before .before .before .before .before .before .before .before .before .before .before .before .before .before .before .before .author-at in
+    let open-id = c .before .before .before .before .before .before .before .before .before .before .before .before .before .before .before .before .open-id in
+    let put′ = c .before .before .before .before .before .before .before .before .before .before .before .put in
+    let decimal′ = c .before .before .before .before .before .before .before .decimal in
+    let put2 = c .before .before .put2 in (
+      same-text (update-line (args .l) (now (args .store)) (args .k) (author-at .result) (author-at .ensures .0)) (both (open-id .ensures .0) (both (put′ .ensures) (both (decimal′ .ensures .0) (put2 .ensures)))),
+      omega (arith, put2 .ensures .past, decimal′ .ensures .1, put′ .ensures .past, open-id .ensures .1),
+    )))

@@ -1,0 +1,31 @@
+-- `shown_line` meets its contract.
+-- Assumes nothing.
+use mathlib.Core.Path.{sym, ap, _∙_}
+use mathlib.Core.List.{[]}
+use mathlib.Core.Bool.{Bool, cond}
+use borrow.Author.Needs.{needs}
+use denote.Ref.{now}
+use Rattle.report.specs.Pieces.{lineOf}
+use Rattle.report.proofs.Printing.{nothing, same-text}
+use Rattle.report.proofs.parts.shown_line.Statement.{statement}
+use Rattle.report.proofs.parts.shown_line.Tie as tie
+
+pub shown-line-spec : {M : Type 1} → statement M
+shown-line-spec =
+    tie.close
+    (tie.spec
+    (λ c κs. search needs)
+    (λ c κs. search needs)
+    (λ c. search needs)
+    (λ c.
+    let args = c .before .before .before .before .before .before .before .before .args in
+    let shows = c .before .before .before .before .before .shows in
+    let line = c .before .before .line in (
+      same-text (ap (λ (b : Bool). cond b (lineOf (args .l) (now (args .store)) (args .part) (args .k)) []) (sym (sym (shows .ensures) ∙ c .before .before .before .before .if1 .taken))) (line .ensures .0),
+      line .ensures .1,
+    ))
+    (λ c.
+    let args = c .before .before .before .before .args in (
+      same-text (ap (λ (b : Bool). cond b (lineOf (args .l) (now (args .store)) (args .part) (args .k)) []) (sym (sym (c .before .shows .ensures) ∙ c .if1 .left))) (nothing (now (args .page)) (args .at)),
+      search needs,
+    )))

@@ -1,0 +1,51 @@
+-- `shows` meets its contract, by the part.
+-- Assumes nothing.
+use mathlib.Core.Path.{sym, ap, _∙_}
+use borrow.Author.Needs.{needs}
+use denote.Ref.{now}
+use Rattle.report.specs.declared.Part.{Part}
+use Rattle.report.specs.Pieces.{passes}
+use Rattle.report.proofs.Testing.{held-is, waiting-is, void-is}
+use Rattle.report.proofs.parts.shows.Statement.{statement}
+use Rattle.report.proofs.parts.shows.Tie as tie
+
+pub shows-spec : {M : Type 1} → statement M
+shows-spec =
+    tie.close
+    (tie.spec
+    (λ c. search needs)
+    (λ c κs. search needs)
+    (λ c. search needs)
+    (λ c κs. search needs)
+    (λ c. search needs)
+    (λ c κs. search needs)
+    (λ c. search needs)
+    (λ c κs. search needs)
+    (λ c. search needs)
+    (λ c. search needs)
+    (λ c. search needs)
+    (λ c κs. search needs)
+    (λ c.
+    let args = c .before .before .before .before .args in
+    held-is (args .l) (now (args .store)) (args .k) (c .stands .ensures)
+    ∙ ap (λ (p : Part). passes (args .l) (now (args .store)) p (args .k)) (sym (c .before .enum-told .given .1)))
+    (λ c.
+    let args = c .before .before .before .before .args in
+    c .is-head .ensures ∙ ap (λ (p : Part). passes (args .l) (now (args .store)) p (args .k)) (sym (c .before .enum-told2 .given .1)))
+    (λ c.
+    let args = c .before .before .before .before .args in
+    waiting-is (args .l) (now (args .store)) (args .k) (c .stands2 .ensures)
+    ∙ ap (λ (p : Part). passes (args .l) (now (args .store)) p (args .k)) (sym (c .before .enum-told3 .given .1)))
+    (λ c.
+    let args = c .before .before .before .before .args in
+    void-is (args .l) (now (args .store)) (args .k) (c .stands3 .ensures)
+    ∙ ap (λ (p : Part). passes (args .l) (now (args .store)) p (args .k)) (sym (c .before .enum-told4 .given .1)))
+    (λ c.
+    let args = c .before .before .before .args in
+    ap (λ (p : Part). passes (args .l) (now (args .store)) p (args .k)) (sym (c .enum-told5 .given .1)))
+    (λ c.
+    let args = c .before .before .before .args in
+    ap (λ (p : Part). passes (args .l) (now (args .store)) p (args .k)) (sym (c .enum-told6 .given .1)))
+    (λ c.
+    let args = c .before .before .before .before .args in
+    c .is-shown .ensures ∙ ap (λ (p : Part). passes (args .l) (now (args .store)) p (args .k)) (sym (c .before .enum-told7 .given .1))))

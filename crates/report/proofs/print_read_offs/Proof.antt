@@ -1,0 +1,54 @@
+-- `print_read_offs` meets its contract.
+-- Assumes nothing.
+use mathlib.Core.Path.{ap, _∙_}
+use native.Mathlib.Omega.{arith}
+use borrow.Author.Needs.{needs}
+use denote.Ref.{now}
+use Rattle.report.specs.Pieces.{partOf}
+use Rattle.report.proofs.Printing.{both, same-text}
+use Rattle.report.proofs.Wording.{read-offs-is, sorted-tags}
+use Rattle.report.specs.declared.Part.the-variants.{Marks, Set, List as Entries}
+use Rattle.report.proofs.print_read_offs.Statement.{statement}
+use Rattle.report.proofs.print_read_offs.Tie as tie
+
+pub print-read-offs-spec : {M : Type 1} → statement M
+print-read-offs-spec =
+    tie.close
+    (tie.spec
+    (λ c κs. search needs)
+    (λ c κs.
+    let pre = c .before .before .before .before .pre in
+    (pre .0, c .before .marks .ensures .sound, omega (arith, pre .2)))
+    (λ c κs. search needs)
+    (λ c κs.
+    let pre = c .before .before .before .before .before .before .before .before .before .pre in (
+      pre .0,
+      c .before .sorted .ensures .sound,
+      omega (arith, pre .2, c .before .before .before .before .print .ensures .1),
+    ))
+    (λ c κs.
+    let pre = c .before .before .before .before .before .before .before .before .before .before .before .before .pre in
+    (pre .0, pre .1))
+    (λ c κs.
+    let pre = c .before .before .before .before .before .before .before .before .before .before .before .before .before .before .pre in
+    let print = c .before .before .before .before .before .before .before .before .before .print in (
+      pre .0,
+      c .before .entries .ensures .sound,
+      omega (arith, pre .2, print .ensures .1, c .before .before .before .before .print2 .ensures .1),
+    ))
+    (λ c. search needs)
+    (λ c κs.
+    let pre = c .before .before .before .before .before .before .before .before .before .before .before .before .before .before .before .before .before .before .before .pre in
+    let print = c .before .before .before .before .before .before .before .before .before .before .before .before .before .before .print in
+    let print2 = c .before .before .before .before .before .before .before .before .before .print2 in
+    omega (arith, pre .2, print .ensures .1, print2 .ensures .1, c .before .before .before .before .print3 .ensures .1))
+    (λ c. search needs)
+    (λ c.
+    let args = c .before .before .before .before .before .before .before .before .before .before .before .before .before .before .before .before .before .before .before .before .before .before .args in
+    let marks = c .before .before .before .before .before .before .before .before .before .before .before .before .before .before .before .before .before .before .before .marks in
+    let print = c .before .before .before .before .before .before .before .before .before .before .before .before .before .before .before .before .before .print in
+    let sorted = c .before .before .before .before .before .before .before .before .before .before .before .before .before .before .sorted in
+    let print2 = c .before .before .before .before .before .before .before .before .before .before .before .before .print2 in
+    let entries = c .before .before .before .before .before .before .before .before .before .entries in
+    let print3 = c .before .before .before .before .before .before .before .print3 in
+    same-text (read-offs-is (args .l) (now (args .store))) (both (same-text (ap (partOf (args .l) (now (args .store)) Marks) (marks .ensures .are)) (print .ensures .0)) (both (same-text (ap (partOf (args .l) (now (args .store)) Set) (sorted .ensures .are ∙ sorted-tags (args .l) (now (args .store)))) (print2 .ensures .0)) (both (same-text (ap (partOf (args .l) (now (args .store)) Entries) (entries .ensures .are)) (print3 .ensures .0)) (c .before .before .put .ensures))))))

@@ -1,0 +1,20 @@
+-- `is_forked` meets its contract.
+-- Assumes nothing.
+use borrow.Author.Needs.{needs}
+use denote.Ref.{now}
+use Rattle.report.proofs.Testing.{forked-held, forked-none}
+use Rattle.report.proofs.tests.is_forked.Statement.{statement}
+use Rattle.report.proofs.tests.is_forked.Tie as tie
+
+pub is-forked-spec : {M : Type 1} → statement M
+is-forked-spec =
+    tie.close
+    (tie.spec
+    (λ c κs. search needs)
+    (λ c κs. search needs)
+    (λ c.
+    let args = c .before .before .before .before .args in
+    forked-held (args .l) (now (args .store)) (args .k) (c .before .before .stands .ensures) (c .before .if1 .taken) (c .some-held .ensures))
+    (λ c.
+    let args = c .before .before .before .args in
+    forked-none (args .l) (now (args .store)) (args .k) (c .before .stands .ensures) (c .if1 .left)))

@@ -1,0 +1,19 @@
+-- `stands` meets its contract.
+-- Assumes nothing.
+use mathlib.Core.Path.{ap, ap₂, _∙_}
+use borrow.Author.Needs.{needs}
+use lib.Dec.{eqb}
+use Rattle.state.specs.declared.Place.{Place}
+use Rattle.report.specs.Pieces.{numberOf}
+use Rattle.report.proofs.tests.stands.Statement.{statement}
+use Rattle.report.proofs.tests.stands.Tie as tie
+
+pub stands-spec : {M : Type 1} → statement M
+stands-spec =
+    tie.close
+    (tie.spec
+    (λ c κs. search needs)
+    (λ c κs. search needs)
+    (λ c κs. search needs)
+    (λ c.
+    ap₂ eqb (c .before .number .ensures ∙ ap (λ (p : Place). numberOf (p .standing)) (c .before .before .place .ensures)) (c .number2 .ensures)))

@@ -1,0 +1,10 @@
+pub mod Board
+pub mod Text
+pub mod Pieces
+pub mod ListFacts
+pub mod PlaceLaws
+pub mod RowLaws
+pub mod PartLaws
+pub mod EntryLaws
+pub mod ListedLaws
+pub mod TextRight

@@ -1,0 +1,88 @@
+// The report of a ledger and its store, printed on a page that the caller lends.
+ghost use mathlib.Core.Path.{_≡_};
+ghost use Prim.Native.Nat.{_≤_};
+ghost use Rattle.report.specs.Text.{textOf, Prints};
+ghost use Rattle.report.specs.Pieces.{Lists, standings, readOffs};
+ghost use Rattle.report.specs.Board.{order as orderOf};
+
+pub mod digits;
+mod lines;
+mod list;
+mod listed;
+mod marks;
+pub mod page;
+mod parts;
+pub mod read;
+pub mod sorted;
+pub mod tests;
+
+use state::Ledger;
+use state::PLACES;
+
+// A list of places, the first `count` of the items.
+pub struct Places {
+    pub count: usize,
+    pub items: [usize; PLACES],
+}
+
+// The parts of the report.
+pub enum Part {
+    Held,
+    Heads,
+    Waiting,
+    Void,
+    Marks,
+    Set,
+    List,
+}
+
+// What an ascending list of places goes by.
+pub enum Key {
+    Id,
+    Tag,
+}
+
+// How a held place can stand to another place.
+pub enum Relation {
+    Covers,
+    Forks,
+    Removes,
+    Deletes,
+}
+
+// The parts that go by standing.
+fn print_standings(l: Ledger, store: &[u8], order: Places, page: &mut [u8]) -> usize
+    requires { ⌜ (l .used ≤ 64) × Lists order (orderOf l (now store)) ⌝ }
+    ensures prints { λ r. ⌜ Prints (now (page .entry)) 0 (standings l (now (store .entry))) (now (page .exit)) r ⌝ }
+    ensures small { λ r. ⌜ r ≤ 30000 ⌝ }
+{
+    let start = page::put(page, 0, b"(ledger 1\n");
+    let held = parts::print(l, store, Part::Held, order, page, start);
+    let heads = parts::print(l, store, Part::Heads, order, page, held);
+    let waiting = parts::print(l, store, Part::Waiting, order, page, heads);
+    parts::print(l, store, Part::Void, order, page, waiting)
+}
+
+// The parts that are read from the held updates, and the closing bracket.
+fn print_read_offs(l: Ledger, store: &[u8], order: Places, page: &mut [u8], at: usize) -> usize
+    requires { ⌜ (l .used ≤ 64) × Lists order (orderOf l (now store)) × (at ≤ 30000) ⌝ }
+    ensures { λ r. ⌜ Prints (now (page .entry)) at (readOffs l (now (store .entry))) (now (page .exit)) r ⌝ }
+{
+    let marked = marks::marks(l, store);
+    let marks = parts::print(l, store, Part::Marks, marked, page, at);
+    let tagged = sorted::sorted(l, store, Key::Tag);
+    let set = parts::print(l, store, Part::Set, tagged, page, marks);
+    let entries = list::entries(l, store, order);
+    let list = parts::print(l, store, Part::List, entries, page, set);
+    page::put(page, list, b")\n")
+}
+
+// Prints the report of a ledger and its store at the start of the page.
+pub fn print(l: Ledger, store: &[u8], page: &mut [u8]) -> usize
+    requires { ⌜ l .used ≤ 64 ⌝ }
+    ensures { λ r. ⌜ Prints (now (page .entry)) 0 (textOf l (now (store .entry))) (now (page .exit)) r ⌝ }
+{
+    let order = sorted::sorted(l, store, Key::Id);
+    let standings = print_standings(l, store, order, page);
+    print_read_offs(l, store, order, page, standings)
+}

@@ -1,0 +1,92 @@
+// Ascending lists of places.
+ghost use mathlib.Core.Path.{_≡_};
+ghost use mathlib.Core.Bool.{cond};
+ghost use Prim.Native.Nat.{_+_, _≤_, _<_};
+ghost use Rattle.keys.specs.Compare.{orderOf};
+ghost use Rattle.state.specs.State.{placeAt};
+ghost use Rattle.keys.specs.Sort.{insert as insertBy};
+ghost use Rattle.report.specs.Pieces.{placesIn, Sound, Lists, keyOf, candidate as candidateOf, sortedBy};
+use crate::Key;
+use crate::Places;
+use crate::read;
+use crate::tests;
+use keys::Order;
+use state::Ledger;
+
+// How the id of place j stands to that of place k.
+fn compare_ids(l: Ledger, j: usize, k: usize) -> Order
+    requires { ⌜ (j < 64) × (k < 64) ⌝ }
+    ensures { λ r. ⌜ r ≡ orderOf (placeAt l j .id) (placeAt l k .id) ⌝ }
+{
+    let p = l.place(j);
+    let a = p.id;
+    let q = l.place(k);
+    let b = q.id;
+    keys::compare(&a, &b)
+}
+
+// How the key of place j stands to that of place k.
+fn compare(l: Ledger, store: &[u8], key: Key, j: usize, k: usize) -> Order
+    requires { ⌜ (j < 64) × (k < 64) ⌝ }
+    ensures { λ r. ⌜ r ≡ orderOf (keyOf l (now (store .entry)) key j) (keyOf l (now (store .entry)) key k) ⌝ }
+{
+    match key {
+        Key::Id => compare_ids(l, j, k),
+        Key::Tag => keys::compare(read::tag_at(l, store, j), read::tag_at(l, store, k)),
+    }
+}
+
+// The list with place j among it, unless its key is there.
+fn insert(l: Ledger, store: &[u8], key: Key, places: Places, j: usize) -> Places
+    requires { ⌜ Sound places × (places .count < 64) × (j < 64) ⌝ }
+    ensures { λ r. ⌜ Lists r (insertBy (keyOf l (now (store .entry)) key) j (placesIn places)) × (r .count ≤ places .count + 1) ⌝ }
+{
+    let count = places.count;
+    let mut i: usize = 0;
+    while i < count {
+        let k = places.items[i];
+        match compare(l, store, key, j, k) {
+            Order::Less => return places.insert(i, j),
+            Order::Equal => return places,
+            Order::Greater => i += 1,
+        }
+    }
+    places.insert(i, j)
+}
+
+// Whether place k is listed.
+fn candidate(l: Ledger, store: &[u8], key: Key, k: usize) -> bool
+    requires { ⌜ (l .used ≤ 64) × (k < 64) ⌝ }
+    ensures { λ r. ⌜ r ≡ candidateOf l (now (store .entry)) key k ⌝ }
+{
+    match key {
+        Key::Id => true,
+        Key::Tag => tests::is_present(l, store, k),
+    }
+}
+
+// The list with place k among it, if it is listed.
+fn insert_listed(l: Ledger, store: &[u8], key: Key, places: Places, k: usize) -> Places
+    requires { ⌜ (l .used ≤ 64) × Sound places × (places .count < 64) × (k < 64) ⌝ }
+    ensures { λ r. ⌜ Lists r (cond (candidateOf l (now (store .entry)) key k) (insertBy (keyOf l (now (store .entry)) key) k (placesIn places)) (placesIn places)) × (r .count ≤ places .count + 1) ⌝ }
+{
+    if candidate(l, store, key, k) {
+        insert(l, store, key, places, k)
+    } else {
+        places
+    }
+}
+
+// The listed places, ascending by key, of each key one.
+pub fn sorted(l: Ledger, store: &[u8], key: Key) -> Places
+    requires { ⌜ l .used ≤ 64 ⌝ }
+    ensures { λ r. ⌜ Lists r (sortedBy l (now (store .entry)) key) ⌝ }
+{
+    let mut places = Places::none();
+    let mut k = l.used;
+    while 0 < k {
+        k -= 1;
+        places = insert_listed(l, store, key, places, k);
+    }
+    places
+}
