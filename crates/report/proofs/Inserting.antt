@@ -3,13 +3,13 @@
 use Prim.Native.Nat.{ℕ, zero, suc, _+_, _≤_, _<_}
 use mathlib.Core.Path.{_≡_, refl, sym, ap, ap₂, _∙_}
 use mathlib.Core.List.{List, [], _∷_, _++_, append-assoc}
-use mathlib.Core.Bool.{Bool, true, false}
+use mathlib.Core.Bool.{Bool, true}
 use native.Mathlib.Omega.{arith}
 use native.Mathlib.Numerals.{add-one}
 use borrow.Author.Tests.{ltb-true, lt-ltb}
 use lib.Dec.{ltb}
 use lib.ListN.{length, getD, set, take, drop, length-set, drop-of-length-le}
-use lib.Seq.{length-take-le, take-suc, take-suc-set, drop-set-lt, drop-cons, take-at, getD-take, take-append-add, take-all}
+use lib.Seq.{length-take-le, take-suc, take-suc-set, drop-set-lt, drop-cons, getD-take, take-append-add, take-all}
 use Rattle.keys.specs.Member.{all}
 use Rattle.keys.specs.BoolLaws.{and-true, and-true→}
 use Rattle.report.specs.declared.Places.{Places}

@@ -1,8 +1,8 @@
 -- What is read from the bytes of a place, by the offsets of its fields.
 -- Assumes nothing.
 use Prim.Native.Nat.{ℕ, suc, _+_, _*_, _≤_, _<_}
-use mathlib.Core.Path.{_≡_, refl, sym, ap, ap₂, subst, _∙_}
-use mathlib.Core.List.{List, [], _∷_, _++_, append-nil}
+use mathlib.Core.Path.{_≡_, refl, sym, ap, _∙_}
+use mathlib.Core.List.{List, [], append-nil}
 use mathlib.Core.Bool.{Bool, true, false, _||_}
 use native.Mathlib.Omega.{arith}
 use native.Mathlib.Numerals.{add-one}
@@ -15,7 +15,7 @@ use Rattle.format.specs.Update.{Id, idLength, tagLength, Update, BoundedOperati
 use Rattle.format.specs.Decode.{part, idsAt, firstPredecessor, Decoded, refused, update, decode}
 use Rattle.format.specs.Laws.{decode-sound}
 use Rattle.format.specs.Parts.{ids-length, ids-get}
-use Rattle.format.specs.Reading.{numberOf, operationAt, valueOf, decodedOf}
+use Rattle.format.specs.Reading.{numberOf, operationAt, decodedOf}
 use Rattle.format.specs.declared.Malformed.{Malformed}
 use Rattle.format.specs.declared.Operation.{Operation}
 use Rattle.format.specs.declared.Operation.the-variants.{Add, Remove, Insert, Delete}

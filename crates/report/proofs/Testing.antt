@@ -48,6 +48,14 @@ any-zero p = refl
 eqb-sym : (a b : ℕ) → eqb a b ≡ eqb b a
 eqb-sym a b = test-ext (eqb a b) (eqb b a) (λ e. eq-eqb b a (sym (eqb-true a b e))) (λ e. eq-eqb a b (sym (eqb-true b a e)))
 
+with-true : (x : Bool) → (x && true) ≡ x
+with-true true = refl
+with-true false = refl
+
+with-false : (x : Bool) → (x && false) ≡ false
+with-false true = refl
+with-false false = refl
+
 both-true : {a b c : Bool} → a ≡ true → b ≡ c → b ≡ (a && c)
 both-true {a} {b} {c} e f = f ∙ ap (λ (x : Bool). x && c) (sym e)
 
@@ -142,14 +150,15 @@ module _ (l : Ledger) (s : List ℕ) (k : ℕ) where
     unfolding ranked insertAt
     ranked-none n e = ap (λ (x : Bool). (x && testOf isInsert (decodedAt l s k)) && eqb (rankAt l s k) n) (sym (no e))
 
-    pub ranked-other : (n : ℕ) {c : Bool} → b ≡ true → c ≡ testOf isInsert (decodedAt l s k) → c ≡ false → false ≡ ranked l s n k
-    unfolding ranked insertAt
-    ranked-other n e f g = ap₂ (λ (x y : Bool). (x && y) && eqb (rankAt l s k) n) (sym (yes e)) (sym (sym f ∙ g))
+    pub ranked-other : (n : ℕ) {m : ℕ} → m ≡ count (placeAt l k .ancestors) → (m ≡ n → ⊥) → false ≡ ranked l s n k
+    unfolding ranked rankAt
+    ranked-other n e f = sym (ap (λ (x : Bool). insertAt l s k && x) (ne-eqb (rankAt l s k) n (λ g. f (e ∙ g))) ∙ with-false (insertAt l s k))
 
-    pub ranked-insert : (n : ℕ) {c : Bool} {m : ℕ} → b ≡ true → c ≡ testOf isInsert (decodedAt l s k) → c ≡ true → m ≡ count (placeAt l k .ancestors) → eqb m n ≡ ranked l s n k
+    pub ranked-insert : (n : ℕ) {c : Bool} {m : ℕ} → b ≡ true → m ≡ count (placeAt l k .ancestors) → m ≡ n → c ≡ testOf isInsert (decodedAt l s k) → c ≡ ranked l s n k
     unfolding ranked insertAt rankAt
-    ranked-insert n e f g r =
-        ap (λ (m : ℕ). eqb m n) r ∙ ap₂ (λ (x y : Bool). (x && y) && eqb (rankAt l s k) n) (sym (yes e)) (sym (sym f ∙ g))
+    ranked-insert n {c} e f g h =
+        both-true (yes e) h
+        ∙ sym (ap (λ (x : Bool). (heldAt l s k && testOf isInsert (decodedAt l s k)) && x) (eq-eqb (rankAt l s k) n (sym f ∙ g)) ∙ with-true (heldAt l s k && testOf isInsert (decodedAt l s k)))
 
   pub shown-is : {c : Bool} → c ≡ someHeld l s Deletes k → not c ≡ shownAt l s k
   unfolding shownAt deletedAt someHeld
@@ -175,11 +184,12 @@ module _ (l : Ledger) (s : List ℕ) (k : ℕ) where
     some-end q h g i = let e : q ≡ l .used = omega arith in sym i ∙ ap (λ (m : ℕ). anyBelow m passes) e
 
   -- two updates of one author
-  pub fork-yes : (q : ℕ) {a b : ℕ} {c : Bool} → a ≡ authorAt l s k → b ≡ authorAt l s q → a ≡ b → c ≡ neither l k q → c ≡ relates l s Forks k q
-  fork-yes q e f g h = both-true (eq-eqb (authorAt l s k) (authorAt l s q) (sym e ∙ g ∙ f)) h
+  pub fork-apart : (q : ℕ) {c : Bool} {a b : ℕ} → c ≡ neither l k q → c ≡ true → a ≡ authorAt l s k → b ≡ authorAt l s q → eqb a b ≡ relates l s Forks k q
+  fork-apart q e t f g =
+      ap₂ eqb f g ∙ sym (ap (λ (x : Bool). eqb (authorAt l s k) (authorAt l s q) && x) (sym e ∙ t) ∙ with-true (eqb (authorAt l s k) (authorAt l s q)))
 
-  pub fork-no : (q : ℕ) {a b : ℕ} → a ≡ authorAt l s k → b ≡ authorAt l s q → (a ≡ b → ⊥) → false ≡ relates l s Forks k q
-  fork-no q e f g = first-false (neither l k q) (ne-eqb (authorAt l s k) (authorAt l s q) (λ h. g (e ∙ h ∙ sym f)))
+  pub fork-related : (q : ℕ) {c : Bool} → c ≡ neither l k q → c ≡ false → false ≡ relates l s Forks k q
+  fork-related q e t = sym (ap (λ (x : Bool). eqb (authorAt l s k) (authorAt l s q) && x) (sym e ∙ t) ∙ with-false (eqb (authorAt l s k) (authorAt l s q)))
 
 -- the marked authors
 module _ (l : Ledger) (s : List ℕ) where
@@ -191,11 +201,7 @@ module _ (l : Ledger) (s : List ℕ) where
   author-added w k a e t f h g =
       ap (λ (x : ℕ). has x a) g
       ∙ has-including w _ a (omega arith)
-      ∙ ap (λ (x : Bool). has w a || x) (eqb-sym a _ ∙ ap (λ (c : ℕ). eqb c a) f ∙ tail (eqb (authorAt l s k) a) ∙ ap (λ (x : Bool). eqb (authorAt l s k) a && x) (sym (sym e ∙ t)))
-    where
-      tail : (x : Bool) → x ≡ (x && true)
-      tail true = refl
-      tail false = refl
+      ∙ ap (λ (x : Bool). has w a || x) (eqb-sym a _ ∙ ap (λ (c : ℕ). eqb c a) f ∙ sym (with-true (eqb (authorAt l s k) a)) ∙ ap (λ (x : Bool). eqb (authorAt l s k) a && x) (sym (sym e ∙ t)))
 
   pub author-kept : (w k a : ℕ) {b : Bool} → b ≡ forkedAt l s k → b ≡ false → has w a ≡ has w a || marksAt a k
   author-kept w k a e t = go (has w a) (eqb (authorAt l s k) a) ∙ ap (λ (x : Bool). has w a || (eqb (authorAt l s k) a && x)) (sym (sym e ∙ t))

@@ -2,8 +2,8 @@
 -- Assumes nothing.
 use mathlib.Core.Path.{_≡_}
 use Prim.Native.Nat.{ℕ, _≤_}
-use mathlib.Core.List.{List, [], _∷_, _++_}
-use mathlib.Core.Bool.{Bool, true, false, not, _&&_}
+use mathlib.Core.List.{List, _∷_, _++_}
+use mathlib.Core.Bool.{Bool, true, not, _&&_}
 use lib.ListN.{length, take, drop}
 use lib.Dec.{eqb, ltb}
 use Rattle.keys.specs.Member.{keep, all, concatMap}
@@ -43,6 +43,7 @@ ins n k xs = take n xs ++ (k ∷ drop n xs)
 abbrev pub small : List ℕ → Bool
 small xs = all (λ (k : ℕ). ltb k places) xs
 
+-- a list of places by value: as many items as a ledger has places, no more of them listed, and each listed one a place
 pub record Sound (o : Places) : Type 0 where
   pub whole : length (o .items) ≡ places
   pub room : o .count ≤ places
@@ -53,6 +54,7 @@ pub record Lists (o : Places) (xs : List ℕ) : Type 0 where
   pub sound : Sound o
   pub are : placesIn o ≡ xs
 
+-- standings as numbers, and the test of one
 abbrev pub numberOf : Standing → ℕ
 numberOf IsHeld = 0
 numberOf IsWaiting = 1
@@ -91,6 +93,7 @@ module _ (l : Ledger) (s : List ℕ) where
   unfoldable pub ranked : ℕ → ℕ → Bool
   ranked n k = insertAt l s k && eqb (rankAt l s k) n
 
+  -- what an ascending list goes by, the places that it lists, and the list
   abbrev pub keyOf : Key → ℕ → List ℕ
   keyOf Id k = idAt l s k
   keyOf Tag k = tagAt l s k
@@ -102,7 +105,7 @@ module _ (l : Ledger) (s : List ℕ) where
   unfoldable pub sortedBy : Key → List ℕ
   sortedBy y = sort (keyOf y) (keep (candidate y) (upTo (l .used)))
 
-  -- the parts of the text
+  -- the parts of the text: which places have a line, and the line; the lines of a list; the part
 
   abbrev pub passes : Part → ℕ → Bool
   passes Held k = heldAt l s k

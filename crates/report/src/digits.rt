@@ -1,6 +1,6 @@
 // Hexadecimal and decimal digits.
 ghost use mathlib.Core.Path.{_≡_};
-ghost use Prim.Native.Nat.{_+_, _*_, _≤_, _<_};
+ghost use Prim.Native.Nat.{_+_, _≤_, _<_};
 ghost use lib.ListN.{length};
 ghost use Rattle.rules.specs.Report.{digit as digitOf, hexByte, hex as hexOf, decimal as decimalOf};
 ghost use Rattle.report.specs.Text.{Prints};

@@ -1,5 +1,4 @@
 // The report of a ledger and its store, printed on a page that the caller lends.
-ghost use mathlib.Core.Path.{_≡_};
 ghost use Prim.Native.Nat.{_≤_};
 ghost use Rattle.report.specs.Text.{textOf, Prints};
 ghost use Rattle.report.specs.Pieces.{Lists, standings, readOffs};

@@ -1,8 +1,7 @@
 // Tests of places.
 ghost use mathlib.Core.Path.{_≡_};
 ghost use mathlib.Core.Bool.{_&&_};
-ghost use Prim.Native.Nat.{ℕ, _≤_, _<_};
-ghost use Rattle.bits.specs.Below.{anyBelow};
+ghost use Prim.Native.Nat.{_≤_, _<_};
 ghost use Rattle.report.specs.Board.{heldAt, headAt, forkedAt, presentAt, shownAt};
 ghost use Rattle.report.specs.Pieces.{numberOf, standsAs, neither, relates, someHeld, ranked as rankedAt};
 use crate::Relation;
@@ -60,8 +59,8 @@ fn related(l: Ledger, store: &[u8], relation: Relation, k: usize, q: usize) -> b
             bits::has(other.ancestors, k)
         }
         Relation::Forks => {
-            if read::author_at(l, store, k) == read::author_at(l, store, q) {
-                apart(l, k, q)
+            if apart(l, k, q) {
+                read::author_at(l, store, k) == read::author_at(l, store, q)
             } else {
                 false
             }
@@ -154,10 +153,10 @@ pub fn is_ranked(l: Ledger, store: &[u8], n: usize, k: usize) -> bool
     if !stands(l, k, Standing::Held) {
         return false;
     }
-    if read::is_insert(l, store, k) {
-        let p = l.place(k);
-        let rank = bits::count(p.ancestors);
-        rank == n
+    let p = l.place(k);
+    let rank = bits::count(p.ancestors);
+    if rank == n {
+        read::is_insert(l, store, k)
     } else {
         false
     }

@@ -32,8 +32,8 @@ decimal-spec =
     (λ c κs. search needs)
     (λ c. search needs)
     (λ c.
-    let pre = c .before .before .before .before .before .before .before .before .before .pre in
     let args = c .before .before .before .before .before .before .before .before .before .args in
+    let pre = c .before .before .before .before .before .before .before .before .before .pre in
     let if1 = c .before .before .before .before .before .before .before .if1 in
     let digit2 = c .before .before .before .before .before .before .digit2 in
     let digit3 = c .before .before .before .before .before .digit3 in

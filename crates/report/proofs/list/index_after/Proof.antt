@@ -31,8 +31,8 @@ index-after-spec =
     (λ c. search needs)
     (λ c. search needs)
     (λ c κs.
-    let args = c .before .before .before .before .before .args in
     let pre = c .before .before .before .before .before .pre in
+    let args = c .before .before .before .before .before .args in
     below (args .t3) (pre) (c .before .before .loop .i) (search needs))
     (λ c. search needs)
     (λ c.

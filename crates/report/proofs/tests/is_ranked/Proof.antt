@@ -24,7 +24,7 @@ is-ranked-spec =
     (λ c.
     let args = c .before .before .before .before .before .before .before .args in
     let stands = c .before .before .before .before .before .stands in
-    ranked-insert (args .l) (now (args .store)) (args .k) (stands .ensures) (args .n) (not-false _ (c .before .before .before .before .if1 .left)) (c .before .before .before .is-insert .ensures) (c .before .before .if2 .taken) (c .count .ensures ∙ ap (λ (p : Place). count (p .ancestors)) (c .before .place .ensures)))
+    ranked-insert (args .l) (now (args .store)) (args .k) (stands .ensures) (args .n) (not-false _ (c .before .before .before .before .if1 .left)) (c .before .before .count .ensures ∙ ap (λ (p : Place). count (p .ancestors)) (c .before .before .before .place .ensures)) (c .before .if2 .taken) (c .is-insert .ensures))
     (λ c.
-    let args = c .before .before .before .before .before .args in
-    ranked-other (args .l) (now (args .store)) (args .k) (c .before .before .before .stands .ensures) (args .n) (not-false _ (c .before .before .if1 .left)) (c .before .is-insert .ensures) (c .if2 .left)))
+    let args = c .before .before .before .before .before .before .args in
+    ranked-other (args .l) (now (args .store)) (args .k) (c .before .before .before .before .stands .ensures) (args .n) (c .before .count .ensures ∙ ap (λ (p : Place). count (p .ancestors)) (c .before .before .place .ensures)) (c .if2 .left)))

@@ -10,7 +10,7 @@ use Rattle.bits.specs.Bits.{has}
 use Rattle.state.specs.Judge.{testOf}
 use Rattle.report.specs.Board.{decodedAt}
 use Rattle.report.specs.Pieces.{relates}
-use Rattle.report.proofs.Testing.{fork-yes, fork-no}
+use Rattle.report.proofs.Testing.{fork-apart, fork-related}
 use Rattle.report.proofs.tests.related.Statement.{statement}
 use Rattle.report.proofs.tests.related.Tie as tie
 
@@ -38,12 +38,12 @@ related-spec =
     ∙ ap (λ (r : Relation). relates (args .l) (now (args .store)) r (args .k) (args .q)) (sym (c .before .before .enum-told .given .1)))
     (λ c.
     let args = c .before .before .before .before .before .before .before .before .before .args in
-    fork-yes (args .l) (now (args .store)) (args .k) (args .q) (c .before .before .before .author-at .ensures .0) (c .before .before .author-at2 .ensures .0) (c .before .if1 .taken) (c .apart .ensures)
+    fork-apart (args .l) (now (args .store)) (args .k) (args .q) (c .before .before .before .apart .ensures) (c .before .before .if1 .taken) (c .before .author-at .ensures .0) (c .author-at2 .ensures .0)
     ∙ ap (λ (r : Relation). relates (args .l) (now (args .store)) r (args .k) (args .q)) (sym (c .before .before .before .before .enum-told2 .given .1)))
     (λ c.
-    let args = c .before .before .before .before .before .before .before .before .args in
-    fork-no (args .l) (now (args .store)) (args .k) (args .q) (c .before .before .author-at .ensures .0) (c .before .author-at2 .ensures .0) (c .if1 .left)
-    ∙ ap (λ (r : Relation). relates (args .l) (now (args .store)) r (args .k) (args .q)) (sym (c .before .before .before .enum-told2 .given .1)))
+    let args = c .before .before .before .before .before .before .before .args in
+    fork-related (args .l) (now (args .store)) (args .k) (args .q) (c .before .apart .ensures) (c .if1 .left)
+    ∙ ap (λ (r : Relation). relates (args .l) (now (args .store)) r (args .k) (args .q)) (sym (c .before .before .enum-told2 .given .1)))
     (λ c.
     let args = c .before .before .before .before .before .before .before .args in
     let place = c .before .before .before .before .before .place in
