@@ -1,0 +1,2 @@
+pub mod OfferAll
+pub mod CompareLaws
