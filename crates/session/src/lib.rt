@@ -1,0 +1,1 @@
+// The command's output as a function of its input: definitions, in specs/.
