@@ -24,6 +24,7 @@ fn refusal(e: Refusal) {
         Refusal::Malformed(_) => io::write_all(STDOUT_FILENO, b": refused 2 to 9\n"),
         Refusal::Full => io::write_all(STDOUT_FILENO, b": refused 10\n"),
         Refusal::Short => io::write_all(STDOUT_FILENO, b": refused 11\n"),
+        Refusal::Invalid => io::write_all(STDOUT_FILENO, b": refused 12\n"),
     }
     ;
 }

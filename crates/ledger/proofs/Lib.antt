@@ -1,3 +1,4 @@
 pub mod TakeLaws
 pub mod OfferLaws
 pub mod ReportLaws
+pub mod WriteEnds

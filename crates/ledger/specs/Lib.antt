@@ -3,3 +3,5 @@ pub mod Offer
 pub mod Calls
 pub mod Report
 pub mod Answers
+pub mod Write
+pub mod WriteLaws

@@ -9,7 +9,7 @@ use Rattle.rules.specs.Report.{ascii, decimal}
 use Rattle.state.specs.declared.Standing.{Standing}
 use Rattle.state.specs.declared.Standing.the-variants.{Held, Waiting, Void}
 use Rattle.ledger.specs.declared.Refusal.{Refusal}
-use Rattle.ledger.specs.declared.Refusal.the-variants.{Unfit, Malformed as Bad, Full, Short}
+use Rattle.ledger.specs.declared.Refusal.the-variants.{Unfit, Malformed as Bad, Full, Short, Invalid}
 use Rattle.ledger.specs.declared.Answer.{Answer}
 use Rattle.ledger.specs.declared.Answer.the-variants.{Taken, Known, Refused}
 
@@ -19,6 +19,7 @@ refusalNumber Unfit = 1
 refusalNumber (Bad m) = numberOf m
 refusalNumber Full = 10
 refusalNumber Short = 11
+refusalNumber Invalid = 12
 
 unfoldable pub standingWord : Standing → List ℕ
 standingWord Held = ascii "held"

@@ -3,13 +3,17 @@
 ghost use mathlib.Core.Path.{_≡_};
 ghost use Rattle.ledger.specs.Offer.{Offering, askedOf, freshLedger};
 ghost use Rattle.ledger.specs.Report.{Reporting};
+ghost use Rattle.ledger.specs.Write.{Writing};
 pub use state::Ledger;
 pub use state::Standing;
+pub use writer::Kind;
 
 mod taking;
+mod writing;
 
 use format::Malformed;
 use format::Reading;
+use format::bounds::MAX_AUTHOR;
 use state::Found;
 use state::find::find;
 use state::row1::sound;
@@ -24,6 +28,14 @@ pub enum Refusal {
     Full,
     // Row 11: the output buffer is shorter than the result.
     Short,
+    // Row 12: the written operation would be void.
+    Invalid,
+}
+
+// What the writer answers: how many bytes of the output buffer the update takes.
+pub enum Wrote {
+    Written(usize),
+    Refused(Refusal),
 }
 
 // What an offer answers.
@@ -119,4 +131,33 @@ pub fn report(ledger: Ledger, store: &[u8], out: &mut [u8]) -> Reported
     }
     report::print(ledger, store, out);
     Reported::Written(length)
+}
+
+// Writes a new update at the start of the output buffer; the bytes after it keep their values. The update is not offered. A kind does not look at what it
+// does not have: the tag is an Insert's value too, the id an anchor or a deleted id, and the named ids are a Remove's.
+pub fn write(
+    ledger: Ledger,
+    store: &[u8],
+    author: u8,
+    kind: Kind,
+    tag: [u8; 16],
+    id: [u8; 32],
+    named: &[u8],
+    out: &mut [u8],
+) -> Wrote
+    ensures { λ r. ⌜ Writing ledger (now (store .entry)) author kind tag id (now (named .entry)) (now (out .entry)) r (now (out .exit)) ⌝ }
+{
+    if !sound(ledger, store) {
+        return Wrote::Refused(Refusal::Unfit);
+    }
+    if MAX_AUTHOR < author {
+        return Wrote::Refused(Refusal::Malformed(Malformed::Author));
+    }
+    if writer::bad_named(kind, named) {
+        return Wrote::Refused(Refusal::Malformed(Malformed::Layout));
+    }
+    if writer::unordered_named(kind, named) {
+        return Wrote::Refused(Refusal::Malformed(Malformed::Unordered));
+    }
+    writing::write_asked(ledger, store, author, kind, tag, id, named, out)
 }

@@ -49,6 +49,7 @@ fn refused(r: Refusal) {
         Refusal::Malformed(m) => number(row(m)),
         Refusal::Full => number(10),
         Refusal::Short => number(11),
+        Refusal::Invalid => number(12),
     }
 }
 

@@ -14,7 +14,7 @@ use keys::Order;
 use state::Ledger;
 
 // How the id of place j stands to that of place k.
-fn compare_ids(l: Ledger, j: usize, k: usize) -> Order
+pub fn compare_ids(l: Ledger, j: usize, k: usize) -> Order
     requires { ⌜ (j < 64) × (k < 64) ⌝ }
     ensures { λ r. ⌜ r ≡ orderOf (placeAt l j .id) (placeAt l k .id) ⌝ }
 {

@@ -87,15 +87,23 @@ module _ (l : Ledger) (s : List ℕ) (j : ℕ) (b : List ℕ) (q : Place) (place
     unfolding testOf
     test-refused m e = ap (testOf p) (decoded (Refused m) e)
 
-  -- the judgement of the stored update
+-- the judgement of bytes, by what reading them answered
+module _ (l : Ledger) (s b : List ℕ) (r : Reading) (read : decodedOf b r ≡ decode b) where
   pub judge-update : (u : Parsed) → r ≡ Accepted u
-      → judgeGathered l s (valueOf b u .op) (gather l nothingGathered (valueOf b u .preds)) ≡ judge l s j
-  unfolding judge judgeDecoded
-  judge-update u e = ap (judgeDecoded l s) (decoded (Accepted u) e)
+      → judgeGathered l s (valueOf b u .op) (gather l nothingGathered (valueOf b u .preds)) ≡ judgeDecoded l s (decode b)
+  unfolding judgeDecoded
+  judge-update u e = ap (judgeDecoded l s) (ap (decodedOf b) (sym e) ∙ read)
 
-  pub judge-refused : (m : Malformed) → r ≡ Refused m → Waits ≡ judge l s j
-  unfolding judge judgeDecoded
-  judge-refused m e = ap (judgeDecoded l s) (decoded (Refused m) e)
+  pub judge-refused : (m : Malformed) → r ≡ Refused m → Waits ≡ judgeDecoded l s (decode b)
+  unfolding judgeDecoded
+  judge-refused m e = ap (judgeDecoded l s) (ap (decodedOf b) (sym e) ∙ read)
+
+-- the judgement of the bytes of a place
+pub judge-stored : (l : Ledger) (s : List ℕ) (j : ℕ) (b : List ℕ) (q : Place) → q ≡ placeAt l j → b ≡ part s (maxLength * j) (q .length)
+    → judgeDecoded l s (decode b) ≡ judge l s j
+unfolding judge
+judge-stored l s j b q placed stored =
+    ap (λ (x : List ℕ). judgeDecoded l s (decode x)) (stored ∙ ap (λ (x : Place). part s (maxLength * j) (x .length)) placed)
 
 -- an id that names a place in the set `up`
 module _ (l : Ledger) (s : List ℕ) (p : U.Operation → Bool) (up : ℕ) (i : Id) where

@@ -9,7 +9,7 @@ ghost use Rattle.format.specs.Decode.{part, idsAt, firstPredecessor, decode};
 ghost use Rattle.format.specs.Reading.{operationAt, valueOf};
 ghost use Rattle.rules.specs.Settle.{isAdd, isInsert};
 ghost use Rattle.state.specs.State.{findIn, storedAt};
-ghost use Rattle.state.specs.Judge.{nothingGathered, gatherBy, gatherAt, gather as gatherAll, testOf, names, valid as validOperation, judgeReady, judgeGathered, judge as judgeAt};
+ghost use Rattle.state.specs.Judge.{nothingGathered, gatherBy, gatherAt, gather as gatherAll, testOf, names, valid as validOperation, judgeReady, judgeGathered, judgeDecoded, judge as judgeAt};
 use crate::Found;
 use crate::Gathered;
 use crate::Judgement;
@@ -285,15 +285,22 @@ fn judge_update(l: Ledger, store: &[u8], b: &[u8], u: Parsed) -> Judgement
     }
 }
 
+// The judgement of the bytes b as an update; bytes that are none wait.
+pub fn judge_bytes(l: Ledger, store: &[u8], b: &[u8]) -> Judgement
+    requires { ⌜ l .used ≤ 64 ⌝ }
+    ensures { λ r. ⌜ r ≡ judgeDecoded l (now (store .entry)) (decode (now (b .entry))) ⌝ }
+{
+    match format::read(b) {
+        Reading::Update(u) => judge_update(l, store, b, u),
+        Reading::Refused(_) => Judgement::Waits,
+    }
+}
+
 // The judgement of the update at place k.
 pub fn judge(l: Ledger, store: &[u8], k: usize) -> Judgement
     requires { ⌜ (l .used ≤ 64) × (k < 64) ⌝ }
     ensures { λ r. ⌜ r ≡ judgeAt l (now (store .entry)) k ⌝ }
 {
     let p = l.place(k);
-    let b = stored(store, k, p.length);
-    match format::read(b) {
-        Reading::Update(u) => judge_update(l, store, b, u),
-        Reading::Refused(_) => Judgement::Waits,
-    }
+    judge_bytes(l, store, stored(store, k, p.length))
 }

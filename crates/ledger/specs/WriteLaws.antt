@@ -1,0 +1,221 @@
+-- A written update is a well-formed update of the author and the operation asked for, is held where it is offered next, and forms no fork with the held
+-- updates of an author who is not marked.
+-- Assumes nothing.
+use mathlib.Core.Path.{_≡_, refl, sym, ap, subst, _∙_}
+use Prim.Native.Nat.{ℕ, _+_, _-_, _/_, _≤_, _<_}
+use native.Mathlib.Omega.{arith}
+use mathlib.Core.List.{List, [], _∷_, _++_}
+use mathlib.Core.Bool.{Bool, true, false, cond}
+use borrow.Author.Tests.{not-false}
+use lib.ListN.{length, take, drop, length-append}
+use lib.Seq.{take-at, getD-append-seam}
+use Rattle.keys.specs.Member.{_∈_}
+use Rattle.keys.specs.BoolLaws.{true-false}
+use Rattle.sha256.specs.Fips180.{SHA-256}
+use Rattle.sha256.proofs.Bytes.{length-digest}
+use Rattle.format.specs.Update.{Id, maxAuthor, idLength, tagLength, Operation, Update, encode, Bounded, BoundedOperation, add, remove, insert, delete}
+use Rattle.format.specs.Decode.{idsAt, refused, decode, update}
+use Rattle.format.specs.Parts.{ids-length, ids-sized}
+use Rattle.format.specs.Laws.{decode-complete}
+use Rattle.rules.specs.Standing.{Ancestor, Held}
+use Rattle.rules.specs.ReadOff.{Marked}
+use Rattle.rules.specs.Writing.{writtenOf, writableOf}
+use Rattle.rules.specs.WritingLaws.{written-bounded, written-held, written-no-fork, add-writable}
+use Rattle.bits.specs.Below.{countBelow}
+use Rattle.bits.specs.BelowLaws.{countBelow-more, countBelow-mono}
+use Rattle.state.specs.declared.Ledger.{Ledger}
+use Rattle.state.specs.declared.Place.{Place}
+use Rattle.state.specs.declared.Standing.{Standing}
+use Rattle.state.specs.declared.Standing.the-variants.{Held as IsHeld, Waiting as IsWaiting}
+use Rattle.state.specs.State.{places, placeAt, countOf, isHeld, isVoid}
+use Rattle.state.specs.Stands.{ident, noUpdate, updateAt, Stands}
+use Rattle.state.specs.FindLaws.{stored-at, find-right}
+use Rattle.state.specs.TakeLaws.{stands-sound}
+use Rattle.writer.specs.declared.Kind.{Kind}
+use Rattle.writer.specs.declared.Kind.the-variants.{Add as AnAdd, Remove as ARemove, Insert as AnInsert, Delete as ADelete}
+use Rattle.writer.specs.Operations.{operationFor, badNamed, unorderedNamed}
+use Rattle.writer.proofs.Laying.{good-remove}
+use Rattle.ledger.specs.declared.Refusal.{Refusal}
+use Rattle.ledger.specs.declared.Refusal.the-variants.{Unfit, Malformed as Bad, Full, Short, Invalid}
+use Rattle.ledger.specs.declared.Answer.the-variants.{Taken}
+use Rattle.ledger.specs.declared.Offered.{Offered}
+use Rattle.ledger.specs.declared.Wrote.{Wrote}
+use Rattle.ledger.specs.declared.Wrote.the-variants.{Written, Refused}
+use Rattle.ledger.specs.Offer.{Offering, unfit as not-fit, malformed, known, full, taken}
+use Rattle.ledger.specs.Calls.{says, only-held}
+use Rattle.ledger.specs.Write.{WrittenUpdate, Writing, unfit, author, layout, unordered, invalid, short, written}
+
+pub ident-length : (u : Update) → length (ident u) ≡ idLength
+unfolding ident
+ident-length u = length-digest (encode u)
+
+-- what rows 8 and 9 let through is laid out
+pub operation-bounded : (k : Kind) (t : List ℕ) (i : Id) (named : List ℕ) → length t ≡ tagLength → length i ≡ idLength
+    → badNamed k named ≡ false → unorderedNamed k named ≡ false → BoundedOperation (operationFor k t i named)
+unfolding operationFor unorderedNamed
+operation-bounded AnAdd t i named x y g o = add x
+operation-bounded ARemove t i named x y g o =
+    let f = good-remove named refl g in
+    let n = length named / 32 in
+    remove {named = idsAt named 0 n} x
+    (record { few = omega (arith, ids-length named 0 n, f .1); sized = ids-sized named 0 n (omega arith); ordered = not-false _ o })
+operation-bounded AnInsert t i named x y g o = insert y x
+operation-bounded ADelete t i named x y g o = delete y
+
+module _ (l : Ledger) (s : List ℕ) (us : List Update) (stands : Stands l s us) (a : ℕ) (o : Operation) (small : a ≤ maxAuthor) (bounded : BoundedOperation o) where
+  pub rules-bounded : Bounded (writtenOf ident us a o)
+  rules-bounded = written-bounded ident us (stands .holds .distinct) a o ident-length small bounded
+
+  pub rules-decode : decode (encode (writtenOf ident us a o)) ≡ update (writtenOf ident us a o)
+  rules-decode = decode-complete (writtenOf ident us a o) rules-bounded
+
+-- the writer's answers taken apart
+module _ (l : Ledger) (s : List ℕ) (a : ℕ) (k : Kind) (t : List ℕ) (i : Id) (named o : List ℕ) where
+  pub record IsWritten (n : ℕ) (o′ : List ℕ) : Type 0 where
+    pub value : Update
+    pub number : n ≡ length (encode value)
+    pub output : o′ ≡ encode value ++ drop (length (encode value)) o
+    pub author-small : a ≤ maxAuthor
+    pub named-good : badNamed k named ≡ false
+    pub named-ordered : unorderedNamed k named ≡ false
+    pub may : (us : List Update) → Stands l s us → writableOf ident us a (operationFor k t i named) ≡ true
+    pub is-written : WrittenUpdate l s a (operationFor k t i named) value
+
+  abbrev RefusedSays : Refusal → Type 0
+  RefusedSays Unfit = Unit {0}
+  RefusedSays (Bad m) = Unit {0}
+  RefusedSays Full = Unit {0}
+  RefusedSays Short = Unit {0}
+  RefusedSays Invalid = (us : List Update) → Stands l s us → writableOf ident us a (operationFor k t i named) ≡ false
+
+  abbrev WroteSays : Wrote → List ℕ → Type 0
+  WroteSays (Written n) o′ = IsWritten n o′
+  WroteSays (Refused r) o′ = RefusedSays r
+
+  wrote-says : {w : Wrote} {o′ : List ℕ} → Writing l s a k t i named o w o′ → WroteSays w o′
+  wrote-says (unfit e) = tt
+  wrote-says (author e h) = tt
+  wrote-says (layout e h g) = tt
+  wrote-says (unordered e h g f) = tt
+  wrote-says (invalid e h g f n) = n
+  wrote-says (short u e h g f m w c) = tt
+  wrote-says (written u e h g f m w c) =
+      record {
+        value = u;
+        number = refl;
+        output = refl;
+        author-small = h;
+        named-good = g;
+        named-ordered = f;
+        may = m;
+        is-written = w;
+      }
+
+  pub says-written : {n : ℕ} {o′ : List ℕ} → Writing l s a k t i named o (Written n) o′ → IsWritten n o′
+  says-written w = wrote-says w
+
+  pub says-invalid : {o′ : List ℕ} → Writing l s a k t i named o (Refused Invalid) o′
+      → (us : List Update) → Stands l s us → writableOf ident us a (operationFor k t i named) ≡ false
+  says-invalid w = wrote-says w
+
+-- "Add: always valid": the writer never refuses one with row 12
+pub add-not-invalid : (l : Ledger) (s : List ℕ) (us : List Update) → Stands l s us → (a : ℕ) (t : List ℕ) (i : Id) (named o : List ℕ) {o′ : List ℕ}
+    → Writing l s a AnAdd t i named o (Refused Invalid) o′ → ⊥
+unfolding operationFor
+add-not-invalid l s us stands a t i named o w = true-false (add-writable ident us a t) (says-invalid l s a AnAdd t i named o w us stands)
+
+-- one more is held
+more-held : (l r : Ledger) → r .used ≡ l .used + 1 → ((j : ℕ) → j < l .used → (placeAt l j .standing ≡ IsWaiting → ⊥) → placeAt r j ≡ placeAt l j)
+    → placeAt r (l .used) .standing ≡ IsHeld → countOf isHeld l + 1 ≤ countOf isHeld r
+unfolding countOf isHeld
+more-held l r e kept new =
+    let p : ℕ → Bool = λ (j : ℕ). isHeld (placeAt l j .standing) in
+    let q : ℕ → Bool = λ (j : ℕ). isHeld (placeAt r j .standing) in
+    let next : countBelow (r .used) q ≡ countBelow (l .used) q + 1 =
+    ap (λ (n : ℕ). countBelow n q) e ∙ countBelow-more (l .used) q ∙ ap (λ (v : Standing). cond (isHeld v) (countBelow (l .used) q + 1) (countBelow (l .used) q)) new in
+    omega (arith, next, countBelow-mono (l .used) p q (λ j h f. ap (λ (x : Place). isHeld (x .standing)) (kept j h (not-waiting j f)) ∙ f))
+  where
+    not-waiting : (j : ℕ) → isHeld (placeAt l j .standing) ≡ true → placeAt l j .standing ≡ IsWaiting → ⊥
+    not-waiting j f g = true-false f (ap isHeld g)
+
+refused-update : {n : ℕ} {u : Update} → refused n ≡ update u → ⊥
+refused-update e = let z : _≡_ {A = ℕ} 0 1 = cc in omega arith
+
+-- the written bytes: the first n of the output
+module _ (l : Ledger) (s : List ℕ) (us : List Update) (stands : Stands l s us) (a : ℕ) (k : Kind) (t : List ℕ) (i : Id) (named o : List ℕ)
+    (tag-sized : length t ≡ tagLength) (id-sized : length i ≡ idLength) {n : ℕ} {o′ : List ℕ} (wrote : Writing l s a k t i named o (Written n) o′) where
+  abbrev op : Operation
+  op = operationFor k t i named
+
+  abbrev new : Update
+  new = writtenOf ident us a op
+
+  abbrev bytes : List ℕ
+  bytes = take n o′
+
+  W : IsWritten l s a k t i named o n o′
+  W = says-written l s a k t i named o wrote
+
+  is-new : W .value ≡ new
+  is-new = W .is-written .of-rules us stands
+
+  bytes-are : bytes ≡ encode new
+  bytes-are =
+      ap (take n) (W .output)
+      ∙ take-at (encode (W .value)) (drop (length (encode (W .value))) o) n (sym (W .number))
+      ∙ ap encode is-new
+
+  -- they decode to the author and the operation asked for, and to the rules' update
+  pub written-decodes : decode (take n o′) ≡ update (writtenOf ident us a (operationFor k t i named))
+  written-decodes =
+      ap decode bytes-are
+      ∙ rules-decode l s us stands a op (W .author-small) (operation-bounded k t i named tag-sized id-sized (W .named-good) (W .named-ordered))
+
+  pub written-author : writtenOf ident us a (operationFor k t i named) .author ≡ a
+  written-author = ap (λ (u : Update). u .author) (sym is-new) ∙ W .is-written .by-author
+
+  pub written-operation : writtenOf ident us a (operationFor k t i named) .op ≡ operationFor k t i named
+  written-operation = ap (λ (u : Update). u .op) (sym is-new) ∙ W .is-written .with-operation
+
+  -- it forms no fork: every held update of an author who is not marked is its ancestor
+  pub written-forks-not : (Marked ident us a → ⊥) → (u : Update) → Held ident us u → u .author ≡ a
+      → Ancestor ident us u (writtenOf ident us a (operationFor k t i named))
+  written-forks-not m u h e = written-no-fork ident us (stands .holds .distinct) a op m u h e
+
+  id-is : ident new ≡ SHA-256 bytes
+  unfolding ident
+  id-is = ap SHA-256 (sym bytes-are)
+
+  -- Offered next, where a place is free and no stored update has its id, it is taken and held.
+  module _ (free : l .used < places) (fresh : (u : Update) → u ∈ us → ident u ≡ SHA-256 (take n o′) → ⊥) where
+    is-held : Held ident (us ++ (new ∷ [])) new
+    is-held = written-held ident us (stands .holds .distinct) a op (λ u m e. fresh u m (e ∙ id-is)) (W .may us stands)
+
+    -- the place that the update took
+    stands-held : (u : Update) (r : Ledger) {s′ : List ℕ} → u ≡ new → Stands r s′ (us ++ (u ∷ [])) → placeAt r (l .used) .standing ≡ IsHeld
+    stands-held u r {s′} e after =
+        let q : l .used ≡ length us = stands .holds .number in
+        let here : l .used < length (us ++ (u ∷ [])) = omega (arith, length-append us (u ∷ [])) in
+        let last : updateAt (us ++ (u ∷ [])) (l .used) ≡ u = ap (updateAt (us ++ (u ∷ []))) q ∙ getD-append-seam us u [] noUpdate in
+        only-held (us ++ (u ∷ [])) (placeAt r (l .used) .standing) (updateAt (us ++ (u ∷ [])) (l .used))
+        (says r s′ (us ++ (u ∷ [])) after (placeAt r (l .used) .standing) (l .used) here refl)
+        (subst (λ (v : Update). Held ident (us ++ (u ∷ [])) v) (sym last)
+        (subst (λ (v : Update). Held ident (us ++ (v ∷ [])) v) (sym e) is-held))
+
+    same-update : {u : Update} → decode bytes ≡ update u → u ≡ new
+    same-update {u} d = let e : update u ≡ update new = sym d ∙ written-decodes in cc
+
+    pub written-taken : {r : Offered} {s′ : List ℕ} → Offering l s (take n o′) r s′
+        → (h v : ℕ) × (r .answer ≡ Taken IsHeld h v) × (1 ≤ h)
+    written-taken (not-fit e) = absurd (true-false (stands-sound l s us stands) e)
+    written-taken (malformed m e d) = absurd (refused-update (sym d ∙ written-decodes))
+    written-taken (known u j e d f) =
+        let r = find-right l s us (stands .holds) (SHA-256 bytes) j f in absurd (fresh (updateAt us j) (stored-at us j (r .0)) (r .1))
+    written-taken (full u e d f g) = absurd (omega arith)
+    written-taken (taken u r e d f g took) =
+        let v : placeAt r (l .used) .standing ≡ IsHeld = stands-held u r (same-update d) (took .settles us stands) in (
+          countOf isHeld r - countOf isHeld l,
+          countOf isVoid r - countOf isVoid l,
+          ap (λ (w : Standing). Taken w (countOf isHeld r - countOf isHeld l) (countOf isVoid r - countOf isVoid l)) v,
+          omega (arith, more-held l r (took .used-next) (took .old-settled) v),
+        )

@@ -1,0 +1,31 @@
+-- `bad_named` meets its contract, by the kind.
+-- Assumes nothing.
+use borrow.Author.Needs.{needs}
+use denote.Ref.{now}
+use Rattle.writer.proofs.Laying.{bad-add, bad-long, bad-odd, bad-insert, bad-delete}
+use Rattle.writer.proofs.bad_named.Statement.{statement}
+use Rattle.writer.proofs.bad_named.Tie as tie
+
+pub bad-named-spec : {M : Type 1} → statement M
+bad-named-spec =
+    tie.close
+    (tie.spec
+    (λ c. search needs)
+    (λ c. search needs)
+    (λ c. search needs)
+    (λ c. search needs)
+    (λ c.
+    let args = c .before .before .args in
+    bad-add (now (args .named)) (c .enum-told .given .1))
+    (λ c.
+    let args = c .before .before .before .args in
+    bad-long (now (args .named)) (c .before .enum-told2 .given .1) (c .if1 .taken))
+    (λ c.
+    let args = c .before .before .before .args in
+    bad-odd (now (args .named)) (c .before .enum-told2 .given .1) (c .if1 .left))
+    (λ c.
+    let args = c .before .before .args in
+    bad-insert (now (args .named)) (c .enum-told3 .given .1))
+    (λ c.
+    let args = c .before .before .args in
+    bad-delete (now (args .named)) (c .enum-told4 .given .1)))

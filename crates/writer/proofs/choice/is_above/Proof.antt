@@ -1,0 +1,20 @@
+-- `is_above` meets its contract.
+-- Assumes nothing.
+use borrow.Author.Needs.{needs}
+use Rattle.writer.proofs.Choosing.{above-same, above-other}
+use Rattle.writer.proofs.choice.is_above.Statement.{statement}
+use Rattle.writer.proofs.choice.is_above.Tie as tie
+
+pub is-above-spec : {M : Type 1} → statement M
+is-above-spec =
+    tie.close
+    (tie.spec
+    (λ c.
+    let args = c .before .args in
+    above-same (args .l) (args .t) (args .h) (c .if1 .taken))
+    (λ c κs. search needs)
+    (λ c κs. search needs)
+    (λ c.
+    let args = c .before .before .before .args in
+    let if1 = c .before .before .if1 in
+    above-other (args .l) (args .t) (args .h) (if1 .left) (c .before .place .ensures) (c .has .ensures)))
