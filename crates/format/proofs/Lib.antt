@@ -2,3 +2,4 @@ pub mod Clip
 pub mod Ascent
 pub mod BodyTests
 pub mod Chain
+pub mod HeldReader

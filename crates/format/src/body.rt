@@ -18,73 +18,65 @@ use crate::bounds::INSERT;
 use crate::bounds::MAX_NAMED;
 use crate::bounds::REMOVE;
 use crate::bounds::TAG_LENGTH;
-use crate::cursor::Cursor;
-use crate::cursor::wide;
 use crate::ids::ascends;
+use crate::reader::byte_past;
+use crate::reader::wide;
 
 // Whether a Remove's count byte is missing or too large, or its named ids do not end with the bytes.
-fn wrong_remove(s: &[u8], place: Cursor) -> bool
-    requires { ⌜ AtCount (now s) (place .at) ⌝ }
+fn wrong_remove(s: &[u8], at: usize) -> bool
+    requires { ⌜ AtCount (now s) at ⌝ }
     ensures { λ r. ⌜ r ≡ row8 (now (s .entry)) ⌝ }
 {
-    let at = place.at;
     if s.len() <= at {
         return true;
     }
-    let count = place.byte(s);
+    let count = byte_past(s, at);
     if MAX_NAMED < count {
         return true;
     }
-    let end = place.past(1).past(ID_LENGTH * wide(count));
-    s.len() != end.at
+    s.len() != at + 1 + ID_LENGTH * wide(count)
 }
 
 // Whether the length is not what kind and counts give.
-fn wrong_layout(s: &[u8], kind: u8, body: Cursor) -> bool
-    requires { ⌜ AtBody (now s) kind (body .at) ⌝ }
+fn wrong_layout(s: &[u8], kind: u8, body: usize) -> bool
+    requires { ⌜ AtBody (now s) kind body ⌝ }
     ensures { λ r. ⌜ r ≡ row8 (now (s .entry)) ⌝ }
 {
     if kind == ADD {
-        let tag_end = body.past(TAG_LENGTH);
-        return s.len() != tag_end.at;
+        return s.len() != body + TAG_LENGTH;
     }
     if kind == REMOVE {
-        return wrong_remove(s, body.past(TAG_LENGTH));
+        return wrong_remove(s, body + TAG_LENGTH);
     }
     if kind == INSERT {
-        let end = body.past(ID_LENGTH).past(TAG_LENGTH);
-        return s.len() != end.at;
+        return s.len() != body + ID_LENGTH + TAG_LENGTH;
     }
-    let end = body.past(ID_LENGTH);
-    s.len() != end.at
+    s.len() != body + ID_LENGTH
 }
 
 // The offsets of the operation's fields.
-fn offsets(s: &[u8], kind: u8, body: Cursor) -> Operation
-    requires { ⌜ AtBody (now s) kind (body .at) ⌝ }
+fn offsets(s: &[u8], kind: u8, body: usize) -> Operation
+    requires { ⌜ AtBody (now s) kind body ⌝ }
     ensures { λ r. ⌜ r ≡ offsetsOf (now (s .entry)) ⌝ }
 {
     if kind == ADD {
-        return Operation::Add { tag: body.at };
+        return Operation::Add { tag: body };
     }
     if kind == REMOVE {
-        let place = body.past(TAG_LENGTH);
-        let count = wide(place.byte(s));
-        let named = place.past(1);
+        let at = body + TAG_LENGTH;
         return Operation::Remove {
-            tag: body.at,
-            named: named.at,
-            count,
+            tag: body,
+            named: at + 1,
+            count: wide(byte_past(s, at)),
         };
     }
     if kind == INSERT {
-        let value = body.past(ID_LENGTH);
         return Operation::Insert {
-            anchor: body.at,
-            value: value.at,
+            anchor: body,
+            value: body + ID_LENGTH,
         };
     }
-    Operation::Delete { deleted: body.at }
+    Operation::Delete { deleted: body }
 }
 
 // Whether the predecessors and a Remove's named ids are strictly ascending.
@@ -115,21 +107,18 @@ pub fn read(s: &[u8], author: u8, count: usize) -> Reading
     requires { ⌜ (author ≡ authorOf (now s)) × (count ≡ countOf (now s)) × (count ≤ maxPredecessors) ⌝ }
     ensures { λ r. ⌜ r ≡ operationReading (now (s .entry)) ⌝ }
 {
-    let place = Cursor::new()
-        .past(FIRST_PREDECESSOR)
-        .past(ID_LENGTH * count);
-    let at = place.at;
+    let at = FIRST_PREDECESSOR + ID_LENGTH * count;
     if s.len() <= at {
         return Reading::Refused(Malformed::Truncated);
     }
-    let kind = place.byte(s);
+    let kind = byte_past(s, at);
     if kind < ADD {
         return Reading::Refused(Malformed::Kind);
     }
     if DELETE < kind {
         return Reading::Refused(Malformed::Kind);
     }
-    let body = place.past(1);
+    let body = at + 1;
     if wrong_layout(s, kind, body) {
         return Reading::Refused(Malformed::Layout);
     }

@@ -2,23 +2,24 @@
 // that the offsets name.
 ghost use mathlib.Core.Path.{_≡_};
 ghost use Rattle.format.specs.Decode.{decode};
-ghost use Rattle.format.specs.Reading.{decodedOf, readingOf};
+ghost use Rattle.format.specs.Reading.{decodedOf, readingOf, numberOf};
 
 mod body;
 pub mod bounds;
-mod cursor;
 mod ids;
+mod reader;
 
 use bounds::MAX_AUTHOR;
 use bounds::MAX_LENGTH;
 use bounds::MAX_PREDECESSORS;
 use bounds::MIN_LENGTH;
 use bounds::VERSION;
-use cursor::Cursor;
 pub use ids::ascends;
 pub use ids::named;
 pub use ids::part_of;
 pub use ids::predecessor;
+use reader::byte_past;
+use reader::wide;
 
 // The offsets of an operation's fields.
 pub enum Operation {
@@ -58,6 +59,24 @@ pub enum Malformed {
     Unordered,
 }
 
+impl Malformed {
+    // Document 01's number.
+    pub fn number(self) -> u8
+        ensures { λ r. ⌜ r ≡ numberOf self ⌝ }
+    {
+        match self {
+            Malformed::Length => 2,
+            Malformed::Version => 3,
+            Malformed::Author => 4,
+            Malformed::Predecessors => 5,
+            Malformed::Truncated => 6,
+            Malformed::Kind => 7,
+            Malformed::Layout => 8,
+            Malformed::Unordered => 9,
+        }
+    }
+}
+
 pub enum Reading {
     Update(Parsed),
     Refused(Malformed),
@@ -74,17 +93,17 @@ pub fn read(s: &[u8]) -> Reading
     if MAX_LENGTH < s.len() {
         return Reading::Refused(Malformed::Length);
     }
-    let version = Cursor::new().byte(s);
+    let version = byte_past(s, 0);
     if version != VERSION {
         return Reading::Refused(Malformed::Version);
     }
-    let author = Cursor::new().past(1).byte(s);
+    let author = byte_past(s, 1);
     if MAX_AUTHOR < author {
         return Reading::Refused(Malformed::Author);
     }
-    let count = Cursor::new().past(2).byte(s);
+    let count = byte_past(s, 2);
     if MAX_PREDECESSORS < count {
         return Reading::Refused(Malformed::Predecessors);
     }
-    body::read(s, author, cursor::wide(count))
+    body::read(s, author, wide(count))
 }

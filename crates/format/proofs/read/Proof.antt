@@ -7,7 +7,6 @@ use mathlib.Core.List.{List}
 use mathlib.Core.Bool.{false}
 use native.Mathlib.Omega.{arith}
 use borrow.Author.Needs.{needs}
-use lib.ListN.{getD}
 use denote.Ref.{now}
 use Rattle.format.specs.Decode.{authorOf, countOf, row2, row3, row4, decode}
 use Rattle.format.specs.Reading.{decodedOf, readingOf, reading-decodes}
@@ -24,27 +23,24 @@ both b r e = (ap (decodedOf b) e ∙ reading-decodes b, e)
 abbrev bytes : tie.Else2 → List ℕ
 bytes e = now (e .before .before .before .args .s)
 
+-- where row 2 was passed, from where row 4 was
+abbrev passed : tie.Else4 → tie.Else2
+passed c = c .before .before .before .before
+
 fits : (e : tie.Else2) → row2 (bytes e) ≡ false
 fits e = row2-no (bytes e) (omega arith) (omega arith)
 
-version : (c : tie.After-byte) → c .byte .result ≡ getD (bytes (c .before .before)) 0 0
-version c = c .byte .ensures ∙ ap (λ (n : ℕ). getD (bytes (c .before .before)) n 0) (omega arith)
+right-version : (c : tie.Else3) → row3 (bytes (c .before .before)) ≡ false
+right-version c = row3-no (bytes (c .before .before)) (omega (arith, c .before .byte-past .ensures))
 
-right-version : (c : tie.Else3) → row3 (bytes (c .before .before .before)) ≡ false
-right-version c = row3-no (bytes (c .before .before .before)) (omega (arith, version (c .before)))
+author : (c : tie.After-byte-past2) → c .byte-past2 .result ≡ authorOf (bytes (c .before .before .before))
+author c = c .byte-past2 .ensures
 
-author : (c : tie.After-byte2) → c .byte2 .result ≡ authorOf (bytes (c .before .before .before .before .before .before))
-author c = c .byte2 .ensures ∙ ap (λ (n : ℕ). getD (bytes (c .before .before .before .before .before .before)) n 0) (omega arith)
+right-author : (c : tie.Else4) → row4 (bytes (passed c)) ≡ false
+right-author c = row4-no (bytes (passed c)) (omega (arith, author (c .before)))
 
-right-author : (c : tie.Else4) → row4 (bytes (c .before .before .before .before .before .before .before)) ≡ false
-right-author c = row4-no (bytes (c .before .before .before .before .before .before .before)) (omega (arith, author (c .before)))
-
--- where row 2 was passed, from where row 4 was
-abbrev passed : tie.Else4 → tie.Else2
-passed c = c .before .before .before .before .before .before .before
-
-count : (c : tie.After-byte3) → c .byte3 .result ≡ countOf (bytes (passed (c .before .before .before)))
-count c = c .byte3 .ensures ∙ ap (λ (n : ℕ). getD (bytes (passed (c .before .before .before))) n 0) (omega arith)
+count : (c : tie.After-byte-past3) → c .byte-past3 .result ≡ countOf (bytes (passed (c .before)))
+count c = c .byte-past3 .ensures
 
 pub read-spec : {M : Type 1} → statement M
 read-spec =
@@ -53,33 +49,27 @@ read-spec =
     (λ c. let s = now (c .before .before .args .s) in both s _ (row2-short s (omega arith)))
     (λ c. let s = now (c .before .before .before .args .s) in both s _ (row2-long s (omega arith) (omega arith)))
     (λ c κs. search needs)
+    (λ c.
+    let e = c .before .before in
+    both (bytes e) _ (row3-yes (bytes e) (fits e) (λ v. c .if3 .taken (c .before .byte-past .ensures ∙ v))))
     (λ c κs. search needs)
     (λ c.
-    let e = c .before .before .before in
-    both (bytes e) _ (row3-yes (bytes e) (fits e) (λ v. c .if3 .taken (version (c .before) ∙ v))))
-    (λ c κs. search needs)
-    (λ c κs. search needs)
-    (λ c κs. search needs)
-    (λ c.
-    let v = c .before .before .before .before in
-    let e = v .before .before .before in
+    let v = c .before .before in
+    let e = v .before .before in
     both (bytes e) _ (row4-yes (bytes e) (fits e) (right-version v) (omega (arith, author (c .before)))))
     (λ c κs. search needs)
+    (λ c.
+    let a = c .before .before in
+    let e = passed a in
+    both (bytes e) _
+    (row5-yes (bytes e) (fits e) (right-version (a .before .before)) (right-author a) (omega (arith, count (c .before)))))
     (λ c κs. search needs)
-    (λ c κs. search needs)
+    (λ c κs.
+    let n = count (c .before .before) in
+    (author (c .before .before .before .before), c .wide .ensures ∙ n, omega arith))
     (λ c.
     let a = c .before .before .before .before in
     let e = passed a in
     both (bytes e) _
-    (row5-yes (bytes e) (fits e) (right-version (a .before .before .before .before)) (right-author a) (omega (arith, count (c .before)))))
-    (λ c κs. search needs)
-    (λ c κs.
-    let a = c .before .before .before .before .before in
-    let n = count (c .before .before) in
-    (author (a .before), c .wide .ensures ∙ n, omega arith))
-    (λ c.
-    let a = c .before .before .before .before .before .before in
-    let e = passed a in
-    both (bytes e) _
     (c .read .ensures
-    ∙ row5-no (bytes e) (fits e) (right-version (a .before .before .before .before)) (right-author a) (omega (arith, count (c .before .before .before))))))
+    ∙ row5-no (bytes e) (fits e) (right-version (a .before .before)) (right-author a) (omega (arith, count (c .before .before .before))))))

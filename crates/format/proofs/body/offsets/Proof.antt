@@ -15,18 +15,18 @@ offsets-spec =
     tie.close
     (tie.spec
     (λ c. let d = c .before .before in add-offsets (now (d .args .s)) (omega arith) (d .pre .place))
+    (λ c. search needs)
+    (λ c. search needs)
     (λ c κs. search needs)
-    (λ c κs. search needs)
-    (λ c κs. search needs)
-    (λ c κs. search needs)
-    (λ c.
-    let d = c .before .before .before .before .before .before .before in
-    remove-offsets (now (d .args .s)) (omega arith) (d .pre .place) (omega arith)
-    (c .before .wide .ensures
-    ∙ c .before .before .byte .ensures
-    ∙ ap (λ (n : ℕ). getD (now (d .args .s)) n 0) (omega arith)))
     (λ c κs. search needs)
     (λ c.
     let d = c .before .before .before .before .before in
+    remove-offsets (now (d .args .s)) (omega arith) (d .pre .place) (omega arith)
+    (c .wide .ensures
+    ∙ c .before .byte-past .ensures
+    ∙ ap (λ (n : ℕ). getD (now (d .args .s)) n 0) (omega arith)))
+    (λ c. search needs)
+    (λ c.
+    let d = c .before .before .before .before in
     insert-offsets (now (d .args .s)) (omega arith) (d .pre .place) (omega arith))
     (λ c. let d = c .before .before .before .before in delete-offsets (now (d .args .s)) (omega arith) (d .pre .place)))

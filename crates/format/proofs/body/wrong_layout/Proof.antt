@@ -14,22 +14,22 @@ pub wrong-layout-spec : {M : Type 1} → statement M
 wrong-layout-spec =
     tie.close
     (tie.spec
-    (λ c κs. search needs)
+    (λ c. search needs)
     (λ c.
-    let s = now (c .before .before .before .before .args .s) in
+    let s = now (c .before .before .args .s) in
     let k : kindOf s ≡ 1 = omega arith in
     other-ends s (λ e. omega arith) (omega (arith, add-length s k)))
-    (λ c κs. search needs)
-    (λ c κs. search needs)
     (λ c. search needs)
     (λ c κs. search needs)
-    (λ c κs. search needs)
+    (λ c. search needs)
+    (λ c. search needs)
+    (λ c. search needs)
     (λ c.
-    let s = now (c .before .before .before .before .before .before .before .args .s) in
+    let s = now (c .before .before .before .before .args .s) in
     let k : kindOf s ≡ 3 = omega arith in
     other-ends s (λ e. omega arith) (omega (arith, insert-length s k)))
-    (λ c κs. search needs)
+    (λ c. search needs)
     (λ c.
-    let s = now (c .before .before .before .before .before .before .args .s) in
+    let s = now (c .before .before .before .before .args .s) in
     let k : kindOf s ≡ 4 = omega arith in
     other-ends s (λ e. omega arith) (omega (arith, delete-length s k))))

@@ -12,6 +12,12 @@ use Rattle.format.proofs.BodyTests.{count-missing, count-large, remove-
 use Rattle.format.proofs.body.wrong_remove.Statement.{statement}
 use Rattle.format.proofs.body.wrong_remove.Tie as tie
 
+-- the byte that was read is the count
+count : (c : tie.After-byte-past) → c .byte-past .result ≡ namedCountOf (now (c .before .before .before .args .s))
+count c =
+    let d = c .before .before .before in
+    c .byte-past .ensures ∙ ap (λ (n : ℕ). getD (now (d .args .s)) n 0) (d .pre .place)
+
 pub wrong-remove-spec : {M : Type 1} → statement M
 wrong-remove-spec =
     tie.close
@@ -20,16 +26,13 @@ wrong-remove-spec =
     (λ c κs. search needs)
     (λ c.
     let d = c .before .before .before .before in
-    let s = now (d .args .s) in
-    let m : c .before .byte .result ≡ namedCountOf s = c .before .byte .ensures ∙ ap (λ (n : ℕ). getD s n 0) (d .pre .place) in
-    count-large s (d .pre .remove) (omega arith) (omega arith))
-    (λ c κs. search needs)
-    (λ c κs. search needs)
+    count-large (now (d .args .s)) (d .pre .remove) (omega arith) (omega (arith, count (c .before))))
     (λ c. search needs)
     (λ c κs. search needs)
+    (λ c. search needs)
+    (λ c. search needs)
     (λ c.
-    let d = c .before .before .before .before .before .before .before .before in
+    let b = c .before .before in
+    let d = b .before .before .before in
     let s = now (d .args .s) in
-    let b = c .before .before .before .before .before .byte in
-    let m : b .result ≡ namedCountOf s = b .ensures ∙ ap (λ (n : ℕ). getD s n 0) (d .pre .place) in
-    remove-ends s (d .pre .remove) (omega arith) (omega arith) (omega (arith, remove-length s (d .pre .remove)))))
+    remove-ends s (d .pre .remove) (omega arith) (omega (arith, count b)) (omega (arith, count b, remove-length s (d .pre .remove)))))

@@ -1,14 +1,14 @@
--- `Cursor::byte` meets its contract: past the end `getD` gives its default.
+-- `byte_at` meets its contract: past the end `getD` gives its default.
 -- Assumes nothing.
 use mathlib.Core.Path.{sym}
 use borrow.Author.Needs.{needs}
 use lib.ListN.{List·getD-eq-default}
 use denote.Ref.{now}
-use Rattle.format.proofs.cursor.Cursor.byte.Statement.{statement}
-use Rattle.format.proofs.cursor.Cursor.byte.Tie as tie
+use Rattle.format.proofs.reader.byte_at.Statement.{statement}
+use Rattle.format.proofs.reader.byte_at.Tie as tie
 
-pub byte-spec : {M : Type 1} → statement M
-byte-spec =
+pub byte-at-spec : {M : Type 1} → statement M
+byte-at-spec =
     tie.close
     (tie.spec
     (λ c. search needs)
