@@ -1,4 +1,4 @@
--- The laws of the tests and counts over the numbers below n.
+-- The laws of the tests, counts and lists over the numbers below n.
 -- Assumes nothing.
 use Prim.Native.Nat.{ℕ, zero, suc, _+_, _≤_, _<_, zero-le}
 use native.Mathlib.Omega.{arith}
@@ -6,12 +6,19 @@ use native.Mathlib.Nat.{le-of-suc-le-suc, eq-or-lt-of-le, lt-of-not-le, not-suc-
 use native.Mathlib.Numerals.{add-one}
 use mathlib.Core.Path.{_≡_, refl, sym, _∙_, ap, ap₂, subst}
 use mathlib.Core.Logic.{_⊎_, ⊎-elim}
+use mathlib.Core.List.{[], _∷_, List·Memᴰ·head, List·Memᴰ·not-nil}
 use mathlib.Core.Bool.{Bool, true, false, cond, _&&_, _||_, true≢false, false≢true}
 use mathlib.Core.Option.{Option, none, some}
+use lib.ListN.{length, length-append}
 use lib.Dec.{eqb}
 use borrow.Author.Tests.{eq-eqb, ne-eqb, eqb-true}
-use Rattle.keys.specs.BoolLaws.{true-false, not-true→false, or-true→, or-right, and-true→, and-true, and-false→}
-use Rattle.bits.specs.Below.{allBelow, countBelow, orElse, firstBelow}
+use Rattle.keys.specs.BoolLaws.{true-false, not-true→false, or-true→, or-left, or-right, and-true→, and-true}
+use Rattle.keys.specs.Member.{_∈_, keep}
+use Rattle.keys.specs.Ascending.{Ascending, ascending-nil, ascending-cons}
+use Rattle.keys.specs.OrderLaws.{before-less}
+use Rattle.keys.specs.MemberLaws.{∈-singleton, append-∈, ∈-append-left, ∈-append-right, keep-append}
+use Rattle.keys.specs.SortLaws.{ascending-append}
+use Rattle.bits.specs.Below.{allBelow, anyBelow, countBelow, upTo, orElse, firstBelow}
 
 -- a number below n + 1 is below n or is n
 below-suc : {k n : ℕ} → k < suc n → (k ≡ n) ⊎ (k < n)
@@ -42,22 +49,53 @@ unfolding allBelow
 allBelow← zero p f = refl
 allBelow← (suc n) p f = and-true (allBelow n p) (p n) (allBelow← n p (λ k h. f k (omega arith))) (f n (omega arith))
 
-pub allBelow-false→ : (n : ℕ) (p : ℕ → Bool) → allBelow n p ≡ false → (k : ℕ) × (k < n) × (p k ≡ false)
-unfolding allBelow
-allBelow-false→ zero p e = absurd (true≢false e)
-allBelow-false→ (suc n) p e =
-    ⊎-elim
-    (λ (a : allBelow n p ≡ false). let r = allBelow-false→ n p a in (r .0, omega (arith, r .1), r .2))
-    (λ (b : p n ≡ false). (n, omega arith, b))
-    (and-false→ (allBelow n p) (p n) e)
-
 pub allBelow-false← : (n : ℕ) (p : ℕ → Bool) (k : ℕ) → k < n → p k ≡ false → allBelow n p ≡ false
 allBelow-false← n p k h e = not-true→false (allBelow n p) (λ a. true-false (allBelow→ n p a k h) e)
 
-pub allBelow-cong : (n : ℕ) (p q : ℕ → Bool) → ((k : ℕ) → k < n → p k ≡ q k) → allBelow n p ≡ allBelow n q
-unfolding allBelow
-allBelow-cong zero p q f = refl
-allBelow-cong (suc n) p q f = ap₂ _&&_ (allBelow-cong n p q (λ k h. f k (omega arith))) (f n (omega arith))
+-- anyBelow
+pub anyBelow→ : (n : ℕ) (p : ℕ → Bool) → anyBelow n p ≡ true → (k : ℕ) × (k < n) × (p k ≡ true)
+unfolding anyBelow
+anyBelow→ zero p e = absurd (false≢true e)
+anyBelow→ (suc n) p e =
+    ⊎-elim
+    (λ (a : anyBelow n p ≡ true). let r = anyBelow→ n p a in (r .0, omega (arith, r .1), r .2))
+    (λ (b : p n ≡ true). (n, omega arith, b))
+    (or-true→ (anyBelow n p) (p n) e)
+
+pub anyBelow← : (n : ℕ) (p : ℕ → Bool) (k : ℕ) → k < n → p k ≡ true → anyBelow n p ≡ true
+unfolding anyBelow
+anyBelow← zero p k h e = absurd (not-suc-le-zero h)
+anyBelow← (suc n) p k h e =
+    ⊎-elim
+    (λ (q : k ≡ n). or-right (anyBelow n p) (p n) (ap p (sym q) ∙ e))
+    (λ (l : k < n). or-left (anyBelow n p) (p n) (anyBelow← n p k l e))
+    (below-suc h)
+
+-- upTo
+pub upTo-∈ : (n : ℕ) {k : ℕ} → k ∈ upTo n → k < n
+unfolding upTo
+upTo-∈ zero m = absurd (List·Memᴰ·not-nil m)
+upTo-∈ (suc n) {k} m =
+    ⊎-elim
+    (λ (i : k ∈ upTo n). let h : k < n = upTo-∈ n i in omega arith)
+    (λ (i : k ∈ n ∷ []). let q : k ≡ n = ∈-singleton i in omega arith)
+    (append-∈ (upTo n) m)
+
+pub ∈-upTo : (n : ℕ) {k : ℕ} → k < n → k ∈ upTo n
+unfolding upTo
+∈-upTo zero h = absurd (not-suc-le-zero h)
+∈-upTo (suc n) {k} h =
+    ⊎-elim
+    (λ (q : k ≡ n). ∈-append-right (upTo n) (List·Memᴰ·head q))
+    (λ (l : k < n). ∈-append-left (n ∷ []) (∈-upTo n l))
+    (below-suc h)
+
+pub upTo-ascending : (n : ℕ) → Ascending (λ (k : ℕ). k ∷ []) (upTo n)
+unfolding upTo
+upTo-ascending zero = ascending-nil
+upTo-ascending (suc n) =
+    ascending-append (upTo-ascending n) (ascending-cons (λ y m. absurd (List·Memᴰ·not-nil m)) ascending-nil)
+    (λ x y m k. before-less [] [] (let h : x < n = upTo-∈ n m in let q : y ≡ n = ∈-singleton k in omega arith))
 
 -- countBelow
 pub countBelow-cong : (n : ℕ) (p q : ℕ → Bool) → ((k : ℕ) → k < n → p k ≡ q k) → countBelow n p ≡ countBelow n q
@@ -124,12 +162,19 @@ countBelow-lt n p q f k h a b =
     other true e = refl
     other false e = e
 
+-- how many numbers below n pass is the length of their list
+pub countBelow-length : (n : ℕ) (p : ℕ → Bool) → length (keep p (upTo n)) ≡ countBelow n p
+unfolding upTo countBelow keep
+countBelow-length zero p = refl
+countBelow-length (suc n) p =
+    ap length (keep-append p (upTo n) (n ∷ [])) ∙ length-append (keep p (upTo n)) (keep p (n ∷ []))
+    ∙ step (p n) ∙ ap (λ (m : ℕ). cond (p n) (m + 1) m) (countBelow-length n p)
+  where
+    step : (b : Bool) → length (keep p (upTo n)) + length (cond b (n ∷ []) []) ≡ cond b (length (keep p (upTo n)) + 1) (length (keep p (upTo n)))
+    step true = refl
+    step false = omega arith
+
 -- firstBelow
-pub firstBelow-cong : (n : ℕ) (p q : ℕ → Bool) → ((k : ℕ) → k < n → p k ≡ q k) → firstBelow n p ≡ firstBelow n q
-unfolding firstBelow
-firstBelow-cong zero p q f = refl
-firstBelow-cong (suc n) p q f =
-    ap₂ (λ (b : Bool) (o : Option ℕ). orElse o (cond b (some n) none)) (f n (omega arith)) (firstBelow-cong n p q (λ k h. f k (omega arith)))
 
 -- what a search says
 Says : ℕ → (ℕ → Bool) → Option ℕ → Type 0
@@ -171,14 +216,3 @@ firstBelow-some← n p k h e f = is (firstBelow n p) (firstBelow-says n p)
 pub firstBelow-one : (n : ℕ) (p : ℕ → Bool) (k : ℕ) → k < n → p k ≡ true → ((j : ℕ) → j < n → p j ≡ true → j ≡ k) → firstBelow n p ≡ some k
 firstBelow-one n p k h e f =
     firstBelow-some← n p k h e (λ j l. not-true→false (p j) (λ g. let q : j ≡ k = f j (omega arith) g in omega arith))
-
-pub firstBelow-none← : (n : ℕ) (p : ℕ → Bool) → ((k : ℕ) → k < n → p k ≡ false) → firstBelow n p ≡ none
-unfolding Says
-firstBelow-none← n p f = is (firstBelow n p) (firstBelow-says n p)
-  where
-    is : (o : Option ℕ) → Says n p o → o ≡ none
-    is none s = refl
-    is (some m) s = absurd (true-false (s .1) (f m (s .0)))
-
-pub firstBelow-stays : {n m : ℕ} (p : ℕ → Bool) {k : ℕ} → firstBelow n p ≡ some k → n ≤ m → firstBelow m p ≡ some k
-firstBelow-stays {n} {m} p {k} e h = let r = firstBelow-some→ n p e in firstBelow-some← m p k (omega (arith, r .0)) (r .1) (r .2)

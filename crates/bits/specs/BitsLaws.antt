@@ -9,7 +9,7 @@ use mathlib.Core.Logic.{_⊎_, inl, inr, ⊎-elim}
 use mathlib.Core.Bool.{Bool, true, false, cond, _&&_, _||_, true≢false, false≢true}
 use lib.Dec.{eqb, ltb}
 use lib.Arith.{lt-one}
-use lib.Pow.{pow-pos, pow-mono, pow-lt, pow-add, shl-shr, shr-shr, shr-lt, shr-le, split, field, mod-mod-pow}
+use lib.Pow.{pow-pos, pow-mono, pow-lt, pow-add, shl-shr, shr-shr, shr-lt, split, field, mod-mod-pow}
 use lib.Bits.{bitAnd, bitOr, or-shr, or-mod, or-lt, and-shr, and-mod, and-le-l}
 use lib.Count.{ones, onesIn, ones-cat}
 use borrow.Author.Tests.{eqb-true, eq-eqb, ne-eqb, lt-ltb, le-ltb, ltb-true, ltb-false}
@@ -134,21 +134,10 @@ ext (suc n) {v} {w} a b f =
 pub has-ext : {v w : ℕ} → v < 2 ^ 64 → w < 2 ^ 64 → ((k : ℕ) → k < 64 → has v k ≡ has w k) → v ≡ w
 has-ext = ext 64
 
--- the operations make words
-pub join-lt : {v w : ℕ} → v < 2 ^ 64 → w < 2 ^ 64 → join v w < 2 ^ 64
-unfolding join
-join-lt {v} {w} = or-lt 64 v w
-
+-- a meet is a word
 pub meet-lt : {v : ℕ} (w : ℕ) → v < 2 ^ 64 → meet v w < 2 ^ 64
 unfolding meet
 meet-lt {v} w h = lt-of-le-of-lt (and-le-l v w) h
-
-pub including-lt : {w : ℕ} (k : ℕ) → w < 2 ^ 64 → including w k < 2 ^ 64
-including-lt {w} k h =
-    ⊎-elim
-    (λ (l : k < 64). subst (λ (m : ℕ). m < 2 ^ 64) (sym (including-in w k l)) (join-lt h (pow-lt l)))
-    (λ (l : 64 ≤ k). subst (λ (m : ℕ). m < 2 ^ 64) (sym (including-out w k l)) h)
-    (lt-or-le k 64)
 
 -- disjoint sets
 pub meet-none→ : (v w : ℕ) → meet v w ≡ 0 → (k : ℕ) → has v k ≡ true → has w k ≡ false
@@ -173,13 +162,6 @@ lt→within {w} n h = eq-eqb (w / 2 ^ n) 0 (div-eq-of-lt h)
 
 pub within→ : (w n : ℕ) → within w n ≡ true → (k : ℕ) → n ≤ k → has w k ≡ false
 within→ w n e k l = has-beyond (within→lt w n e) l
-
-pub within← : {w : ℕ} (n : ℕ) → w < 2 ^ 64 → ((k : ℕ) → n ≤ k → k < 64 → has w k ≡ false) → within w n ≡ true
-unfolding within
-within← {w} n h f = eq-eqb (w / 2 ^ n) 0 (has-ext (lt-of-le-of-lt (shr-le w n) h) (pow-pos 64) (λ k l. has-shifted w n k ∙ above (n + k) (omega arith) ∙ sym (has-none k)))
-  where
-    above : (k : ℕ) → n ≤ k → has w k ≡ false
-    above k l = ⊎-elim (λ (g : k < 64). f k l g) (λ (g : 64 ≤ k). has-beyond h g) (lt-or-le k 64)
 
 pub within-more : (w n m : ℕ) → n ≤ m → within w n ≡ true → within w m ≡ true
 within-more w n m l e = lt→within m (lt-of-lt-of-le (within→lt w n e) (pow-mono l))
@@ -217,11 +199,11 @@ count-below (suc n) {w} h =
     ∙ ap (λ (m : ℕ). ones (w / 2 ^ n) + m) (count-below n (mod-lt w (pow-pos n)) ∙ countBelow-cong n (has (w % 2 ^ n)) (has w) (has-below w n))
     ∙ top-digit (w / 2 ^ n) (countBelow n (has w)) (shr-lt 1 n (subst (λ (m : ℕ). w < 2 ^ m) (sym (one-add n)) h))
 
-pub count-has : {w : ℕ} → w < 2 ^ 64 → count w ≡ countBelow 64 (has w)
-count-has = count-below 64
-
 pub count-within : (w n : ℕ) → within w n ≡ true → count w ≡ countBelow n (has w)
 count-within w n e = count-below n (within→lt w n e)
+
+pub count-has : {w : ℕ} → w < 2 ^ 64 → count w ≡ countBelow 64 (has w)
+count-has = count-below 64
 
 -- a proper subset has fewer places
 pub count-lt : {v w : ℕ} → v < 2 ^ 64 → w < 2 ^ 64 → ((k : ℕ) → k < 64 → has v k ≡ true → has w k ≡ true)

@@ -1,14 +1,12 @@
 -- A report fits 12,000 bytes.
 -- Assumes nothing.
-use mathlib.Core.Path.{_≡_, refl, _∙_, ap}
-use Prim.Native.Nat.{ℕ, zero, suc, _+_, _/_, _≤_}
-use native.Mathlib.Numerals.{add-one}
+use mathlib.Core.Path.{_≡_, refl, ap}
+use Prim.Native.Nat.{ℕ, _≤_}
 use native.Mathlib.Omega.{arith}
-use mathlib.Core.List.{List, _++_}
-use lib.ListN.{length, length-append}
+use mathlib.Core.List.{List}
+use lib.ListN.{length}
 use Rattle.keys.specs.BoolLaws.{true-false}
-use Rattle.sha256.specs.Fips180.{Working, bigEndian, bytesOf, SHA-256}
-use Rattle.format.specs.Update.{idLength, Update}
+use Rattle.format.specs.Update.{Update}
 use Rattle.rules.specs.Report.{reportOf}
 use Rattle.rules.specs.ReportLaws.{report-length}
 use Rattle.state.specs.declared.Ledger.{Ledger}
@@ -18,33 +16,15 @@ use Rattle.ledger.specs.declared.Refusal.{Refusal}
 use Rattle.ledger.specs.declared.Refusal.the-variants.{Short}
 use Rattle.ledger.specs.declared.Reported.{Reported}
 use Rattle.ledger.specs.declared.Reported.the-variants.{Refused}
+use Rattle.ledger.specs.WriteLaws.{ident-length}
 use Rattle.ledger.specs.Report.{Reporting, unfit, short, written}
-
--- a SHA-256 has 32 bytes
-big-endian-length : (k n : ℕ) → length (bigEndian k n) ≡ k
-unfolding bigEndian
-big-endian-length zero n = refl
-big-endian-length (suc k) n = rw (length-append, big-endian-length k (n / 256), add-one)
-
-word-length : (x n : ℕ) (r : List ℕ) → length r ≡ n → length (bigEndian 4 x ++ r) ≡ 4 + n
-word-length x n r e = length-append (bigEndian 4 x) r ∙ ap (λ (k : ℕ). k + length r) (big-endian-length 4 x) ∙ ap (λ (k : ℕ). 4 + k) e
-
-bytes-length : (H : Working) → length (bytesOf H) ≡ idLength
-unfolding bytesOf
-bytes-length H =
-    word-length _ 28 _ (word-length _ 24 _ (word-length _ 20 _ (word-length _ 16 _ (word-length _ 12 _ (word-length _ 8 _
-    (word-length _ 4 _ (big-endian-length 4 (H .h))))))))
-
-pub id-length : (u : Update) → length (ident u) ≡ idLength
-unfolding ident SHA-256
-id-length u = bytes-length _
 
 -- for a ledger that stands, row 11 does not apply where the buffer has 12,000 bytes
 pub report-fits : {l : Ledger} {s o o′ : List ℕ} {r : Reported} (us : List Update) → Stands l s us → Reporting l s o r o′ → 12000 ≤ length o
     → r ≡ Refused Short → ⊥
 report-fits us h (unfit e) k q = let z : _≡_ {A = ℕ} 0 1 = cc in omega arith
 report-fits us h (short text e t j) k q =
-    let b : length (reportOf ident us) ≤ 12000 = report-length ident id-length us (h .holds .distinct) (h .holds .room) (h .holds .bounded) in
+    let b : length (reportOf ident us) ≤ 12000 = report-length ident ident-length us (h .holds .distinct) (h .holds .room) (h .holds .bounded) in
     omega (arith, b, ap length (t .of-rules us h))
 report-fits us h (written text e t j) k q = let z : _≡_ {A = ℕ} 0 1 = cc in omega arith
 

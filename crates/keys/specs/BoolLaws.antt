@@ -14,10 +14,6 @@ pub not-true→false : (b : Bool) → (b ≡ true → ⊥) → b ≡ false
 not-true→false true h = absurd (h refl)
 not-true→false false h = refl
 
-pub not-false→true : (b : Bool) → (b ≡ false → ⊥) → b ≡ true
-not-false→true true h = refl
-not-false→true false h = absurd (h refl)
-
 -- two tests that pass together are equal
 pub test-ext : (a b : Bool) → (a ≡ true → b ≡ true) → (b ≡ true → a ≡ true) → a ≡ b
 test-ext true b f g = sym (f refl)
@@ -47,7 +43,3 @@ and-true→ false b e = absurd (false≢true e)
 pub and-true : (a b : Bool) → a ≡ true → b ≡ true → (a && b) ≡ true
 and-true true b p q = q
 and-true false b p q = absurd (false≢true p)
-
-pub and-false→ : (a b : Bool) → (a && b) ≡ false → (a ≡ false) ⊎ (b ≡ false)
-and-false→ true b e = inr e
-and-false→ false b e = inl refl

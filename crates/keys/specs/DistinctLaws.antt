@@ -1,14 +1,14 @@
 -- The laws of lists with distinct keys, and the pigeonhole principle. Assumes nothing.
-use Prim.Native.Nat.{ℕ, suc, _≤_, _<_, zero-le}
-use native.Mathlib.Nat.{le-antisymm}
+use Prim.Native.Nat.{ℕ, zero, suc, _≤_, _<_, zero-le}
+use native.Mathlib.Nat.{le-antisymm, le-of-suc-le-suc, not-suc-le-zero}
 use native.Mathlib.Omega.{arith}
 use mathlib.Core.Path.{_≡_, refl, sym, _∙_, ap, subst}
 use mathlib.Core.Logic.{_⊎_, inl, inr, ⊎-elim}
 use mathlib.Core.List.{List, _∷_, _++_, map, List·Memᴰ·head, List·Memᴰ·tail, List·Memᴰ·not-nil}
 use mathlib.Core.Bool.{Bool, true, false, cond}
-use lib.ListN.{length, length-map}
+use lib.ListN.{length, getD, length-map}
 use Rattle.keys.specs.Member.{_∈_, keep, SameMembers}
-use Rattle.keys.specs.MemberLaws.{∈-cases, ∈-map, map-∈, append-∈, keep-∈}
+use Rattle.keys.specs.MemberLaws.{∈-cases, ∈-map, map-∈, append-∈, keep-∈, getD-∈}
 use Rattle.keys.specs.Distinct.{Distinct, distinct-nil, distinct-cons, Identifies}
 
 -- a list without one of its positions
@@ -47,6 +47,17 @@ module _ {A : Type 0} {key : A → List ℕ} where
 
   pub distinct-identifies : {xs : List A} → Distinct key xs → Identifies key xs
   distinct-identifies d x y m k e = distinct-eq d m k e
+
+  -- and stand at one index
+  pub distinct-index : {xs : List A} (d : A) → Distinct key xs → (i j : ℕ) → i < length xs → j < length xs
+      → key (getD xs i d) ≡ key (getD xs j d) → i ≡ j
+  distinct-index d distinct-nil i j h g e = absurd (not-suc-le-zero h)
+  distinct-index d (distinct-cons n s) zero zero h g e = refl
+  distinct-index d (distinct-cons {xs = xs} n s) zero (suc j) h g e = absurd (n (getD xs j d) (getD-∈ xs j d (le-of-suc-le-suc g)) e)
+  distinct-index d (distinct-cons {xs = xs} n s) (suc i) zero h g e =
+      absurd (n (getD xs i d) (getD-∈ xs i d (le-of-suc-le-suc h)) (sym e))
+  distinct-index d (distinct-cons n s) (suc i) (suc j) h g e =
+      ap suc (distinct-index d s i j (le-of-suc-le-suc h) (le-of-suc-le-suc g) e)
 
   pub distinct-keep : (p : A → Bool) {xs : List A} → Distinct key xs → Distinct key (keep p xs)
   unfolding keep

@@ -1,14 +1,15 @@
 -- The laws of membership, and of the operations on lists as sets. Assumes nothing.
-use Prim.Native.Nat.{ℕ, _≤_, zero-le, suc-le-suc}
+use Prim.Native.Nat.{ℕ, zero, suc, _≤_, _<_, zero-le, suc-le-suc}
+use native.Mathlib.Nat.{le-of-suc-le-suc, not-suc-le-zero}
 use native.Mathlib.Omega.{arith}
 use mathlib.Core.Path.{_≡_, refl, sym, _∙_, ap, subst}
 use mathlib.Core.Logic.{_⊎_, inl, inr, ⊎-elim}
 use mathlib.Core.List.{List, [], _∷_, _++_, map, reverse, reverseAux, append-assoc, List·Memᴰ·head, List·Memᴰ·tail, List·Memᴰ·not-nil}
-use mathlib.Core.Bool.{Bool, true, false, cond, _&&_, _||_, true≢false, false≢true}
-use lib.ListN.{length}
+use mathlib.Core.Bool.{Bool, true, false, cond, _&&_, false≢true}
+use lib.ListN.{length, getD}
 use Rattle.keys.specs.Order.{same}
 use Rattle.keys.specs.Member.{_∈_, member, keep, any, all, SameMembers, concatMap}
-use Rattle.keys.specs.BoolLaws.{true-false, not-true→false, test-ext, or-true→, or-left, or-right, and-true→, and-true, and-false→}
+use Rattle.keys.specs.BoolLaws.{true-false, not-true→false, or-true→, or-left, or-right, and-true→, and-true}
 use Rattle.keys.specs.OrderLaws.{same→eq, eq→same}
 -- membership in a cons, in ++ and in a map; a member replaced by an equal one
 pub use mathlib.Core.List.{List·Memᴰ·cases-cons as ∈-cases, List·Memᴰ·eq-of-singleton as ∈-singleton, Memᴰ·cast as ∈-cast}
@@ -31,9 +32,6 @@ member-false→ e m = true-false (∈→member m) e
 
 pub member-false : (x : List ℕ) (xs : List (List ℕ)) → (x ∈ xs → ⊥) → member x xs ≡ false
 member-false x xs n = not-true→false (member x xs) (λ e. n (member→∈ x xs e))
-
-pub member-same : (x : List ℕ) {xs ys : List (List ℕ)} → SameMembers xs ys → member x xs ≡ member x ys
-member-same x {xs} {ys} s = test-ext (member x xs) (member x ys) (λ e. ∈→member (s .forth x (member→∈ x xs e))) (λ e. ∈→member (s .back x (member→∈ x ys e)))
 
 module _ {A : Type 0} where
   -- SameMembers is an equivalence
@@ -110,19 +108,6 @@ module _ {A : Type 0} where
   keep-none p [] h = refl
   keep-none p (x ∷ xs) h = keep-false p x xs (h x (List·Memᴰ·head refl)) ∙ keep-none p xs (λ y m. h y (List·Memᴰ·tail m))
 
-  pub keep-keep : (p q : A → Bool) (xs : List A) → keep p (keep q xs) ≡ keep (λ x. q x && p x) xs
-  unfolding keep
-  keep-keep p q [] = refl
-  keep-keep p q (x ∷ xs) = step (q x) (p x) refl (keep-keep p q xs)
-    where
-      step : (b c : Bool) → p x ≡ c → keep p (keep q xs) ≡ keep (λ y. q y && p y) xs → keep p (cond b (x ∷ keep q xs) (keep q xs)) ≡ cond (b && c) (x ∷ keep (λ y. q y && p y) xs) (keep (λ y. q y && p y) xs)
-      step true true e h = keep-true p x (keep q xs) e ∙ ap (λ (l : List A). x ∷ l) h
-      step true false e h = keep-false p x (keep q xs) e ∙ h
-      step false c e h = h
-
-  pub keep-same : (p : A → Bool) {xs ys : List A} → SameMembers xs ys → SameMembers (keep p xs) (keep p ys)
-  keep-same p {xs} {ys} s = record { forth = λ x m. let r = keep-∈ p xs m in ∈-keep p (s .forth x (r .0)) (r .1); back = λ x m. let r = keep-∈ p ys m in ∈-keep p (s .back x (r .0)) (r .1) }
-
   -- any
   pub any→∈ : (p : A → Bool) (xs : List A) → any p xs ≡ true → (x : A) × (x ∈ xs) × (p x ≡ true)
   unfolding any
@@ -144,14 +129,6 @@ module _ {A : Type 0} where
   pub any-false : (p : A → Bool) (xs : List A) → ((x : A) → x ∈ xs → p x ≡ false) → any p xs ≡ false
   any-false p xs h = not-true→false (any p xs) (λ e. let r = any→∈ p xs e in true-false (r .2) (h (r .0) (r .1)))
 
-  pub any-cong : (p q : A → Bool) (xs : List A) → ((x : A) → x ∈ xs → p x ≡ q x) → any p xs ≡ any q xs
-  unfolding any
-  any-cong p q [] h = refl
-  any-cong p q (y ∷ ys) h = λ i. h y (List·Memᴰ·head refl) i || any-cong p q ys (λ x m. h x (List·Memᴰ·tail m)) i
-
-  pub any-same : (p : A → Bool) {xs ys : List A} → SameMembers xs ys → any p xs ≡ any p ys
-  any-same p {xs} {ys} s = test-ext (any p xs) (any p ys) (λ e. let r = any→∈ p xs e in ∈→any p (s .forth (r .0) (r .1)) (r .2)) (λ e. let r = any→∈ p ys e in ∈→any p (s .back (r .0) (r .1)) (r .2))
-
   -- all
   pub all→∈ : (p : A → Bool) (xs : List A) → all p xs ≡ true → (x : A) → x ∈ xs → p x ≡ true
   unfolding all
@@ -163,25 +140,10 @@ module _ {A : Type 0} where
   ∈→all p [] h = refl
   ∈→all p (y ∷ ys) h = and-true (p y) (all p ys) (h y (List·Memᴰ·head refl)) (∈→all p ys (λ x m. h x (List·Memᴰ·tail m)))
 
-  pub all-false→ : (p : A → Bool) (xs : List A) → all p xs ≡ false → (x : A) × (x ∈ xs) × (p x ≡ false)
-  unfolding all
-  all-false→ p [] e = absurd (true≢false e)
-  all-false→ p (y ∷ ys) e = step (and-false→ (p y) (all p ys) e) (all-false→ p ys)
-    where
-      step : (p y ≡ false) ⊎ (all p ys ≡ false) → (all p ys ≡ false → (x : A) × (x ∈ ys) × (p x ≡ false)) → (x : A) × (x ∈ y ∷ ys) × (p x ≡ false)
-      step (inl h) below = (y, List·Memᴰ·head refl, h)
-      step (inr h) below = let r = below h in (r .0, List·Memᴰ·tail (r .1), r .2)
-
-  pub all-false : (p : A → Bool) {x : A} {xs : List A} → x ∈ xs → p x ≡ false → all p xs ≡ false
-  all-false p {x} {xs} m e = not-true→false (all p xs) (λ h. true-false (all→∈ p xs h x m) e)
-
   pub all-cong : (p q : A → Bool) (xs : List A) → ((x : A) → x ∈ xs → p x ≡ q x) → all p xs ≡ all q xs
   unfolding all
   all-cong p q [] h = refl
   all-cong p q (y ∷ ys) h = λ i. h y (List·Memᴰ·head refl) i && all-cong p q ys (λ x m. h x (List·Memᴰ·tail m)) i
-
-  pub all-same : (p : A → Bool) {xs ys : List A} → SameMembers xs ys → all p xs ≡ all p ys
-  all-same p {xs} {ys} s = test-ext (all p xs) (all p ys) (λ e. ∈→all p ys (λ x m. all→∈ p xs e x (s .back x m))) (λ e. ∈→all p xs (λ x m. all→∈ p ys e x (s .forth x m)))
 
   -- reverse
   ∈-reverseAux-right : (xs : List A) {x : A} {r : List A} → x ∈ r → x ∈ reverseAux xs r
@@ -201,6 +163,16 @@ module _ {A : Type 0} where
 
   pub reverse-∈ : (xs : List A) {x : A} → x ∈ reverse xs → x ∈ xs
   reverse-∈ xs {x} m = ⊎-elim (λ (h : x ∈ xs). h) (λ (h : x ∈ []). absurd (List·Memᴰ·not-nil h)) (reverseAux-∈ xs [] m)
+
+  -- members by their indices
+  pub getD-∈ : (xs : List A) (k : ℕ) (d : A) → k < length xs → getD xs k d ∈ xs
+  getD-∈ [] k d h = absurd (not-suc-le-zero h)
+  getD-∈ (x ∷ xs) zero d h = List·Memᴰ·head refl
+  getD-∈ (x ∷ xs) (suc k) d h = List·Memᴰ·tail (getD-∈ xs k d (le-of-suc-le-suc h))
+
+  pub ∈-getD : {x : A} {xs : List A} (d : A) → x ∈ xs → (k : ℕ) × (k < length xs) × (getD xs k d ≡ x)
+  ∈-getD d (List·Memᴰ·head e) = (0, suc-le-suc zero-le, sym e)
+  ∈-getD d (List·Memᴰ·tail m) = let r = ∈-getD d m in (suc (r .0), suc-le-suc (r .1), r .2)
 
 module _ {A B : Type 0} where
   -- concatMap
@@ -228,16 +200,10 @@ module _ {A B : Type 0} where
   concatMap-append f [] ys = refl
   concatMap-append f (z ∷ zs) ys = ap (λ (l : List B). f z ++ l) (concatMap-append f zs ys) ∙ sym (append-assoc (f z) (concatMap f zs) (concatMap f ys))
 
-  pub concatMap-same : (f : A → List B) {xs ys : List A} → SameMembers xs ys → SameMembers (concatMap f xs) (concatMap f ys)
-  concatMap-same f {xs} {ys} s = record { forth = λ y m. let r = concatMap-∈ f xs m in ∈-concatMap f (s .forth (r .0) (r .1)) (r .2); back = λ y m. let r = concatMap-∈ f ys m in ∈-concatMap f (s .back (r .0) (r .1)) (r .2) }
-
   -- map
   pub map-cong : (f g : A → B) (xs : List A) → ((x : A) → x ∈ xs → f x ≡ g x) → map f xs ≡ map g xs
   map-cong f g [] h = refl
   map-cong f g (x ∷ xs) h = λ i. h x (List·Memᴰ·head refl) i ∷ map-cong f g xs (λ y m. h y (List·Memᴰ·tail m)) i
-
-  pub map-same : (f : A → B) {xs ys : List A} → SameMembers xs ys → SameMembers (map f xs) (map f ys)
-  map-same f {xs} {ys} s = record { forth = λ y m. let r = map-∈ f xs m in ∈-cast (sym (r .2)) (∈-map f (s .forth (r .0) (r .1))); back = λ y m. let r = map-∈ f ys m in ∈-cast (sym (r .2)) (∈-map f (s .back (r .0) (r .1))) }
 
   pub keep-map : (p : B → Bool) (f : A → B) (xs : List A) → keep p (map f xs) ≡ map f (keep (λ x. p (f x)) xs)
   unfolding keep

@@ -36,13 +36,13 @@ pub decEq : (a b : List ℕ) → Dec (a ≡ b)
 decEq a b = ⊎-elim (λ (e : same a b ≡ true). yes (same→eq a b e)) (λ (e : same a b ≡ false). no (same-false→ne a b e)) (bool-cases (same a b))
 
 -- `before` at two conses
-before-lt : (x y : ℕ) (xs ys : List ℕ) → x < y → before (x ∷ xs) (y ∷ ys) ≡ true
+pub before-less : {x y : ℕ} (xs ys : List ℕ) → x < y → before (x ∷ xs) (y ∷ ys) ≡ true
 unfolding before
-before-lt x y xs ys h = or-left (ltb x y) (eqb x y && before xs ys) (lt-ltb x y h)
+before-less {x} {y} xs ys h = or-left (ltb x y) (eqb x y && before xs ys) (lt-ltb x y h)
 
-before-eq : (x y : ℕ) (xs ys : List ℕ) → x ≡ y → before xs ys ≡ true → before (x ∷ xs) (y ∷ ys) ≡ true
+pub before-equal : {x y : ℕ} (xs ys : List ℕ) → x ≡ y → before xs ys ≡ true → before (x ∷ xs) (y ∷ ys) ≡ true
 unfolding before
-before-eq x y xs ys e h = or-right (ltb x y) (eqb x y && before xs ys) (and-true (eqb x y) (before xs ys) (eq-eqb x y e) h)
+before-equal {x} {y} xs ys e h = or-right (ltb x y) (eqb x y && before xs ys) (and-true (eqb x y) (before xs ys) (eq-eqb x y e) h)
 
 before-cases : (x y : ℕ) (xs ys : List ℕ) → before (x ∷ xs) (y ∷ ys) ≡ true → (x < y) ⊎ ((x ≡ y) × (before xs ys ≡ true))
 unfolding before
@@ -67,19 +67,16 @@ before-trans (x ∷ xs) (y ∷ ys) (z ∷ zs) p q = step (before-cases x y xs ys
   where
     step : (x < y) ⊎ ((x ≡ y) × (before xs ys ≡ true)) → (y < z) ⊎ ((y ≡ z) × (before ys zs ≡ true))
         → (before xs ys ≡ true → before ys zs ≡ true → before xs zs ≡ true) → before (x ∷ xs) (z ∷ zs) ≡ true
-    step (inl h) (inl k) below = before-lt x z xs zs (omega arith)
-    step (inl h) (inr k) below = before-lt x z xs zs (omega arith)
-    step (inr h) (inl k) below = before-lt x z xs zs (omega arith)
-    step (inr h) (inr k) below = before-eq x z xs zs (h .0 ∙ k .0) (below (h .1) (k .1))
+    step (inl h) (inl k) below = before-less {x = x} {y = z} xs zs (omega arith)
+    step (inl h) (inr k) below = before-less {x = x} {y = z} xs zs (omega arith)
+    step (inr h) (inl k) below = before-less {x = x} {y = z} xs zs (omega arith)
+    step (inr h) (inr k) below = before-equal xs zs (h .0 ∙ k .0) (below (h .1) (k .1))
 
 pub before-asym : (a b : List ℕ) → before a b ≡ true → before b a ≡ false
 before-asym a b p = not-true→false (before b a) (λ q. before-irrefl-⊥ a (before-trans a b a p q))
 
 pub before→ne : (a b : List ℕ) → before a b ≡ true → a ≡ b → ⊥
 before→ne a b p e = before-irrefl-⊥ b (subst (λ (c : List ℕ). before c b ≡ true) e p)
-
-pub before→same-false : (a b : List ℕ) → before a b ≡ true → same a b ≡ false
-before→same-false a b p = ne→same-false a b (before→ne a b p)
 
 nat-trichotomy : (x y : ℕ) → (x < y) ⊎ ((x ≡ y) ⊎ (y < x))
 nat-trichotomy x y = go (ltb x y) refl (eqb x y) refl
@@ -98,11 +95,11 @@ trichotomy (x ∷ xs) (y ∷ ys) = step (nat-trichotomy x y) (trichotomy xs ys)
   where
     step : (x < y) ⊎ ((x ≡ y) ⊎ (y < x)) → (before xs ys ≡ true) ⊎ ((xs ≡ ys) ⊎ (before ys xs ≡ true))
         → (before (x ∷ xs) (y ∷ ys) ≡ true) ⊎ ((x ∷ xs ≡ y ∷ ys) ⊎ (before (y ∷ ys) (x ∷ xs) ≡ true))
-    step (inl h) t = inl (before-lt x y xs ys h)
-    step (inr (inl e)) (inl h) = inl (before-eq x y xs ys e h)
+    step (inl h) t = inl (before-less xs ys h)
+    step (inr (inl e)) (inl h) = inl (before-equal xs ys e h)
     step (inr (inl e)) (inr (inl h)) = inr (inl (λ i. e i ∷ h i))
-    step (inr (inl e)) (inr (inr h)) = inr (inr (before-eq y x ys xs (sym e) h))
-    step (inr (inr h)) t = inr (inr (before-lt y x ys xs h))
+    step (inr (inl e)) (inr (inr h)) = inr (inr (before-equal ys xs (sym e) h))
+    step (inr (inr h)) t = inr (inr (before-less ys xs h))
 
 pub not-before→after : (a b : List ℕ) → before a b ≡ false → same a b ≡ false → before b a ≡ true
 not-before→after a b p q = ⊎-elim (λ (h : before a b ≡ true). absurd (true-false h p)) (⊎-elim (λ (e : a ≡ b). absurd (same-false→ne a b q e)) (λ (h : before b a ≡ true). h)) (trichotomy a b)

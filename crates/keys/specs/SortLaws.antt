@@ -4,7 +4,7 @@ use native.Mathlib.Nat.{le-refl}
 use native.Mathlib.Omega.{arith}
 use mathlib.Core.Path.{_≡_, refl, sym, _∙_, ap, subst}
 use mathlib.Core.Logic.{_⊎_, inl, inr, ⊎-elim}
-use mathlib.Core.List.{List, [], _∷_, map, List·Memᴰ·head, List·Memᴰ·tail, List·Memᴰ·not-nil}
+use mathlib.Core.List.{List, [], _∷_, _++_, map, List·Memᴰ·head, List·Memᴰ·tail, List·Memᴰ·not-nil}
 use mathlib.Core.Bool.{Bool, true, false, cond}
 use lib.ListN.{length}
 use Rattle.keys.specs.Order.{before, same, ascending}
@@ -14,8 +14,8 @@ use Rattle.keys.specs.Distinct.{Distinct, distinct-nil, distinct-cons, I
 use Rattle.keys.specs.Ascending.{Ascending, ascending-nil, ascending-cons}
 use Rattle.keys.specs.BoolLaws.{true-false, and-true→, and-true}
 use Rattle.keys.specs.OrderLaws.{same→eq, before-trans, before-asym, before→ne, not-before→after}
-use Rattle.keys.specs.MemberLaws.{∈-cases, ∈-singleton, ∈-cast, ∈-map, map-∈, keep-∈, keep-same, same-members-refl, same-members-sym, same-members-trans}
-use Rattle.keys.specs.DistinctLaws.{distinct-identifies, distinct-same-length}
+use Rattle.keys.specs.MemberLaws.{∈-cases, ∈-singleton, ∈-cast, append-∈, keep-∈, same-members-refl, same-members-sym, same-members-trans}
+use Rattle.keys.specs.DistinctLaws.{distinct-identifies}
 
 -- ascending lists
 module _ {A : Type 0} {key : A → List ℕ} where
@@ -41,10 +41,19 @@ module _ {A : Type 0} {key : A → List ℕ} where
       step true k = ascending-cons (λ y m. h y (keep-∈ p xs m .0)) k
       step false k = k
 
-  -- the keys of an ascending list
-  pub ascending-keys : {xs : List A} → Ascending key xs → Ascending (λ (k : List ℕ). k) (map key xs)
-  ascending-keys ascending-nil = ascending-nil
-  ascending-keys (ascending-cons {x = x} {xs = xs} h d) = ascending-cons (λ k m. let r = map-∈ key xs m in subst (λ (j : List ℕ). before (key x) j ≡ true) (r .2) (h (r .0) (r .1))) (ascending-keys d)
+  pub ascending-append : {xs ys : List A} → Ascending key xs → Ascending key ys
+      → ((x y : A) → x ∈ xs → y ∈ ys → before (key x) (key y) ≡ true) → Ascending key (xs ++ ys)
+  ascending-append ascending-nil e h = e
+  ascending-append {ys = ys} (ascending-cons {x = x} {xs = xs} b d) e h =
+      ascending-cons (λ y m. ⊎-elim (λ (k : y ∈ xs). b y k) (λ (k : y ∈ ys). h x y (List·Memᴰ·head refl) k) (append-∈ xs m))
+      (ascending-append d e (λ a c k. h a c (List·Memᴰ·tail k)))
+
+  -- by another key that keeps the order
+  pub ascending-rekey : (key′ : A → List ℕ) {xs : List A} → Ascending key xs
+      → ((x y : A) → x ∈ xs → y ∈ xs → before (key x) (key y) ≡ true → before (key′ x) (key′ y) ≡ true) → Ascending key′ xs
+  ascending-rekey key′ ascending-nil h = ascending-nil
+  ascending-rekey key′ (ascending-cons {x = x} b d) h =
+      ascending-cons (λ y m. h x y (List·Memᴰ·head refl) (List·Memᴰ·tail m) (b y m)) (ascending-rekey key′ d (λ y z m k. h y z (List·Memᴰ·tail m) (List·Memᴰ·tail k)))
 
   -- the test `ascending`
   pub Ascending→ascending : {xs : List A} → Ascending key xs → ascending (map key xs) ≡ true
@@ -84,9 +93,6 @@ module _ {A : Type 0} {key : A → List ℕ} where
       let t : SameMembers xs ys = record { forth = tail-sub (ascending-cons h d) p (s .forth); back = tail-sub (ascending-cons k e) (sym p) (s .back) } in
       let r : xs ≡ ys = ascending-unique d e t in
       λ i. p i ∷ r i
-
-pub ascending-unique-keys : {A : Type 0} {key : A → List ℕ} {xs ys : List A} → Ascending key xs → Ascending key ys → SameMembers (map key xs) (map key ys) → map key xs ≡ map key ys
-ascending-unique-keys d e s = ascending-unique (ascending-keys d) (ascending-keys e) s
 
 -- insert and sort
 module _ {A : Type 0} (key : A → List ℕ) where
@@ -171,21 +177,11 @@ module _ {A : Type 0} (key : A → List ℕ) where
   pub sort-same : (xs : List A) → Identifies key xs → SameMembers (sort key xs) xs
   sort-same xs h = record { forth = λ x m. sort-∈ xs m; back = λ x m. ∈-sort h m }
 
-  pub sort-keys : (xs : List A) → SameMembers (map key (sort key xs)) (map key xs)
-  sort-keys xs = record {
-    forth = λ k m. let r = map-∈ key (sort key xs) m in ∈-cast (sym (r .2)) (∈-map key (sort-∈ xs (r .1)));
-    back = λ k m. let r = map-∈ key xs m in let t = sort-key (r .1) in ∈-cast (sym (t .2 ∙ r .2)) (∈-map key (t .1));
-  }
-
   -- the sort depends on the set alone
   pub same-sort : {xs ys : List A} → Identifies key xs → SameMembers xs ys → sort key xs ≡ sort key ys
   same-sort {xs} {ys} h s =
       let k : Identifies key ys = λ x y m n. h x y (s .back x m) (s .back y n) in
       ascending-unique (sort-ascending xs) (sort-ascending ys) (same-members-trans (sort-same xs h) (same-members-trans s (same-members-sym (sort-same ys k))))
-
-  -- and its keys on the set of keys
-  pub same-sort-keys : (xs ys : List A) → SameMembers (map key xs) (map key ys) → map key (sort key xs) ≡ map key (sort key ys)
-  same-sort-keys xs ys s = ascending-unique-keys (sort-ascending xs) (sort-ascending ys) (same-members-trans (sort-keys xs) (same-members-trans s (same-members-sym (sort-keys ys))))
 
   -- an ascending list with the members of xs is its sort
   pub sort-unique : {xs ys : List A} → Identifies key xs → Ascending key ys → SameMembers xs ys → sort key xs ≡ ys
@@ -194,10 +190,6 @@ module _ {A : Type 0} (key : A → List ℕ) where
   pub sort-sorted : {xs : List A} → Ascending key xs → sort key xs ≡ xs
   sort-sorted {xs} d = sort-unique (ascending-identifies d) d (same-members-refl xs)
 
-  pub sort-keep : (p : A → Bool) (xs : List A) → Identifies key xs → sort key (keep p xs) ≡ keep p (sort key xs)
-  sort-keep p xs h =
-      sort-unique (λ x y m n. h x y (keep-∈ p xs m .0) (keep-∈ p xs n .0)) (ascending-keep p (sort-ascending xs)) (keep-same p (same-members-sym (sort-same xs h)))
-
   pub sort-length : (xs : List A) → length (sort key xs) ≤ length xs
   unfolding sort
   sort-length [] = zero-le
@@ -205,12 +197,6 @@ module _ {A : Type 0} (key : A → List ℕ) where
 
   pub sort-distinct : (xs : List A) → Distinct key (sort key xs)
   sort-distinct xs = ascending-distinct (sort-ascending xs)
-
-  pub sort-length-eq : {xs : List A} → Distinct key xs → length (sort key xs) ≡ length xs
-  sort-length-eq {xs} d = distinct-same-length (sort-distinct xs) d (sort-same xs (distinct-identifies d))
-
-  pub sort-sort : (xs : List A) → sort key (sort key xs) ≡ sort key xs
-  sort-sort xs = sort-sorted (sort-ascending xs)
 
 -- the sort depends on the keys of the members alone
 module _ {A : Type 0} (key key′ : A → List ℕ) where

@@ -14,7 +14,6 @@ use Rattle.format.specs.declared.Parsed.{Parsed}
 use Rattle.format.specs.declared.Reading.{Reading}
 use Rattle.format.specs.declared.Reading.the-variants.{Update as Accepted, Refused as NotRead}
 use Rattle.state.specs.declared.Ledger.{Ledger}
-use Rattle.state.specs.declared.Place.{Place}
 use Rattle.state.specs.State.{places, placeAt, written, findIn, isHeld, isVoid, countOf}
 use Rattle.state.specs.Row1.{sound}
 use Rattle.ledger.specs.declared.Refusal.the-variants.{Unfit, Malformed as Bad, Full}
@@ -37,20 +36,20 @@ module _ (l : Ledger) (s b : List ℕ) where
 
   -- by where the id was found
   module _ (f : Formed l s b) (i : Id) (hashed : i ≡ SHA-256 b) where
-    pub offered-known : (k : ℕ) → findIn l i ≡ some k → {p : Place} → p ≡ placeAt l k → {o : Offered} → o ≡ left l (Known (p .standing))
+    pub offered-known : (k : ℕ) → findIn l i ≡ some k → {o : Offered} → o ≡ left l (Known (placeAt l k .standing))
         → Offering l s b o s
-    offered-known k h at e = rw (e, at) (known (f .value) k (f .is-sound) (f .decodes) (ap (findIn l) (sym hashed) ∙ h))
+    offered-known k h e = rw e (known (f .value) k (f .is-sound) (f .decodes) (ap (findIn l) (sym hashed) ∙ h))
 
     pub offered-full : findIn l i ≡ none → l .used ≡ places → {o : Offered} → o ≡ left l (Refused Full) → Offering l s b o s
     offered-full h n e = rw e (full (f .value) (f .is-sound) (f .decodes) (ap (findIn l) (sym hashed) ∙ h) n)
 
     -- a place is taken: the new place, and the counts after and before
     pub offered-taken : findIn l i ≡ none → l .used < places → {r : Ledger} {s′ : List ℕ} → Took l s b (f .value) r s′
-        → s′ ≡ written s (maxLength * l .used) b → {p : Place} → p ≡ placeAt r (l .used) → {h₁ h₀ v₁ v₀ : ℕ}
+        → s′ ≡ written s (maxLength * l .used) b → {h₁ h₀ v₁ v₀ : ℕ}
         → h₁ ≡ countOf isHeld r → h₀ ≡ countOf isHeld l → v₁ ≡ countOf isVoid r → v₀ ≡ countOf isVoid l
-        → Offering l s b (record { answer = Taken (p .standing) (h₁ - h₀) (v₁ - v₀); ledger = r }) s′
-    offered-taken h n {r} t w at e₁ e₀ d₁ d₀ =
-        rw (at, e₁, e₀, d₁, d₀, w)
+        → Offering l s b (record { answer = Taken (placeAt r (l .used) .standing) (h₁ - h₀) (v₁ - v₀); ledger = r }) s′
+    offered-taken h n {r} t w e₁ e₀ d₁ d₀ =
+        rw (e₁, e₀, d₁, d₀, w)
         (taken (f .value) r (f .is-sound) (f .decodes) (ap (findIn l) (sym hashed) ∙ h) n (subst (Took l s b (f .value) r) w t))
 
 -- the standing of an id
@@ -59,9 +58,9 @@ module _ (l : Ledger) (s : List ℕ) (i : Id) where
   unfolding askedOf
   asked-unfit h = rw h
 
-  pub asked-at : sound l s ≡ true → (k : ℕ) → findIn l i ≡ some k → {p : Place} → p ≡ placeAt l k → Is (p .standing) ≡ askedOf l s i
+  pub asked-at : sound l s ≡ true → (k : ℕ) → findIn l i ≡ some k → Is (placeAt l k .standing) ≡ askedOf l s i
   unfolding askedOf
-  asked-at h k f at = rw (h, f, at)
+  asked-at h k f = rw (h, f)
 
   pub asked-nowhere : sound l s ≡ true → findIn l i ≡ none → Unknown ≡ askedOf l s i
   unfolding askedOf

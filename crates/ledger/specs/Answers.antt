@@ -28,8 +28,6 @@ use Rattle.rules.specs.Settling.{settled-decides}
 use Rattle.rules.specs.Decides.{Decides}
 use Rattle.rules.specs.Report.{ascii, decimal}
 use Rattle.state.specs.declared.Ledger.{Ledger}
-use Rattle.state.specs.declared.Standing.{Standing}
-use Rattle.state.specs.declared.Standing.the-variants.{Held as IsHeld, Waiting as IsWaiting, Void as IsVoid}
 use Rattle.state.specs.State.{places, placeAt, countOf, isHeld as stateHeld, isVoid as stateVoid}
 use Rattle.state.specs.Stands.{ident, noUpdate, updateAt, Stands}
 use Rattle.state.specs.FindLaws.{stored-at, find-right}
@@ -39,7 +37,7 @@ use Rattle.ledger.specs.declared.Offered.{Offered}
 use Rattle.ledger.specs.declared.Answer.the-variants.{Taken}
 use Rattle.ledger.specs.Words.{standingWord, answerText}
 use Rattle.ledger.specs.Offer.{Offering, unfit, malformed, known, full, taken}
-use Rattle.ledger.specs.Calls.{Says, says, only-held, only-waiting, only-void, decoded-id, found-known, none-new, offer-stands}
+use Rattle.ledger.specs.Calls.{says, only-held, only-waiting, only-void, decoded-id, found-known, none-new}
 
 -- the standing of an id in a settled table
 unfoldable pub standingIn : Table → Id → List ℕ

@@ -1,24 +1,21 @@
 -- What the entries promise, for every ledger, store and offered bytes.
 -- Assumes nothing.
 use mathlib.Core.Path.{_≡_}
-use Prim.Native.Nat.{ℕ, _+_, _-_, _*_, _≤_, _<_}
+use Prim.Native.Nat.{ℕ, _+_, _-_, _*_, _<_}
 use mathlib.Core.List.{List, [], _∷_, _++_}
 use mathlib.Core.Option.{Option, none, some}
-use mathlib.Core.Bool.{Bool, true, false, cond}
+use mathlib.Core.Bool.{true, false, cond}
 use lib.ListN.{length, replicate}
 use Rattle.sha256.specs.Fips180.{SHA-256}
 use Rattle.format.specs.Update.{Id, Update, maxLength}
-use Rattle.format.specs.Decode.{Decoded, refused, update, decode}
+use Rattle.format.specs.Decode.{refused, update, decode}
 use Rattle.format.specs.Reading.{numberOf}
 use Rattle.format.specs.declared.Malformed.{Malformed}
 use Rattle.state.specs.declared.Ledger.{Ledger}
-use Rattle.state.specs.declared.Place.{Place}
-use Rattle.state.specs.declared.Standing.{Standing}
-use Rattle.state.specs.declared.Standing.the-variants.{Held, Waiting, Void}
+use Rattle.state.specs.declared.Standing.the-variants.{Held, Waiting}
 use Rattle.state.specs.State.{places, placeAt, findIn, written, isHeld, isVoid, countOf}
 use Rattle.state.specs.Row1.{sound}
 use Rattle.state.specs.Stands.{Stands}
-use Rattle.ledger.specs.declared.Refusal.{Refusal}
 use Rattle.ledger.specs.declared.Refusal.the-variants.{Unfit, Malformed as Bad, Full}
 use Rattle.ledger.specs.declared.Answer.{Answer}
 use Rattle.ledger.specs.declared.Answer.the-variants.{Taken, Known, Refused}

@@ -1,9 +1,7 @@
 -- Document 01's numbers and words for each case of each answer.
 -- Assumes nothing.
 use Prim.Native.Nat.{ℕ}
-use Prim.Native.String.{String}
 use mathlib.Core.List.{List, _++_}
-use Rattle.format.specs.declared.Malformed.{Malformed}
 use Rattle.format.specs.Reading.{numberOf}
 use Rattle.rules.specs.Report.{ascii, decimal}
 use Rattle.state.specs.declared.Standing.{Standing}

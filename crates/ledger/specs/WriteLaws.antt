@@ -12,7 +12,7 @@ use lib.Seq.{take-at, getD-append-seam}
 use Rattle.keys.specs.Member.{_∈_}
 use Rattle.keys.specs.BoolLaws.{true-false}
 use Rattle.sha256.specs.Fips180.{SHA-256}
-use Rattle.sha256.proofs.Bytes.{length-digest}
+use Rattle.sha256.specs.Lengths.{length-digest}
 use Rattle.format.specs.Update.{Id, maxAuthor, idLength, tagLength, Operation, Update, encode, Bounded, BoundedOperation, add, remove, insert, delete}
 use Rattle.format.specs.Decode.{idsAt, refused, decode, update}
 use Rattle.format.specs.Parts.{ids-length, ids-sized}

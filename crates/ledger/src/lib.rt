@@ -1,6 +1,7 @@
 // The hours ledger: the public library. Copies of the ledger take updates in any order; each stored update is held, waiting or void by its ancestors
 // alone. The bookkeeping goes in by value and the new one comes back; the updates' bytes lie in a store that the caller lends.
 ghost use mathlib.Core.Path.{_≡_};
+ghost use Rattle.ledger.specs.Words.{refusalNumber};
 ghost use Rattle.ledger.specs.Offer.{Offering, askedOf, freshLedger};
 ghost use Rattle.ledger.specs.Report.{Reporting};
 ghost use Rattle.ledger.specs.Write.{Writing};
@@ -18,7 +19,7 @@ use state::Found;
 use state::find::find;
 use state::row1::sound;
 
-// Why a call is refused. `refusalNumber` of specs/Words.antt has document 01's number of each.
+// Why a call is refused.
 pub enum Refusal {
     // Row 1: the ledger and the store do not fit each other.
     Unfit,
@@ -30,6 +31,21 @@ pub enum Refusal {
     Short,
     // Row 12: the written operation would be void.
     Invalid,
+}
+
+impl Refusal {
+    // Document 01's number.
+    pub fn number(self) -> u8
+        ensures { λ r. ⌜ r ≡ refusalNumber self ⌝ }
+    {
+        match self {
+            Refusal::Unfit => 1,
+            Refusal::Malformed(m) => m.number(),
+            Refusal::Full => 10,
+            Refusal::Short => 11,
+            Refusal::Invalid => 12,
+        }
+    }
 }
 
 // What the writer answers: how many bytes of the output buffer the update takes.
@@ -103,7 +119,7 @@ pub fn standing(ledger: Ledger, store: &[u8], id: [u8; 32]) -> Asked
     }
     match find(ledger, &id) {
         Found::At(k) => {
-            let p = ledger.place(k);
+            let p = ledger.places[k];
             let standing = p.standing;
             Asked::Is(standing)
         }

@@ -39,7 +39,7 @@ fn take(ledger: Ledger, store: &mut [u8], update: &[u8], id: [u8; 32]) -> Offere
     let k = ledger.used;
     write_at(store, k, update);
     let next = ledger.taken(id, update.len()).settle(store);
-    let p = next.place(k);
+    let p = next.places[k];
     let standing = p.standing;
     let held = held_count(next) - held_count(ledger);
     let void = void_count(next) - void_count(ledger);
@@ -61,7 +61,7 @@ pub fn offer_formed(ledger: Ledger, store: &mut [u8], update: &[u8]) -> Offered
     let id = sha256::digest(update);
     match find(ledger, &id) {
         Found::At(k) => {
-            let p = ledger.place(k);
+            let p = ledger.places[k];
             let standing = p.standing;
             left(ledger, Answer::Known(standing))
         }

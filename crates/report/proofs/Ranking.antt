@@ -1,7 +1,7 @@
 -- The list's entries, put rank by rank: never more than there are places.
 -- Assumes nothing.
 use Prim.Native.Nat.{ℕ, zero, suc, _+_, _≤_, _<_}
-use mathlib.Core.Path.{_≡_, refl, sym, ap, ap₂, _∙_}
+use mathlib.Core.Path.{_≡_, refl, sym, ap, ap₂, subst, _∙_}
 use mathlib.Core.Logic.{_⊎_, inl, inr, ⊎-elim}
 use mathlib.Core.List.{List, [], _∷_, _++_}
 use mathlib.Core.Bool.{Bool, true, false, cond, _&&_}
@@ -16,8 +16,11 @@ use Rattle.keys.specs.Member.{keep}
 use Rattle.keys.specs.MemberLaws.{keep-append, keep-length}
 use Rattle.rules.specs.Standing.{beginning}
 use Rattle.state.specs.declared.Ledger.{Ledger}
-use Rattle.report.specs.Board.{decodedAt, anchorIn, insertAt, rankAt, order, byRank, after, putBy, put, putAll, entriesOf}
-use Rattle.report.specs.Pieces.{ins, ranked}
+use Rattle.report.specs.Board.{decodedAt, anchorIn, heldAt, insertAt, rankAt, order, byRank, after, putBy, put, putAll, entriesOf}
+use Rattle.report.specs.declared.Places.{Places}
+use Rattle.report.specs.Pieces.{placesIn, ins, Sound, Lists, ranked}
+use Rattle.report.proofs.Inserting.{renamed}
+use Rattle.report.proofs.Testing.{keep-no, keep-one}
 
 counted : (b : Bool) (x : ℕ) (xs : List ℕ) → length (cond b (x ∷ xs) xs) ≡ cond b (suc (length xs)) (length xs)
 counted true x xs = refl
@@ -97,7 +100,7 @@ module _ (l : Ledger) (s : List ℕ) where
   by-rank-most n = omega (arith, by-rank-length n, keep-length (λ (k : ℕ). insertAt l s k && ltb (rankAt l s k) n) (order l s))
 
   pub by-rank-more : (n : ℕ) → byRank l s (n + 1) ≡ byRank l s n ++ keep (ranked l s n) (order l s)
-  unfolding byRank ranked
+  unfolding byRank insertAt heldAt rankAt ranked
   by-rank-more n = ap (byRank l s) (add-one n)
 
   pub put-append : (xs es fs : List ℕ) → putAll l s xs (es ++ fs) ≡ putAll l s (putAll l s xs es) fs
@@ -162,6 +165,21 @@ module _ (l : Ledger) (s : List ℕ) where
   pub put-none : (xs : List ℕ) {ks : List ℕ} → [] ≡ ks → xs ≡ putAll l s xs ks
   unfolding putAll
   put-none xs e = ap (putAll l s xs) e
+
+  -- the entries once place k is met: with it put among them, if it passes
+  module _ (q : ℕ → Bool) (es : Places) (k : ℕ) {b : Bool} (e : b ≡ q k) where
+    abbrev pub Met : Places → Type 0
+    Met es′ = Lists es′ (putAll l s (placesIn es) (keep q (k ∷ []))) × (es′ .count ≡ es .count + length (keep q (k ∷ [])))
+
+    pub met-put : {es′ r : Places} → b ≡ true → Lists r (put l s k (placesIn es)) × (r .count ≡ es .count + 1) → es′ ≡ r → Met es′
+    met-put t h a =
+        let f = keep-one q k e t in
+        subst Met (sym a) (renamed (put-one (placesIn es) k f) (h .0), omega (arith, h .1, ap length f))
+
+    pub met-left : {es′ : Places} → b ≡ false → Sound es → es′ ≡ es → Met es′
+    met-left t h a =
+        let f = keep-no q k e t in
+        subst Met (sym a) (record { sound = h; are = put-none (placesIn es) f }, omega (arith, ap length f))
 
   -- one entry
   pub put-first : (k : ℕ) (xs a : List ℕ) {b : Bool} → a ≡ anchorIn (decodedAt l s k) → b ≡ same a beginning → b ≡ true → ins 0 k xs ≡ put l s k xs

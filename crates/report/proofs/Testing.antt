@@ -18,14 +18,15 @@ use Rattle.bits.specs.Below.{anyBelow, upTo}
 use Rattle.bits.specs.Bits.{has, including, count}
 use Rattle.bits.specs.BitsLaws.{has-including, has-none}
 use Rattle.state.specs.declared.Ledger.{Ledger}
+use Rattle.state.specs.declared.Place.{Place}
 use Rattle.state.specs.declared.Standing.{Standing}
 use Rattle.state.specs.declared.Standing.the-variants.{Held, Waiting, Void}
 use Rattle.state.specs.State.{placeAt, isHeld, isWaiting, isVoid}
 use Rattle.state.specs.Judge.{testOf}
 use Rattle.report.specs.declared.Relation.{Relation}
 use Rattle.report.specs.declared.Relation.the-variants.{Covers, Forks, Removes, Deletes}
-use Rattle.report.specs.Board.{idAt, decodedAt, heldAt, waitingAt, voidAt, authorAt, coveredAt, headAt, forkedWith, forkedAt, markedAt, marksOf, removedAt, isAnyAdd, presentAt, insertAt, rankAt, deletedAt, shownAt}
-use Rattle.report.specs.Pieces.{numberOf, standsAs, neither, relates, someHeld, ranked}
+use Rattle.report.specs.Board.{authorIn, idAt, decodedAt, heldAt, waitingAt, voidAt, authorAt, coveredAt, headAt, forkedWith, forkedAt, markedAt, marksOf, removedAt, isAnyAdd, presentAt, deletedAt, shownAt}
+use Rattle.report.specs.Pieces.{numberOf, standsAs, neither, decodedIn, forks, relates, heldRelates, rankedIn, someHeld, ranked}
 
 -- a test of the numbers below n
 pub any-hit : (n : ℕ) (p : ℕ → Bool) (k : ℕ) → k < n → p k ≡ true → anyBelow n p ≡ true
@@ -62,31 +63,76 @@ both-true {a} {b} {c} e f = f ∙ ap (λ (x : Bool). x && c) (sym e)
 first-false : {a : Bool} (c : Bool) → a ≡ false → false ≡ (a && c)
 first-false c e = ap (λ (x : Bool). x && c) (sym e)
 
-module _ (l : Ledger) (k : ℕ) where
-  pub apart-same : (q : ℕ) → k ≡ q → false ≡ neither l k q
-  apart-same q e = sym (ap (λ (b : Bool). not b && (not (has (placeAt l q .ancestors) k) && not (has (placeAt l k .ancestors) q))) (eq-eqb k q e))
+module _ (own : Place) (k : ℕ) (other : Place) (q : ℕ) where
+  pub apart-same : k ≡ q → false ≡ neither own k other q
+  apart-same e = sym (ap (λ (b : Bool). not b && (not (has (other .ancestors) k) && not (has (own .ancestors) q))) (eq-eqb k q e))
 
-  pub apart-above : (q : ℕ) {b : Bool} → (k ≡ q → ⊥) → b ≡ has (placeAt l q .ancestors) k → b ≡ true → false ≡ neither l k q
-  apart-above q n e t =
-      sym
-      (ap₂ (λ (x y : Bool). not x && (not y && not (has (placeAt l k .ancestors) q))) (ne-eqb k q n) (sym e ∙ t))
+  pub apart-above : {b : Bool} → (k ≡ q → ⊥) → b ≡ has (other .ancestors) k → b ≡ true → false ≡ neither own k other q
+  apart-above n e t = sym (ap₂ (λ (x y : Bool). not x && (not y && not (has (own .ancestors) q))) (ne-eqb k q n) (sym e ∙ t))
 
-  pub apart-below : (q : ℕ) {b c : Bool} → (k ≡ q → ⊥) → b ≡ has (placeAt l q .ancestors) k → b ≡ false → c ≡ has (placeAt l k .ancestors) q → not c ≡ neither l k q
-  apart-below q n e t f =
-      ap not f ∙ sym (ap₂ (λ (x y : Bool). not x && (not y && not (has (placeAt l k .ancestors) q))) (ne-eqb k q n) (sym e ∙ t))
+  pub apart-below : {b c : Bool} → (k ≡ q → ⊥) → b ≡ has (other .ancestors) k → b ≡ false → c ≡ has (own .ancestors) q → not c ≡ neither own k other q
+  apart-below n e t f = ap not f ∙ sym (ap₂ (λ (x y : Bool). not x && (not y && not (has (own .ancestors) q))) (ne-eqb k q n) (sym e ∙ t))
+
+  module _ (s : List ℕ) where
+    abbrev sameAuthor : Bool
+    sameAuthor = eqb (authorIn (decodedIn s own k)) (authorIn (decodedIn s other q))
+
+    -- two updates of one author
+    pub fork-apart : {c : Bool} {a b : ℕ} → c ≡ neither own k other q → c ≡ true → a ≡ authorIn (decodedIn s own k) → b ≡ authorIn (decodedIn s other q) → eqb a b ≡ forks s own k other q
+    fork-apart e t f g = ap₂ eqb f g ∙ sym (ap (λ (x : Bool). sameAuthor && x) (sym e ∙ t) ∙ with-true sameAuthor)
+
+    pub fork-related : {c : Bool} → c ≡ neither own k other q → c ≡ false → false ≡ forks s own k other q
+    fork-related e t = sym (ap (λ (x : Bool). sameAuthor && x) (sym e ∙ t) ∙ with-false sameAuthor)
+
+-- the standing of a place
+pub held-in : (p : Place) {b : Bool} → b ≡ standsAs Held p → b ≡ isHeld (p .standing)
+unfolding isHeld
+held-in p e = e ∙ go (p .standing)
+  where
+    go : (v : Standing) → eqb (numberOf v) 0 ≡ isHeld v
+    go Held = refl
+    go Waiting = refl
+    go Void = refl
+
+module _ (s : List ℕ) (p : Place) (k : ℕ) {b : Bool} (h : b ≡ standsAs Held p) where
+  yes-in : b ≡ true → isHeld (p .standing) ≡ true
+  yes-in e = sym (held-in p h) ∙ e
+
+  no-in : b ≡ false → isHeld (p .standing) ≡ false
+  no-in e = sym (held-in p h) ∙ e
+
+  -- a held place that stands so to another
+  pub held-related : (r : Relation) (own : Place) (j : ℕ) {c : Bool} → b ≡ true → c ≡ relates s r own j p k → c ≡ heldRelates s r own j p k
+  held-related r own j e f = both-true (yes-in e) f
+
+  pub held-unrelated : (r : Relation) (own : Place) (j : ℕ) → b ≡ false → false ≡ heldRelates s r own j p k
+  held-unrelated r own j e = first-false (relates s r own j p k) (no-in e)
+
+  -- a held Insert of a rank
+  abbrev holdsInsert : Bool
+  holdsInsert = isHeld (p .standing) && testOf isInsert (decodedIn s p k)
+
+  pub ranked-none : (n : ℕ) → b ≡ false → false ≡ rankedIn s n p k
+  ranked-none n e = ap (λ (x : Bool). (x && testOf isInsert (decodedIn s p k)) && eqb (count (p .ancestors)) n) (sym (no-in e))
+
+  pub ranked-other : (n : ℕ) {m : ℕ} → m ≡ count (p .ancestors) → (m ≡ n → ⊥) → false ≡ rankedIn s n p k
+  ranked-other n e f = sym (ap (λ (x : Bool). holdsInsert && x) (ne-eqb (count (p .ancestors)) n (λ g. f (e ∙ g))) ∙ with-false holdsInsert)
+
+  pub ranked-insert : (n : ℕ) {c : Bool} {m : ℕ} → b ≡ true → m ≡ count (p .ancestors) → m ≡ n → c ≡ testOf isInsert (decodedIn s p k) → c ≡ rankedIn s n p k
+  ranked-insert n {c} e f g i =
+      both-true (yes-in e) i ∙ sym (ap (λ (x : Bool). holdsInsert && x) (eq-eqb (count (p .ancestors)) n (sym f ∙ g)) ∙ with-true holdsInsert)
 
 module _ (l : Ledger) (s : List ℕ) (k : ℕ) where
-  -- the standings
-  pub held-is : {b : Bool} → b ≡ standsAs l Held k → b ≡ heldAt l s k
-  unfolding heldAt isHeld
-  held-is e = e ∙ go (placeAt l k .standing)
-    where
-      go : (v : Standing) → eqb (numberOf v) 0 ≡ isHeld v
-      go Held = refl
-      go Waiting = refl
-      go Void = refl
+  pub ranked-is : (n : ℕ) {b : Bool} → b ≡ rankedIn s n (placeAt l k) k → b ≡ ranked l s n k
+  unfolding ranked
+  ranked-is n e = e
 
-  pub waiting-is : {b : Bool} → b ≡ standsAs l Waiting k → b ≡ waitingAt l s k
+  -- the standings
+  pub held-is : {b : Bool} → b ≡ standsAs Held (placeAt l k) → b ≡ heldAt l s k
+  unfolding heldAt
+  held-is e = held-in (placeAt l k) e
+
+  pub waiting-is : {b : Bool} → b ≡ standsAs Waiting (placeAt l k) → b ≡ waitingAt l s k
   unfolding waitingAt isWaiting
   waiting-is e = e ∙ go (placeAt l k .standing)
     where
@@ -95,7 +141,7 @@ module _ (l : Ledger) (s : List ℕ) (k : ℕ) where
       go Waiting = refl
       go Void = refl
 
-  pub void-is : {b : Bool} → b ≡ standsAs l Void k → b ≡ voidAt l s k
+  pub void-is : {b : Bool} → b ≡ standsAs Void (placeAt l k) → b ≡ voidAt l s k
   unfolding voidAt isVoid
   void-is e = e ∙ go (placeAt l k .standing)
     where
@@ -104,22 +150,15 @@ module _ (l : Ledger) (s : List ℕ) (k : ℕ) where
       go Waiting = refl
       go Void = refl
 
-  module _ {b : Bool} (h : b ≡ standsAs l Held k) where
+  module _ {b : Bool} (h : b ≡ standsAs Held (placeAt l k)) where
     yes : b ≡ true → heldAt l s k ≡ true
     yes e = sym (held-is h) ∙ e
 
     no : b ≡ false → heldAt l s k ≡ false
     no e = sym (held-is h) ∙ e
 
-    -- a held place that stands so to another
-    pub held-related : (r : Relation) (j : ℕ) {c : Bool} → b ≡ true → c ≡ relates l s r j k → c ≡ heldAt l s k && relates l s r j k
-    held-related r j e f = both-true (yes e) f
-
-    pub held-unrelated : (r : Relation) (j : ℕ) → b ≡ false → false ≡ heldAt l s k && relates l s r j k
-    held-unrelated r j e = first-false (relates l s r j k) (no e)
-
     pub head-held : {c : Bool} → b ≡ true → c ≡ someHeld l s Covers k → not c ≡ headAt l s k
-    unfolding headAt coveredAt someHeld
+    unfolding headAt coveredAt heldAt someHeld
     head-held e f = both-true (yes e) (ap not f)
 
     pub head-none : b ≡ false → false ≡ headAt l s k
@@ -127,7 +166,7 @@ module _ (l : Ledger) (s : List ℕ) (k : ℕ) where
     head-none e = first-false (not (coveredAt l s k)) (no e)
 
     pub forked-held : {c : Bool} → b ≡ true → c ≡ someHeld l s Forks k → c ≡ forkedAt l s k
-    unfolding forkedAt forkedWith someHeld
+    unfolding forkedAt forkedWith authorAt heldAt someHeld
     forked-held e f = both-true (yes e) f
 
     pub forked-none : b ≡ false → false ≡ forkedAt l s k
@@ -143,31 +182,17 @@ module _ (l : Ledger) (s : List ℕ) (k : ℕ) where
     present-other e f g = both-true (yes e) (first-false (not (removedAt l s (idAt l s k))) (sym f ∙ g))
 
     pub present-add : {c d : Bool} → b ≡ true → c ≡ testOf isAnyAdd (decodedAt l s k) → c ≡ true → d ≡ someHeld l s Removes k → not d ≡ presentAt l s k
-    unfolding presentAt removedAt someHeld
+    unfolding presentAt removedAt heldAt someHeld
     present-add e f g r = both-true (yes e) (both-true (sym f ∙ g) (ap not r))
 
-    pub ranked-none : (n : ℕ) → b ≡ false → false ≡ ranked l s n k
-    unfolding ranked insertAt
-    ranked-none n e = ap (λ (x : Bool). (x && testOf isInsert (decodedAt l s k)) && eqb (rankAt l s k) n) (sym (no e))
-
-    pub ranked-other : (n : ℕ) {m : ℕ} → m ≡ count (placeAt l k .ancestors) → (m ≡ n → ⊥) → false ≡ ranked l s n k
-    unfolding ranked rankAt
-    ranked-other n e f = sym (ap (λ (x : Bool). insertAt l s k && x) (ne-eqb (rankAt l s k) n (λ g. f (e ∙ g))) ∙ with-false (insertAt l s k))
-
-    pub ranked-insert : (n : ℕ) {c : Bool} {m : ℕ} → b ≡ true → m ≡ count (placeAt l k .ancestors) → m ≡ n → c ≡ testOf isInsert (decodedAt l s k) → c ≡ ranked l s n k
-    unfolding ranked insertAt rankAt
-    ranked-insert n {c} e f g h =
-        both-true (yes e) h
-        ∙ sym (ap (λ (x : Bool). (heldAt l s k && testOf isInsert (decodedAt l s k)) && x) (eq-eqb (rankAt l s k) n (sym f ∙ g)) ∙ with-true (heldAt l s k && testOf isInsert (decodedAt l s k)))
-
   pub shown-is : {c : Bool} → c ≡ someHeld l s Deletes k → not c ≡ shownAt l s k
-  unfolding shownAt deletedAt someHeld
+  unfolding shownAt deletedAt heldAt someHeld
   shown-is e = ap not e
 
   -- some held place, one after the other
   module _ (r : Relation) where
     abbrev passes : ℕ → Bool
-    passes q = heldAt l s q && relates l s r k q
+    passes q = heldRelates s r (placeAt l k) k (placeAt l q) q
 
     pub some-start : anyBelow 0 passes ≡ false
     some-start = any-zero passes
@@ -183,21 +208,14 @@ module _ (l : Ledger) (s : List ℕ) (k : ℕ) where
     unfolding someHeld
     some-end q h g i = let e : q ≡ l .used = omega arith in sym i ∙ ap (λ (m : ℕ). anyBelow m passes) e
 
-  -- two updates of one author
-  pub fork-apart : (q : ℕ) {c : Bool} {a b : ℕ} → c ≡ neither l k q → c ≡ true → a ≡ authorAt l s k → b ≡ authorAt l s q → eqb a b ≡ relates l s Forks k q
-  fork-apart q e t f g =
-      ap₂ eqb f g ∙ sym (ap (λ (x : Bool). eqb (authorAt l s k) (authorAt l s q) && x) (sym e ∙ t) ∙ with-true (eqb (authorAt l s k) (authorAt l s q)))
-
-  pub fork-related : (q : ℕ) {c : Bool} → c ≡ neither l k q → c ≡ false → false ≡ relates l s Forks k q
-  fork-related q e t = sym (ap (λ (x : Bool). eqb (authorAt l s k) (authorAt l s q) && x) (sym e ∙ t) ∙ with-false (eqb (authorAt l s k) (authorAt l s q)))
-
 -- the marked authors
 module _ (l : Ledger) (s : List ℕ) where
   -- place k marks author a
   abbrev marksAt : ℕ → ℕ → Bool
   marksAt a k = eqb (authorAt l s k) a && forkedAt l s k
 
-  pub author-added : (w k a : ℕ) {b : Bool} {c m : ℕ} → b ≡ forkedAt l s k → b ≡ true → c ≡ authorAt l s k → c ≤ 15 → m ≡ including w c → has m a ≡ has w a || marksAt a k
+  pub author-added : (w k a : ℕ) {b : Bool} {c m : ℕ} → b ≡ forkedAt l s k → b ≡ true → c ≡ authorIn (decodedAt l s k) → c ≤ 15 → m ≡ including w c → has m a ≡ has w a || marksAt a k
+  unfolding authorAt
   author-added w k a e t f h g =
       ap (λ (x : ℕ). has x a) g
       ∙ has-including w _ a (omega arith)

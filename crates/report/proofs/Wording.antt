@@ -19,7 +19,7 @@ use Rattle.state.specs.State.{placeAt}
 use Rattle.report.specs.declared.Part.{Part}
 use Rattle.report.specs.declared.Part.the-variants.{Held, Heads, Waiting, Void, Marks, Set, List as Entries}
 use Rattle.report.specs.declared.Key.the-variants.{Id, Tag}
-use Rattle.report.specs.Board.{idAt, authorAt, order, marksOf, tagAt, tagOrder, entriesOf}
+use Rattle.report.specs.Board.{authorIn, tagIn, valueIn, idAt, decodedAt, authorAt, order, marksOf, tagAt, tagOrder, entriesOf, valueAt}
 use Rattle.report.specs.Text.{updateLineAt, textOf}
 use Rattle.report.specs.Pieces.{sortedBy, candidate, wordOf, passes, lineOf, linesOf, partOf, standings, readOffs}
 
@@ -59,12 +59,20 @@ pub mark-line : (a : ℕ) → (40 ∷ []) ++ (decimal a ++ (41 ∷ 10 ∷ [])) �
 unfolding markLine ascii codes
 mark-line a = refl
 
-pub update-line : (l : Ledger) (s : List ℕ) (k a : ℕ) → a ≡ authorAt l s k →
+pub update-line : (l : Ledger) (s : List ℕ) (k a : ℕ) → a ≡ authorIn (decodedAt l s k) →
     (ascii "(" ++ hex (placeAt l k .id)) ++ ((32 ∷ []) ++ (decimal a ++ (41 ∷ 10 ∷ []))) ≡ updateLineAt l s k
-unfolding updateLineAt ascii codes
+unfolding updateLineAt authorAt ascii codes
 update-line l s k a e =
     append-assoc (40 ∷ []) (hex (placeAt l k .id)) ((32 ∷ []) ++ (decimal a ++ (41 ∷ 10 ∷ [])))
     ∙ ap (λ (x : ℕ). 40 ∷ (hex (placeAt l k .id) ++ (32 ∷ (decimal x ++ (41 ∷ 10 ∷ []))))) e
+
+pub tag-line : (l : Ledger) (s : List ℕ) (k : ℕ) {t : List ℕ} → t ≡ tagIn (decodedAt l s k) → bytesLine t ≡ lineOf l s Set k
+unfolding tagAt
+tag-line l s k e = ap bytesLine e
+
+pub value-line : (l : Ledger) (s : List ℕ) (k : ℕ) {v : List ℕ} → v ≡ valueIn (decodedAt l s k) → bytesLine v ≡ lineOf l s Entries k
+unfolding valueAt
+value-line l s k e = ap bytesLine e
 
 -- words
 
@@ -170,5 +178,5 @@ module _ (l : Ledger) (s : List ℕ) where
   sorted-ids = ap (sort (idAt l s)) (keep-all (candidate l s Id) (upTo (l .used)) (λ x m. refl))
 
   pub sorted-tags : sortedBy l s Tag ≡ tagOrder l s
-  unfolding sortedBy tagOrder
+  unfolding sortedBy tagOrder tagAt
   sorted-tags = refl

@@ -3,12 +3,12 @@
 -- Assumes nothing.
 use Prim.Native.Nat.{ℕ, zero, suc}
 use mathlib.Core.List.{List, [], _∷_, _++_}
-use mathlib.Core.Bool.{Bool, true, false, cond, not, _&&_, _||_}
+use mathlib.Core.Bool.{Bool, true, false, cond, not, _&&_}
 use lib.Dec.{eqb}
 use Rattle.keys.specs.Order.{same}
 use Rattle.keys.specs.Member.{keep, concatMap}
 use Rattle.keys.specs.Sort.{sort}
-use Rattle.format.specs.Update.{Id, maxAuthor, Operation, Add, Remove, Insert, Delete, Update}
+use Rattle.format.specs.Update.{Id, maxAuthor, Operation, Add, Remove, Insert, Delete}
 use Rattle.format.specs.Decode.{Decoded, refused, update, decode}
 use Rattle.rules.specs.Standing.{beginning}
 use Rattle.rules.specs.Settle.{isInsert, names, deletes, tagsOf, valuesOf}

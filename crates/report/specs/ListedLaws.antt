@@ -6,31 +6,30 @@ use native.Mathlib.Nat.{le-of-suc-le-suc, eq-or-lt-of-le}
 use mathlib.Core.Path.{_≡_, refl, sym, _∙_, ap, subst, subst₂}
 use mathlib.Core.Logic.{⊎-elim}
 use mathlib.Core.List.{List, [], _∷_, map, map-append, append-nil, List·Memᴰ·head, List·Memᴰ·tail, List·Memᴰ·not-nil}
-use mathlib.Core.Bool.{Bool, true, false, cond, not, _&&_, false≢true}
+use mathlib.Core.Bool.{Bool, true, false, cond, not, _&&_}
 use lib.ListN.{length, length-map}
 use lib.Dec.{eqb}
 use borrow.Author.Tests.{eqb-true, eq-eqb}
 use Rattle.keys.specs.Order.{before, same}
 use Rattle.keys.specs.Member.{_∈_, keep, concatMap}
-use Rattle.keys.specs.Distinct.{Distinct}
 use Rattle.keys.specs.Ascending.{Ascending, ascending-nil}
 use Rattle.keys.specs.BoolLaws.{true-false, not-true→false, and-true→, and-true}
-use Rattle.keys.specs.OrderLaws.{same→eq, eq→same, ne→same-false}
+use Rattle.keys.specs.OrderLaws.{same→eq, eq→same, ne→same-false, before-less, before-equal}
 use Rattle.keys.specs.MemberLaws.{∈-cast, ∈-map, map-∈, ∈-keep, keep-∈, append-∈, ∈-append-left, ∈-append-right}
 use Rattle.keys.specs.DistinctLaws.{distinct-keep, distinct-keys}
-use Rattle.keys.specs.SortLaws.{ascending-distinct, ascending-keep}
-use Rattle.keys.specs.ListLaws.{distinct-rekey}
-use Rattle.format.specs.Update.{Id, Operation, Add, Remove, Insert, Delete, Update}
+use Rattle.keys.specs.SortLaws.{ascending-keep, ascending-append, ascending-rekey}
+use Rattle.format.specs.Update.{Id, Operation, Insert, Delete, Update}
 use Rattle.rules.specs.Standing.{beginning, Ancestor, Held, Valid, InsertAncestor}
 use Rattle.rules.specs.ReadOff.{Deleted, Rank, InsertAt, Sooner, Ordered, Siblings, First, Under, Walk, Shown, Listed}
 use Rattle.rules.specs.Settle.{isInsert, deletes, valuesOf, list, settled}
 use Rattle.rules.specs.LeastSets.{ancestor-stored, ancestor-trans, held-stored, held-ancestors, held-acyclic}
 use Rattle.rules.specs.TableLaws.{deletes→, →deletes, held-fine, not-true→}
+use Rattle.rules.specs.SettlingTable.{isInsert→}
 use Rattle.rules.specs.Settling.{settled-decides}
 use Rattle.rules.specs.ReadOffLaws.{list-right, listed-unique}
 use Rattle.rules.specs.Report.{bytesLine}
 use Rattle.bits.specs.Below.{countBelow, upTo}
-use Rattle.bits.specs.BelowLaws.{countBelow-le, countBelow-lt}
+use Rattle.bits.specs.BelowLaws.{upTo-∈, ∈-upTo, countBelow-le, countBelow-lt, countBelow-length, anyBelow→, anyBelow←}
 use Rattle.bits.specs.Bits.{has, wordBits}
 use Rattle.bits.specs.BitsLaws.{count-within}
 use Rattle.state.specs.declared.Ledger.{Ledger}
@@ -38,17 +37,10 @@ use Rattle.state.specs.State.{placeAt}
 use Rattle.state.specs.Judge.{testOf}
 use Rattle.state.specs.Stands.{ident, updateAt, Stands}
 use Rattle.report.specs.Board.{idAt, decodedAt, heldAt, order, anchorOf, anchorIn, valueIn, insertAt, rankAt, byRank, entriesOf, deletedAt, shownAt, valueAt}
-use Rattle.report.specs.ListFacts.{before-less, before-equal, ascending-append, ascending-rekey, concatMap-map, anyBelow→, anyBelow←, upTo-∈, ∈-upTo, upTo-ascending, countBelow-length}
-use Rattle.report.specs.PlaceLaws.{from-used, to-used, place-of, place-id, same-place, place-decoded, place-test, held-at→, →held-at, above-at→, →above-at}
+use Rattle.report.specs.ListFacts.{concatMap-map}
+use Rattle.report.specs.PlaceLaws.{from-used, to-used, place-of, place-id, same-place, places-distinct, place-decoded, place-test, held-at→, →held-at, above-at→, →above-at}
 use Rattle.report.specs.RowLaws.{order-∈, ∈-order, order-ascending}
 use Rattle.report.specs.EntryLaws.{anchorAt, atStart, underAt, among, Walked, Descending, descending-nil, descending-cons, Rooted, IsWalk, put-all}
-
-isInsert→ : (o : Operation) → isInsert o ≡ true → (a : Id) × (v : List ℕ) × (o ≡ Insert a v)
-unfolding isInsert
-isInsert→ (Add t) e = absurd (false≢true e)
-isInsert→ (Remove t named) e = absurd (false≢true e)
-isInsert→ (Insert a v) e = (a, v, refl)
-isInsert→ (Delete i) e = absurd (false≢true e)
 
 module _ {l : Ledger} {s : List ℕ} {us : List Update} (stands : Stands l s us) where
   -- ranks
@@ -81,15 +73,10 @@ module _ {l : Ledger} {s : List ℕ} {us : List Update} (stands : Stands l s us)
             (λ i f b. →above-at stands f h e (ancestor-trans ident us (above-at→ stands f g d b) a)) j g (not-above g d) (→above-at stands g h e a),
       )
 
-  places-distinct : Distinct (idAt l s) (upTo (length us))
-  places-distinct =
-      distinct-rekey (idAt l s) (ascending-distinct (upTo-ascending (length us)))
-      (λ j k m n e. ap (λ (i : ℕ). i ∷ []) (same-place stands (upTo-∈ (length us) m) (upTo-∈ (length us) n) e))
-
   rank-right : {k : ℕ} → k < length us → heldAt l s k ≡ true → Rank ident us (updateAt us k) (rankAt l s k)
   rank-right {k} h e = record {
     ids = map (idAt l s) above;
-    once = distinct-keys (idAt l s) (distinct-keep (has (placeAt l k .ancestors)) places-distinct);
+    once = distinct-keys (idAt l s) (distinct-keep (has (placeAt l k .ancestors)) (places-distinct stands));
     counts = λ x a.
         let f = place-of stands (ancestor-stored ident us a) in
         ∈-cast (ap ident (sym (f .2)) ∙ sym (place-id stands (f .1)))

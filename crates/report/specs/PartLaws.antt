@@ -20,12 +20,13 @@ use Rattle.rules.specs.Settle.{Row, Table, isHeld, isWaiting, isVoid, heldRow, 
 use Rattle.rules.specs.TableLaws.{tagsOf-∈, ∈-tagsOf}
 use Rattle.rules.specs.Report.{ascii, hex, decimal, updateLine, idLine, bytesLine}
 use Rattle.bits.specs.Below.{upTo}
+use Rattle.bits.specs.BelowLaws.{anyBelow→, anyBelow←, upTo-∈, ∈-upTo, upTo-ascending}
 use Rattle.state.specs.declared.Ledger.{Ledger}
 use Rattle.state.specs.Judge.{testOf}
 use Rattle.state.specs.Stands.{ident, updateAt, Stands}
 use Rattle.report.specs.Board.{idAt, decodedAt, authorAt, heldAt, waitingAt, voidAt, order, headAt, forkedAt, markedAt, marksOf, isAnyAdd, tagIn, tagAt, removedAt, presentAt, tagOrder}
 use Rattle.report.specs.Text.{updateLineAt}
-use Rattle.report.specs.ListFacts.{and-agrees, concatMap-map, concatMap-keep-map, anyBelow→, anyBelow←, upTo-∈, ∈-upTo, upTo-ascending}
+use Rattle.report.specs.ListFacts.{and-agrees, concatMap-map, concatMap-keep-map}
 use Rattle.report.specs.PlaceLaws.{from-used, to-used, place-in, place-decoded, place-author, place-test}
 use Rattle.report.specs.RowLaws.{rowAt, row-id, order-∈, ∈-order, table-rows, held-agrees, waiting-agrees, void-agrees, author-agrees, op-agrees, head-agrees, fork-agrees, op-test-agrees}
 

@@ -1,21 +1,24 @@
 -- What the code works with: lists of places by value, and the tests, keys, lines and words of the parts by cases.
 -- Assumes nothing.
 use mathlib.Core.Path.{_≡_}
-use Prim.Native.Nat.{ℕ, _≤_}
+use Prim.Native.Nat.{ℕ, _*_, _≤_}
 use mathlib.Core.List.{List, _∷_, _++_}
 use mathlib.Core.Bool.{Bool, true, not, _&&_}
 use lib.ListN.{length, take, drop}
 use lib.Dec.{eqb, ltb}
 use Rattle.keys.specs.Member.{keep, all, concatMap}
 use Rattle.keys.specs.Sort.{sort}
+use Rattle.format.specs.Update.{maxLength}
+use Rattle.format.specs.Decode.{part, Decoded, decode}
 use Rattle.rules.specs.Report.{ascii, bytesLine, markLine}
-use Rattle.rules.specs.Settle.{names, deletes}
+use Rattle.rules.specs.Settle.{isInsert, names, deletes}
 use Rattle.bits.specs.Below.{anyBelow, upTo}
-use Rattle.bits.specs.Bits.{has}
+use Rattle.bits.specs.Bits.{has, count}
 use Rattle.state.specs.declared.Ledger.{Ledger}
+use Rattle.state.specs.declared.Place.{Place}
 use Rattle.state.specs.declared.Standing.{Standing}
 use Rattle.state.specs.declared.Standing.the-variants.{Held as IsHeld, Waiting as IsWaiting, Void as IsVoid}
-use Rattle.state.specs.State.{places, placeAt}
+use Rattle.state.specs.State.{places, placeAt, isHeld}
 use Rattle.state.specs.Judge.{testOf}
 use Rattle.report.specs.declared.Places.{Places}
 use Rattle.report.specs.declared.Part.{Part}
@@ -24,7 +27,7 @@ use Rattle.report.specs.declared.Key.{Key}
 use Rattle.report.specs.declared.Key.the-variants.{Id, Tag}
 use Rattle.report.specs.declared.Relation.{Relation}
 use Rattle.report.specs.declared.Relation.the-variants.{Covers, Forks, Removes, Deletes}
-use Rattle.report.specs.Board.{idAt, decodedAt, heldAt, waitingAt, voidAt, authorAt, order, headAt, marksOf, presentAt, tagAt, tagOrder, insertAt, rankAt, entriesOf, shownAt, valueAt}
+use Rattle.report.specs.Board.{authorIn, tagIn, idAt, heldAt, waitingAt, voidAt, order, headAt, marksOf, presentAt, tagAt, tagOrder, entriesOf, shownAt, valueAt}
 use Rattle.report.specs.Text.{updateLineAt}
 
 -- no byte beyond this one is printed at, so that no sum wraps: the whole report is far shorter
@@ -60,12 +63,41 @@ numberOf IsHeld = 0
 numberOf IsWaiting = 1
 numberOf IsVoid = 2
 
-abbrev pub standsAs : Ledger → Standing → ℕ → Bool
-standsAs l v k = eqb (numberOf (placeAt l k .standing)) (numberOf v)
+abbrev pub standsAs : Standing → Place → Bool
+standsAs v p = eqb (numberOf (p .standing)) (numberOf v)
 
--- k and q are two places, neither an ancestor of the other
-abbrev pub neither : Ledger → ℕ → ℕ → Bool
-neither l k q = not (eqb k q) && (not (has (placeAt l q .ancestors) k) && not (has (placeAt l k .ancestors) q))
+-- places by value, each with its number: the places are two, neither an ancestor of the other
+abbrev pub neither : Place → ℕ → Place → ℕ → Bool
+neither own k other q = not (eqb k q) && (not (has (other .ancestors) k) && not (has (own .ancestors) q))
+
+module _ (s : List ℕ) where
+  -- what the place's bytes in the store decode to
+  abbrev pub decodedIn : Place → ℕ → Decoded
+  decodedIn p k = decode (part s (maxLength * k) (p .length))
+
+  -- the places are two of one author, neither an ancestor of the other
+  abbrev pub forks : Place → ℕ → Place → ℕ → Bool
+  forks own k other q = eqb (authorIn (decodedIn own k)) (authorIn (decodedIn other q)) && neither own k other q
+
+  -- the other place stands so to the own
+  abbrev pub relates : Relation → Place → ℕ → Place → ℕ → Bool
+  relates Covers own k other q = has (other .ancestors) k
+  relates Forks own k other q = forks own k other q
+  relates Removes own k other q = testOf (names (own .id)) (decodedIn other q)
+  relates Deletes own k other q = testOf (deletes (own .id)) (decodedIn other q)
+
+  -- and it is held
+  abbrev pub heldRelates : Relation → Place → ℕ → Place → ℕ → Bool
+  heldRelates r own k other q = isHeld (other .standing) && relates r own k other q
+
+  -- the place holds a held Insert with n ancestors
+  abbrev pub rankedIn : ℕ → Place → ℕ → Bool
+  rankedIn n p k = (isHeld (p .standing) && testOf isInsert (decodedIn p k)) && eqb (count (p .ancestors)) n
+
+  -- what an ascending list goes by
+  abbrev pub keyIn : Key → Place → ℕ → List ℕ
+  keyIn Id p k = p .id
+  keyIn Tag p k = tagIn (decodedIn p k)
 
 -- the first line of a part
 abbrev pub wordOf : Part → List ℕ
@@ -78,25 +110,17 @@ wordOf Set = ascii "(set\n"
 wordOf Entries = ascii "(list\n"
 
 module _ (l : Ledger) (s : List ℕ) where
-  -- q stands so to k
-  abbrev pub relates : Relation → ℕ → ℕ → Bool
-  relates Covers k q = has (placeAt l q .ancestors) k
-  relates Forks k q = eqb (authorAt l s k) (authorAt l s q) && neither l k q
-  relates Removes k q = testOf (names (idAt l s k)) (decodedAt l s q)
-  relates Deletes k q = testOf (deletes (idAt l s k)) (decodedAt l s q)
-
   -- some held place stands so to k
   unfoldable pub someHeld : Relation → ℕ → Bool
-  someHeld r k = anyBelow (l .used) (λ (q : ℕ). heldAt l s q && relates r k q)
+  someHeld r k = anyBelow (l .used) (λ (q : ℕ). heldRelates s r (placeAt l k) k (placeAt l q) q)
 
   -- k holds a held Insert with n ancestors
   unfoldable pub ranked : ℕ → ℕ → Bool
-  ranked n k = insertAt l s k && eqb (rankAt l s k) n
+  ranked n k = rankedIn s n (placeAt l k) k
 
   -- what an ascending list goes by, the places that it lists, and the list
   abbrev pub keyOf : Key → ℕ → List ℕ
-  keyOf Id k = idAt l s k
-  keyOf Tag k = tagAt l s k
+  keyOf y k = keyIn s y (placeAt l k) k
 
   abbrev pub candidate : Key → ℕ → Bool
   candidate Id k = true

@@ -2,15 +2,22 @@
 -- Assumes nothing.
 use Prim.Native.Nat.{ℕ, _<_}
 use mathlib.Core.Path.{_≡_, refl, sym, _∙_, ap, subst}
-use mathlib.Core.List.{List}
-use mathlib.Core.Bool.{Bool, true, false≢true}
+use mathlib.Core.List.{List, [], _∷_}
+use mathlib.Core.Bool.{Bool, true}
 use lib.ListN.{length}
 use Rattle.keys.specs.Member.{_∈_}
+use Rattle.keys.specs.Distinct.{Distinct}
+use Rattle.keys.specs.MemberLaws.{getD-∈, ∈-getD}
+use Rattle.keys.specs.DistinctLaws.{distinct-index}
+use Rattle.keys.specs.SortLaws.{ascending-distinct}
+use Rattle.keys.specs.ListLaws.{distinct-rekey}
 use Rattle.format.specs.Update.{Operation, Update}
 use Rattle.format.specs.Decode.{update, decode}
 use Rattle.format.specs.Laws.{decode-complete}
 use Rattle.rules.specs.Standing.{Ancestor, Held}
 use Rattle.rules.specs.LeastSets.{held-not-void}
+use Rattle.bits.specs.Below.{upTo}
+use Rattle.bits.specs.BelowLaws.{upTo-∈, upTo-ascending}
 use Rattle.bits.specs.Bits.{has}
 use Rattle.state.specs.declared.Ledger.{Ledger}
 use Rattle.state.specs.declared.Standing.{Standing}
@@ -18,14 +25,8 @@ use Rattle.state.specs.declared.Standing.the-variants.{Held as IsHeld, Waiting 
 use Rattle.state.specs.State.{placeAt, isHeld}
 use Rattle.state.specs.Judge.{testOf}
 use Rattle.state.specs.Stands.{ident, noUpdate, updateAt, Stands}
+use Rattle.state.specs.GatherLaws.{isHeld→}
 use Rattle.report.specs.Board.{idAt, decodedAt, heldAt, authorIn, authorAt}
-use Rattle.report.specs.ListFacts.{getD-∈, ∈-getD, distinct-index}
-
-isHeld→ : (t : Standing) → isHeld t ≡ true → t ≡ IsHeld
-unfolding isHeld
-isHeld→ IsHeld e = refl
-isHeld→ IsWaiting e = absurd (false≢true e)
-isHeld→ IsVoid e = absurd (false≢true e)
 
 module _ {l : Ledger} {s : List ℕ} {us : List Update} (stands : Stands l s us) where
   -- a number of a taken place
@@ -46,6 +47,11 @@ module _ {l : Ledger} {s : List ℕ} {us : List Update} (stands : Stands l s us)
 
   pub same-place : {j k : ℕ} → j < length us → k < length us → idAt l s j ≡ idAt l s k → j ≡ k
   same-place {j} {k} h g e = distinct-index noUpdate (stands .holds .distinct) j k h g (sym (place-id h) ∙ e ∙ place-id g)
+
+  pub places-distinct : Distinct (idAt l s) (upTo (length us))
+  places-distinct =
+      distinct-rekey (idAt l s) (ascending-distinct (upTo-ascending (length us)))
+      (λ j k m n e. ap (λ (i : ℕ). i ∷ []) (same-place (upTo-∈ (length us) m) (upTo-∈ (length us) n) e))
 
   pub place-decoded : {k : ℕ} → k < length us → decodedAt l s k ≡ update (updateAt us k)
   place-decoded {k} h = ap decode (stands .holds .bytes k h) ∙ decode-complete (updateAt us k) (stands .holds .bounded (updateAt us k) (place-in h))

@@ -1,10 +1,10 @@
 -- The settled table of a ledger's updates has a row for each place, in the order of the places' ids, and the tests of the rows are those of the places.
 -- Assumes nothing.
-use Prim.Native.Nat.{ℕ, zero, suc, _<_}
+use Prim.Native.Nat.{ℕ, _<_}
 use mathlib.Core.Path.{_≡_, refl, sym, _∙_, ap, subst, subst₂}
 use mathlib.Core.Logic.{_⊎_, inl, inr}
 use mathlib.Core.List.{List, [], _∷_, map, map-map, List·Memᴰ·not-nil}
-use mathlib.Core.Bool.{Bool, true, cond, not, _&&_, false≢true}
+use mathlib.Core.Bool.{Bool, true, cond, not, _&&_}
 use lib.ListN.{length}
 use lib.Dec.{eqb}
 use borrow.Author.Tests.{eqb-true, eq-eqb}
@@ -12,7 +12,6 @@ use Rattle.keys.specs.Order.{same, ascending}
 use Rattle.keys.specs.Member.{_∈_, member, any}
 use Rattle.keys.specs.Distinct.{Distinct, distinct-nil, distinct-cons, Identifies}
 use Rattle.keys.specs.Ascending.{Ascending}
-use Rattle.keys.specs.Sort.{sort}
 use Rattle.keys.specs.BoolLaws.{test-ext}
 use Rattle.keys.specs.OrderLaws.{same→eq, eq→same, ne→same-false}
 use Rattle.keys.specs.MemberLaws.{∈-cases, ∈-cast, ∈-map, map-∈, member→∈, ∈→member, any→∈, ∈→any, map-cong}
@@ -20,12 +19,13 @@ use Rattle.keys.specs.DistinctLaws.{distinct-eq}
 use Rattle.keys.specs.SortLaws.{Ascending→ascending, ascending→Ascending, ascending-unique, sort-ascending, sort-∈, ∈-sort}
 use Rattle.format.specs.Update.{Id, Operation, Update}
 use Rattle.rules.specs.Standing.{Ancestor, Held, Void}
-use Rattle.rules.specs.Settle.{Verdict, held, waiting, void, Row, Table, isHeld, isWaiting, isVoid, heldRow, judge, round, rounds, start, startAll, settled, covered, forkedBy}
+use Rattle.rules.specs.Settle.{Verdict, held, waiting, void, Row, Table, isHeld, isWaiting, isVoid, heldRow, settled, covered, forkedBy}
 use Rattle.rules.specs.Decides.{Decides}
 use Rattle.rules.specs.LeastSets.{ancestor-stored, held-not-void}
-use Rattle.rules.specs.SettlingTable.{judge-id}
-use Rattle.rules.specs.Settling.{settled-decides}
+use Rattle.rules.specs.SettlingTable.{isHeld→}
+use Rattle.rules.specs.Settling.{settled-ascending, settled-decides}
 use Rattle.bits.specs.Below.{anyBelow, upTo}
+use Rattle.bits.specs.BelowLaws.{anyBelow→, anyBelow←, upTo-∈, ∈-upTo}
 use Rattle.bits.specs.Bits.{has}
 use Rattle.state.specs.declared.Ledger.{Ledger}
 use Rattle.state.specs.declared.Standing.{Standing}
@@ -33,29 +33,10 @@ use Rattle.state.specs.declared.Standing.the-variants.{Held as IsHeld, Waiting 
 use Rattle.state.specs.State.{placeAt, isHeld as placeHeld, isWaiting as placeWaiting, isVoid as placeVoid}
 use Rattle.state.specs.Judge.{testOf}
 use Rattle.state.specs.Stands.{ident, noUpdate, updateAt, Stands}
+use Rattle.state.specs.Verdicts.{verdictOf}
 use Rattle.report.specs.Board.{idAt, heldAt, waitingAt, voidAt, authorAt, decodedAt, order, coveredAt, headAt, forkedWith, forkedAt}
-use Rattle.report.specs.ListFacts.{and-agrees, anyBelow→, anyBelow←, upTo-∈, ∈-upTo}
+use Rattle.report.specs.ListFacts.{and-agrees}
 use Rattle.report.specs.PlaceLaws.{from-used, to-used, place-in, place-of, place-id, same-place, place-author, place-test, above-at→, →above-at}
-
--- the rounds keep the ids, so a settled table is ascending
-abbrev ids : Table → List Id
-ids T = map (λ (r : Row). r .id) T
-
-round-ids : (T : Table) → ids (round T) ≡ ids T
-unfolding round
-round-ids T = map-map (λ (r : Row). r .id) (judge T) T ∙ map-cong (λ (r : Row). judge T r .id) (λ (r : Row). r .id) T (λ r m. judge-id T r)
-
-rounds-ids : (n : ℕ) (T : Table) → ids (rounds n T) ≡ ids T
-unfolding rounds
-rounds-ids zero T = refl
-rounds-ids (suc n) T = round-ids (rounds n T) ∙ rounds-ids n T
-
-settled-ascending : (S : List Update) → Ascending (λ (r : Row). r .id) (settled ident S)
-unfolding settled startAll start
-settled-ascending S =
-    ascending→Ascending (settled ident S)
-    (ap ascending (rounds-ids (length S) (startAll ident S) ∙ map-map (λ (r : Row). r .id) (start ident) (sort ident S))
-    ∙ Ascending→ascending (sort-ascending ident S))
 
 -- the row of an id
 noRow : Row
@@ -76,18 +57,6 @@ row-in {r = r} (distinct-cons {x = q} {xs = T} n d) m = step (∈-cases m) (λ (
     step : (r ≡ q) ⊎ (r ∈ T) → (r ∈ T → rowIn T (r .id) ≡ r) → here (same (q .id) (r .id)) ≡ r
     step (inl e) below = ap here (eq→same (q .id) (r .id) (ap (λ (r : Row). r .id) (sym e))) ∙ sym e
     step (inr k) below = ap here (ne→same-false (q .id) (r .id) (n r k)) ∙ below k
-
--- the verdict that a standing says
-verdictOf : Standing → Verdict
-verdictOf IsHeld = held
-verdictOf IsWaiting = waiting
-verdictOf IsVoid = void
-
-held-verdict : (v : Verdict) → isHeld v ≡ true → v ≡ held
-unfolding isHeld
-held-verdict held e = refl
-held-verdict waiting e = absurd (false≢true e)
-held-verdict void e = absurd (false≢true e)
 
 -- the row of a place
 pub rowAt : List Update → ℕ → Row
@@ -145,7 +114,7 @@ module _ {l : Ledger} {s : List ℕ} {us : List Update} (stands : Stands l s us)
 
   pub table-rows : settled ident us ≡ map (rowAt us) (order l s)
   table-rows =
-      ascending-unique (settled-ascending us) rows-ascending
+      ascending-unique (settled-ascending ident us) rows-ascending
       (record {
         forth = λ r m. let f = row-of r m in ∈-cast (sym (f .2)) (∈-map (rowAt us) (∈-order (f .1)));
         back = λ r m. let f = map-∈ (rowAt us) (order l s) m in ∈-cast (sym (f .2)) (found (order-∈ (f .1)) .0);
@@ -161,7 +130,6 @@ module _ {l : Ledger} {s : List ℕ} {us : List Update} (stands : Stands l s us)
 
   -- the verdict of a row is the standing of its place
   verdict-agrees : {k : ℕ} → k < length us → rowAt us k .verdict ≡ verdictOf (placeAt l k .standing)
-  unfolding verdictOf
   verdict-agrees {k} h = step (rowAt us k .verdict) refl (placeAt l k .standing) refl
     where
       r : Row
@@ -185,7 +153,7 @@ module _ {l : Ledger} {s : List ℕ} {us : List Update} (stands : Stands l s us)
       step void p IsVoid q = refl
 
   pub held-agrees : (k : ℕ) → k < length us → heldRow (rowAt us k) ≡ heldAt l s k
-  unfolding heldRow heldAt verdictOf isHeld placeHeld
+  unfolding heldRow heldAt isHeld placeHeld
   held-agrees k h = ap isHeld (verdict-agrees h) ∙ step (placeAt l k .standing)
     where
       step : (t : Standing) → isHeld (verdictOf t) ≡ placeHeld t
@@ -194,7 +162,7 @@ module _ {l : Ledger} {s : List ℕ} {us : List Update} (stands : Stands l s us)
       step IsVoid = refl
 
   pub waiting-agrees : (k : ℕ) → k < length us → isWaiting (rowAt us k .verdict) ≡ waitingAt l s k
-  unfolding waitingAt verdictOf isWaiting placeWaiting
+  unfolding waitingAt isWaiting placeWaiting
   waiting-agrees k h = ap isWaiting (verdict-agrees h) ∙ step (placeAt l k .standing)
     where
       step : (t : Standing) → isWaiting (verdictOf t) ≡ placeWaiting t
@@ -203,7 +171,7 @@ module _ {l : Ledger} {s : List ℕ} {us : List Update} (stands : Stands l s us)
       step IsVoid = refl
 
   pub void-agrees : (k : ℕ) → k < length us → isVoid (rowAt us k .verdict) ≡ voidAt l s k
-  unfolding voidAt verdictOf isVoid placeVoid
+  unfolding voidAt isVoid placeVoid
   void-agrees k h = ap isVoid (verdict-agrees h) ∙ step (placeAt l k .standing)
     where
       step : (t : Standing) → isVoid (verdictOf t) ≡ placeVoid t
@@ -232,7 +200,7 @@ module _ {l : Ledger} {s : List ℕ} {us : List Update} (stands : Stands l s us)
       m = found h .0
 
       v : q .verdict ≡ held
-      v = held-verdict (q .verdict) (held-agrees k h ∙ e)
+      v = isHeld→ (q .verdict) (held-agrees k h ∙ e)
 
   pub author-agrees : {k : ℕ} → k < length us → rowAt us k .update .author ≡ authorAt l s k
   author-agrees h = ap (λ (u : Update). u .author) (row-update h) ∙ sym (place-author stands h)
@@ -252,7 +220,7 @@ module _ {l : Ledger} {s : List ℕ} {us : List Update} (stands : Stands l s us)
   head-agrees k h = and-agrees (heldRow (rowAt us k)) (held-agrees k h) (λ e. ap not (covered-agrees h))
 
   -- marks
-  same-agrees : {j k : ℕ} → j < length us → k < length us → same (rowAt us j .id) (rowAt us k .id) ≡ eqb j k
+  pub same-agrees : {j k : ℕ} → j < length us → k < length us → same (rowAt us j .id) (rowAt us k .id) ≡ eqb j k
   same-agrees {j} {k} g h =
       test-ext (same (rowAt us j .id) (rowAt us k .id)) (eqb j k)
       (λ e. eq-eqb j k (same-place stands g h (sym (row-id g) ∙ same→eq (rowAt us j .id) (rowAt us k .id) e ∙ row-id h)))

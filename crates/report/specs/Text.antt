@@ -2,7 +2,7 @@
 -- Assumes nothing.
 use mathlib.Core.Path.{_≡_}
 use Prim.Native.Nat.{ℕ, _+_, _≤_}
-use mathlib.Core.List.{List, [], _∷_, _++_, map}
+use mathlib.Core.List.{List, _++_}
 use lib.ListN.{length}
 use Rattle.keys.specs.Member.{keep}
 use Rattle.rules.specs.Report.{ascii, hex, decimal, bytesLine, markLine, part}

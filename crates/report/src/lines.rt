@@ -11,6 +11,7 @@ use crate::digits;
 use crate::page::put;
 use crate::read;
 use state::Ledger;
+use state::store::stored;
 
 // A line of bytes.
 fn bytes_line(bytes: &[u8], page: &mut [u8], at: usize) -> usize
@@ -29,7 +30,7 @@ fn id_line(l: Ledger, k: usize, page: &mut [u8], at: usize) -> usize
     ensures prints { λ r. ⌜ Prints (now (page .entry)) at (bytesLine (placeAt l k .id)) (now (page .exit)) r ⌝ }
     ensures small { λ r. ⌜ r ≤ at + 100 ⌝ }
 {
-    let p = l.place(k);
+    let p = l.places[k];
     let id = p.id;
     bytes_line(&id, page, at)
 }
@@ -40,7 +41,7 @@ fn open_id(l: Ledger, k: usize, page: &mut [u8], at: usize) -> usize
     ensures prints { λ r. ⌜ Prints (now (page .entry)) at (ascii "(" ++ hex (placeAt l k .id)) (now (page .exit)) r ⌝ }
     ensures small { λ r. ⌜ r ≤ at + 65 ⌝ }
 {
-    let p = l.place(k);
+    let p = l.places[k];
     let id = p.id;
     let opened = put(page, at, b"(");
     digits::hex(page, opened, &id)
@@ -52,7 +53,8 @@ fn update_line(l: Ledger, store: &[u8], k: usize, page: &mut [u8], at: usize) ->
     ensures prints { λ r. ⌜ Prints (now (page .entry)) at (updateLineAt l (now (store .entry)) k) (now (page .exit)) r ⌝ }
     ensures small { λ r. ⌜ r ≤ at + 100 ⌝ }
 {
-    let author = read::author_at(l, store, k);
+    let p = l.places[k];
+    let author = read::author_of(stored(store, k, p.length));
     let identified = open_id(l, k, page, at);
     let spaced = put(page, identified, b" ");
     let named = digits::decimal(page, spaced, author);
@@ -76,13 +78,15 @@ pub fn line(l: Ledger, store: &[u8], part: Part, k: usize, page: &mut [u8], at: 
     ensures prints { λ r. ⌜ Prints (now (page .entry)) at (lineOf l (now (store .entry)) part k) (now (page .exit)) r ⌝ }
     ensures small { λ r. ⌜ r ≤ at + 100 ⌝ }
 {
+    let p = l.places[k];
+    let b = stored(store, k, p.length);
     match part {
         Part::Held => update_line(l, store, k, page, at),
         Part::Waiting => update_line(l, store, k, page, at),
         Part::Void => update_line(l, store, k, page, at),
         Part::Heads => id_line(l, k, page, at),
         Part::Marks => mark_line(k, page, at),
-        Part::Set => bytes_line(read::tag_at(l, store, k), page, at),
-        Part::List => bytes_line(read::value_at(l, store, k), page, at),
+        Part::Set => bytes_line(read::tag_of(b), page, at),
+        Part::List => bytes_line(read::value_of(b), page, at),
     }
 }

@@ -1,10 +1,8 @@
 // The entries of the list in their order.
 ghost use mathlib.Core.Path.{_≡_};
-ghost use mathlib.Core.List.{[], _∷_};
 ghost use Prim.Native.Nat.{_+_, _≤_, _<_};
 ghost use lib.ListN.{length};
 ghost use Rattle.keys.specs.Order.{same};
-ghost use Rattle.state.specs.State.{placeAt};
 ghost use Rattle.keys.specs.Member.{keep};
 ghost use Rattle.report.specs.Board.{order as orderOf, after, put as putPlace, putAll, entriesOf};
 ghost use Rattle.report.specs.Pieces.{placesIn, ins, Sound, Lists, ranked as rankedAt};
@@ -13,16 +11,16 @@ use crate::read;
 use crate::tests;
 use format::bounds::ID_LENGTH;
 use state::Ledger;
+use state::Place;
+use state::store::stored;
 
 // Ranks are below the count of bits of an ancestor word.
 const RANKS: usize = 64;
 
-// Whether place k has this id.
-fn has_id(l: Ledger, k: usize, id: &[u8]) -> bool
-    requires { ⌜ k < 64 ⌝ }
-    ensures { λ r. ⌜ r ≡ same (placeAt l k .id) (now (id .entry)) ⌝ }
+// Whether the place has this id.
+fn has_id(p: Place, id: &[u8]) -> bool
+    ensures { λ r. ⌜ r ≡ same (p .id) (now (id .entry)) ⌝ }
 {
-    let p = l.place(k);
     let own = p.id;
     keys::same(&own, id)
 }
@@ -36,7 +34,7 @@ fn index_after(l: Ledger, store: &[u8], entries: Places, id: &[u8], k: usize) ->
     let mut i: usize = 0;
     while i < count {
         let e = entries.items[i];
-        if has_id(l, e, id) {
+        if has_id(l.places[e], id) {
             return i + 1;
         }
         i += 1;
@@ -49,7 +47,8 @@ fn index_of(l: Ledger, store: &[u8], entries: Places, k: usize) -> usize
     requires { ⌜ Sound entries × (k < 64) ⌝ }
     ensures { λ r. ⌜ (r ≤ entries .count) × (ins r k (placesIn entries) ≡ putPlace l (now (store .entry)) k (placesIn entries)) ⌝ }
 {
-    let anchor = read::anchor_at(l, store, k);
+    let p = l.places[k];
+    let anchor = read::anchor_of(stored(store, k, p.length));
     let zero = [0u8; ID_LENGTH];
     if keys::same(anchor, &zero) {
         return 0;
@@ -65,18 +64,6 @@ fn put(l: Ledger, store: &[u8], entries: Places, k: usize) -> Places
     entries.insert(index_of(l, store, entries, k), k)
 }
 
-// The entries with place k put among them, if it is of rank n.
-fn put_ranked(l: Ledger, store: &[u8], n: usize, entries: Places, k: usize) -> Places
-    requires { ⌜ Sound entries × (entries .count + length (keep (rankedAt l (now store) n) (k ∷ [])) ≤ 64) × (k < 64) ⌝ }
-    ensures { λ r. ⌜ Lists r (putAll l (now (store .entry)) (placesIn entries) (keep (rankedAt l (now (store .entry)) n) (k ∷ []))) × (r .count ≡ entries .count + length (keep (rankedAt l (now (store .entry)) n) (k ∷ []))) ⌝ }
-{
-    if tests::is_ranked(l, store, n, k) {
-        put(l, store, entries, k)
-    } else {
-        entries
-    }
-}
-
 // The entries with those of rank n put among them, in order.
 fn put_rank(l: Ledger, store: &[u8], order: Places, n: usize, entries: Places) -> Places
     requires { ⌜ Sound order × Sound entries × (entries .count + length (keep (rankedAt l (now store) n) (placesIn order)) ≤ 64) ⌝ }
@@ -87,7 +74,9 @@ fn put_rank(l: Ledger, store: &[u8], order: Places, n: usize, entries: Places) -
     let mut i: usize = 0;
     while i < count {
         let k = order.items[i];
-        all = put_ranked(l, store, n, all, k);
+        if tests::is_ranked(store, n, l.places[k], k) {
+            all = put(l, store, all, k);
+        }
         i += 1;
     }
     all

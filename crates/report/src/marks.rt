@@ -12,6 +12,7 @@ use crate::Places;
 use crate::read;
 use crate::tests;
 use state::Ledger;
+use state::store::stored;
 
 // Authors are below this: format::bounds::MAX_AUTHOR and one.
 const AUTHORS: usize = 16;
@@ -22,7 +23,9 @@ fn with_author(l: Ledger, store: &[u8], authors: u64, k: usize) -> u64
     ensures { λ r. ⌜ ((a : ℕ) → has r a ≡ has authors a || (eqb (authorAt l (now (store .entry)) k) a && forkedAt l (now (store .entry)) k)) ⌝ }
 {
     if tests::is_forked(l, store, k) {
-        bits::including(authors, wide(read::author_at(l, store, k)))
+        let p = l.places[k];
+        let author = read::author_of(stored(store, k, p.length));
+        bits::including(authors, wide(author))
     } else {
         authors
     }

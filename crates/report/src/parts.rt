@@ -36,10 +36,10 @@ fn shows(l: Ledger, store: &[u8], part: Part, k: usize) -> bool
     ensures { λ r. ⌜ r ≡ passes l (now (store .entry)) part k ⌝ }
 {
     match part {
-        Part::Held => tests::stands(l, k, Standing::Held),
+        Part::Held => tests::stands(l.places[k], Standing::Held),
         Part::Heads => tests::is_head(l, store, k),
-        Part::Waiting => tests::stands(l, k, Standing::Waiting),
-        Part::Void => tests::stands(l, k, Standing::Void),
+        Part::Waiting => tests::stands(l.places[k], Standing::Waiting),
+        Part::Void => tests::stands(l.places[k], Standing::Void),
         Part::Marks => true,
         Part::Set => true,
         Part::List => tests::is_shown(l, store, k),

@@ -1,46 +1,31 @@
-// What the bytes of a place lay out.
+// What the bytes of a stored update lay out.
 ghost use mathlib.Core.Path.{_≡_};
-ghost use Prim.Native.Nat.{_≤_, _<_};
+ghost use Prim.Native.Nat.{_≤_};
 ghost use lib.ListN.{length};
 ghost use Rattle.keys.specs.Member.{member};
-ghost use Rattle.format.specs.Decode.{idsAt};
+ghost use Rattle.format.specs.Decode.{idsAt, decode};
 ghost use Rattle.rules.specs.Settle.{isInsert, names, deletes};
-ghost use Rattle.state.specs.State.{storedAt};
 ghost use Rattle.state.specs.Judge.{testOf};
-ghost use Rattle.report.specs.Board.{decodedAt, authorAt, tagAt, valueAt, anchorIn, isAnyAdd};
+ghost use Rattle.report.specs.Board.{authorIn, tagIn, valueIn, anchorIn, isAnyAdd};
 use format::Operation;
 use format::Reading;
 use format::bounds::ID_LENGTH;
-use format::bounds::MAX_LENGTH;
 use format::bounds::TAG_LENGTH;
-use state::Ledger;
 
-// The bytes of place k.
-fn bytes_at(l: Ledger, store: &[u8], k: usize) -> &[u8]
-    requires { ⌜ k < 64 ⌝ }
-    ensures { λ r. ⌜ now r ≡ storedAt l (now (store .entry)) k ⌝ }
+// The author.
+pub fn author_of(b: &[u8]) -> u8
+    ensures { λ r. ⌜ (r ≡ authorIn (decode (now (b .entry)))) × (r ≤ 15) ⌝ }
 {
-    let p = l.place(k);
-    format::part_of(store, MAX_LENGTH * k, p.length)
-}
-
-// Its author.
-pub fn author_at(l: Ledger, store: &[u8], k: usize) -> u8
-    requires { ⌜ k < 64 ⌝ }
-    ensures { λ r. ⌜ (r ≡ authorAt l (now (store .entry)) k) × (r ≤ 15) ⌝ }
-{
-    match format::read(bytes_at(l, store, k)) {
+    match format::read(b) {
         Reading::Update(u) => u.author,
         Reading::Refused(_) => 0,
     }
 }
 
-// Its tag, where it holds an Add.
-pub fn tag_at(l: Ledger, store: &[u8], k: usize) -> &[u8]
-    requires { ⌜ k < 64 ⌝ }
-    ensures { λ r. ⌜ (now r ≡ tagAt l (now (store .entry)) k) × (length (now r) ≤ 32) ⌝ }
+// The tag of an Add.
+pub fn tag_of(b: &[u8]) -> &[u8]
+    ensures { λ r. ⌜ (now r ≡ tagIn (decode (now (b .entry)))) × (length (now r) ≤ 32) ⌝ }
 {
-    let b = bytes_at(l, store, k);
     match format::read(b) {
         Reading::Update(u) => {
             let operation = u.operation;
@@ -62,12 +47,10 @@ pub fn tag_at(l: Ledger, store: &[u8], k: usize) -> &[u8]
     }
 }
 
-// Its value, where it holds an Insert.
-pub fn value_at(l: Ledger, store: &[u8], k: usize) -> &[u8]
-    requires { ⌜ k < 64 ⌝ }
-    ensures { λ r. ⌜ (now r ≡ valueAt l (now (store .entry)) k) × (length (now r) ≤ 32) ⌝ }
+// The value of an Insert.
+pub fn value_of(b: &[u8]) -> &[u8]
+    ensures { λ r. ⌜ (now r ≡ valueIn (decode (now (b .entry)))) × (length (now r) ≤ 32) ⌝ }
 {
-    let b = bytes_at(l, store, k);
     match format::read(b) {
         Reading::Update(u) => {
             let operation = u.operation;
@@ -86,12 +69,10 @@ pub fn value_at(l: Ledger, store: &[u8], k: usize) -> &[u8]
     }
 }
 
-// Its anchor, where it holds an Insert.
-pub fn anchor_at(l: Ledger, store: &[u8], k: usize) -> &[u8]
-    requires { ⌜ k < 64 ⌝ }
-    ensures { λ r. ⌜ now r ≡ anchorIn (decodedAt l (now (store .entry)) k) ⌝ }
+// The anchor of an Insert.
+pub fn anchor_of(b: &[u8]) -> &[u8]
+    ensures { λ r. ⌜ now r ≡ anchorIn (decode (now (b .entry))) ⌝ }
 {
-    let b = bytes_at(l, store, k);
     match format::read(b) {
         Reading::Update(u) => {
             let operation = u.operation;
@@ -110,12 +91,11 @@ pub fn anchor_at(l: Ledger, store: &[u8], k: usize) -> &[u8]
     }
 }
 
-// Whether it holds an Add.
-pub fn is_add(l: Ledger, store: &[u8], k: usize) -> bool
-    requires { ⌜ k < 64 ⌝ }
-    ensures { λ r. ⌜ r ≡ testOf isAnyAdd (decodedAt l (now (store .entry)) k) ⌝ }
+// Whether it is an Add.
+pub fn is_add(b: &[u8]) -> bool
+    ensures { λ r. ⌜ r ≡ testOf isAnyAdd (decode (now (b .entry))) ⌝ }
 {
-    match format::read(bytes_at(l, store, k)) {
+    match format::read(b) {
         Reading::Update(u) => {
             let operation = u.operation;
             match operation {
@@ -136,12 +116,11 @@ pub fn is_add(l: Ledger, store: &[u8], k: usize) -> bool
     }
 }
 
-// Whether it holds an Insert.
-pub fn is_insert(l: Ledger, store: &[u8], k: usize) -> bool
-    requires { ⌜ k < 64 ⌝ }
-    ensures { λ r. ⌜ r ≡ testOf isInsert (decodedAt l (now (store .entry)) k) ⌝ }
+// Whether it is an Insert.
+pub fn is_insert(b: &[u8]) -> bool
+    ensures { λ r. ⌜ r ≡ testOf isInsert (decode (now (b .entry))) ⌝ }
 {
-    match format::read(bytes_at(l, store, k)) {
+    match format::read(b) {
         Reading::Update(u) => {
             let operation = u.operation;
             match operation {
@@ -176,12 +155,10 @@ fn among(b: &[u8], at: usize, count: usize, id: &[u8]) -> bool
     false
 }
 
-// Whether it holds a Remove that names the id.
-pub fn removes(l: Ledger, store: &[u8], k: usize, id: &[u8]) -> bool
-    requires { ⌜ k < 64 ⌝ }
-    ensures { λ r. ⌜ r ≡ testOf (names (now (id .entry))) (decodedAt l (now (store .entry)) k) ⌝ }
+// Whether it is a Remove that names the id.
+pub fn removes(b: &[u8], id: &[u8]) -> bool
+    ensures { λ r. ⌜ r ≡ testOf (names (now (id .entry))) (decode (now (b .entry))) ⌝ }
 {
-    let b = bytes_at(l, store, k);
     match format::read(b) {
         Reading::Update(u) => {
             let operation = u.operation;
@@ -203,12 +180,10 @@ pub fn removes(l: Ledger, store: &[u8], k: usize, id: &[u8]) -> bool
     }
 }
 
-// Whether it holds a Delete of the id.
-pub fn erases(l: Ledger, store: &[u8], k: usize, id: &[u8]) -> bool
-    requires { ⌜ k < 64 ⌝ }
-    ensures { λ r. ⌜ r ≡ testOf (deletes (now (id .entry))) (decodedAt l (now (store .entry)) k) ⌝ }
+// Whether it is a Delete of the id.
+pub fn erases(b: &[u8], id: &[u8]) -> bool
+    ensures { λ r. ⌜ r ≡ testOf (deletes (now (id .entry))) (decode (now (b .entry))) ⌝ }
 {
-    let b = bytes_at(l, store, k);
     match format::read(b) {
         Reading::Update(u) => {
             let operation = u.operation;

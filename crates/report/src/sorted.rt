@@ -3,36 +3,44 @@ ghost use mathlib.Core.Path.{_≡_};
 ghost use mathlib.Core.Bool.{cond};
 ghost use Prim.Native.Nat.{_+_, _≤_, _<_};
 ghost use Rattle.keys.specs.Compare.{orderOf};
-ghost use Rattle.state.specs.State.{placeAt};
 ghost use Rattle.keys.specs.Sort.{insert as insertBy};
-ghost use Rattle.report.specs.Pieces.{placesIn, Sound, Lists, keyOf, candidate as candidateOf, sortedBy};
+ghost use Rattle.report.specs.Board.{tagIn};
+ghost use Rattle.report.specs.Pieces.{placesIn, Sound, Lists, decodedIn, keyIn, keyOf, candidate as candidateOf, sortedBy};
 use crate::Key;
 use crate::Places;
 use crate::read;
 use crate::tests;
 use keys::Order;
 use state::Ledger;
+use state::Place;
+use state::store::stored;
 
-// How the id of place j stands to that of place k.
-pub fn compare_ids(l: Ledger, j: usize, k: usize) -> Order
-    requires { ⌜ (j < 64) × (k < 64) ⌝ }
-    ensures { λ r. ⌜ r ≡ orderOf (placeAt l j .id) (placeAt l k .id) ⌝ }
+// How the id of the one place stands to that of the other.
+pub fn compare_ids(own: Place, other: Place) -> Order
+    ensures { λ r. ⌜ r ≡ orderOf (own .id) (other .id) ⌝ }
 {
-    let p = l.place(j);
-    let a = p.id;
-    let q = l.place(k);
-    let b = q.id;
+    let a = own.id;
+    let b = other.id;
     keys::compare(&a, &b)
 }
 
-// How the key of place j stands to that of place k.
-fn compare(l: Ledger, store: &[u8], key: Key, j: usize, k: usize) -> Order
+// How the tag of the one place, j, stands to that of the other, k.
+fn compare_tags(store: &[u8], own: Place, j: usize, other: Place, k: usize) -> Order
     requires { ⌜ (j < 64) × (k < 64) ⌝ }
-    ensures { λ r. ⌜ r ≡ orderOf (keyOf l (now (store .entry)) key j) (keyOf l (now (store .entry)) key k) ⌝ }
+    ensures { λ r. ⌜ r ≡ orderOf (tagIn (decodedIn (now (store .entry)) own j)) (tagIn (decodedIn (now (store .entry)) other k)) ⌝ }
+{
+    let tag = read::tag_of(stored(store, j, own.length));
+    keys::compare(tag, read::tag_of(stored(store, k, other.length)))
+}
+
+// How the key of the one place, j, stands to that of the other, k.
+fn compare(store: &[u8], key: Key, own: Place, j: usize, other: Place, k: usize) -> Order
+    requires { ⌜ (j < 64) × (k < 64) ⌝ }
+    ensures { λ r. ⌜ r ≡ orderOf (keyIn (now (store .entry)) key own j) (keyIn (now (store .entry)) key other k) ⌝ }
 {
     match key {
-        Key::Id => compare_ids(l, j, k),
-        Key::Tag => keys::compare(read::tag_at(l, store, j), read::tag_at(l, store, k)),
+        Key::Id => compare_ids(own, other),
+        Key::Tag => compare_tags(store, own, j, other, k),
     }
 }
 
@@ -42,10 +50,11 @@ fn insert(l: Ledger, store: &[u8], key: Key, places: Places, j: usize) -> Places
     ensures { λ r. ⌜ Lists r (insertBy (keyOf l (now (store .entry)) key) j (placesIn places)) × (r .count ≤ places .count + 1) ⌝ }
 {
     let count = places.count;
+    let own = l.places[j];
     let mut i: usize = 0;
     while i < count {
         let k = places.items[i];
-        match compare(l, store, key, j, k) {
+        match compare(store, key, own, j, l.places[k], k) {
             Order::Less => return places.insert(i, j),
             Order::Equal => return places,
             Order::Greater => i += 1,

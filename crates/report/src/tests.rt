@@ -1,13 +1,14 @@
 // Tests of places.
 ghost use mathlib.Core.Path.{_≡_};
-ghost use mathlib.Core.Bool.{_&&_};
 ghost use Prim.Native.Nat.{_≤_, _<_};
-ghost use Rattle.report.specs.Board.{heldAt, headAt, forkedAt, presentAt, shownAt};
-ghost use Rattle.report.specs.Pieces.{numberOf, standsAs, neither, relates, someHeld, ranked as rankedAt};
+ghost use Rattle.report.specs.Board.{headAt, forkedAt, presentAt, shownAt};
+ghost use Rattle.report.specs.Pieces.{numberOf, standsAs, neither, forks as forksFrom, relates, heldRelates, someHeld, rankedIn};
 use crate::Relation;
 use crate::read;
 use state::Ledger;
+use state::Place;
 use state::Standing;
+use state::store::stored;
 
 // A standing as a number.
 fn number(s: Standing) -> u8
@@ -20,63 +21,68 @@ fn number(s: Standing) -> u8
     }
 }
 
-// Whether place k has this standing.
-pub fn stands(l: Ledger, k: usize, wanted: Standing) -> bool
-    requires { ⌜ k < 64 ⌝ }
-    ensures { λ r. ⌜ r ≡ standsAs l wanted k ⌝ }
+// Whether the place has this standing.
+pub fn stands(p: Place, wanted: Standing) -> bool
+    ensures { λ r. ⌜ r ≡ standsAs wanted p ⌝ }
 {
-    let p = l.place(k);
     let standing = p.standing;
     number(standing) == number(wanted)
 }
 
 // Whether the places are two, neither an ancestor of the other.
-fn apart(l: Ledger, k: usize, q: usize) -> bool
-    requires { ⌜ (k < 64) × (q < 64) ⌝ }
-    ensures { λ r. ⌜ r ≡ neither l k q ⌝ }
+fn apart(own: Place, k: usize, other: Place, q: usize) -> bool
+    ensures { λ r. ⌜ r ≡ neither own k other q ⌝ }
 {
     if k == q {
         return false;
     }
-    let other = l.place(q);
     if bits::has(other.ancestors, k) {
         return false;
     }
-    let own = l.place(k);
     !bits::has(own.ancestors, q)
 }
 
-// Whether place q stands so to place k.
-fn related(l: Ledger, store: &[u8], relation: Relation, k: usize, q: usize) -> bool
+// Whether the places are apart and of one author.
+fn forks(store: &[u8], own: Place, k: usize, other: Place, q: usize) -> bool
     requires { ⌜ (k < 64) × (q < 64) ⌝ }
-    ensures { λ r. ⌜ r ≡ relates l (now (store .entry)) relation k q ⌝ }
+    ensures { λ r. ⌜ r ≡ forksFrom (now (store .entry)) own k other q ⌝ }
 {
-    let own = l.place(k);
-    let id = own.id;
-    match relation {
-        Relation::Covers => {
-            let other = l.place(q);
-            bits::has(other.ancestors, k)
-        }
-        Relation::Forks => {
-            if apart(l, k, q) {
-                read::author_at(l, store, k) == read::author_at(l, store, q)
-            } else {
-                false
-            }
-        }
-        Relation::Removes => read::removes(l, store, q, &id),
-        Relation::Deletes => read::erases(l, store, q, &id),
+    if apart(own, k, other, q) {
+        let author = read::author_of(stored(store, k, own.length));
+        author == read::author_of(stored(store, q, other.length))
+    } else {
+        false
     }
 }
 
-// Whether place q is held and stands so to place k.
-fn held_related(l: Ledger, store: &[u8], relation: Relation, k: usize, q: usize) -> bool
+// Whether the other place, q, stands so to the own place, k.
+fn related(store: &[u8], relation: Relation, own: Place, k: usize, other: Place, q: usize) -> bool
     requires { ⌜ (k < 64) × (q < 64) ⌝ }
-    ensures { λ r. ⌜ r ≡ heldAt l (now (store .entry)) q && relates l (now (store .entry)) relation k q ⌝ }
+    ensures { λ r. ⌜ r ≡ relates (now (store .entry)) relation own k other q ⌝ }
 {
-    if stands(l, q, Standing::Held) {
-        related(l, store, relation, k, q)
+    let id = own.id;
+    match relation {
+        Relation::Covers => bits::has(other.ancestors, k),
+        Relation::Forks => forks(store, own, k, other, q),
+        Relation::Removes => read::removes(stored(store, q, other.length), &id),
+        Relation::Deletes => read::erases(stored(store, q, other.length), &id),
+    }
+}
+
+// Whether the other place, q, is held and stands so to the own place, k.
+fn held_related(
+    store: &[u8],
+    relation: Relation,
+    own: Place,
+    k: usize,
+    other: Place,
+    q: usize,
+) -> bool
+    requires { ⌜ (k < 64) × (q < 64) ⌝ }
+    ensures { λ r. ⌜ r ≡ heldRelates (now (store .entry)) relation own k other q ⌝ }
+{
+    if stands(other, Standing::Held) {
+        related(store, relation, own, k, other, q)
     } else {
         false
     }
@@ -88,9 +94,10 @@ fn some_held(l: Ledger, store: &[u8], relation: Relation, k: usize) -> bool
     ensures { λ r. ⌜ r ≡ someHeld l (now (store .entry)) relation k ⌝ }
 {
     let used = l.used;
+    let own = l.places[k];
     let mut q: usize = 0;
     while q < used {
-        if held_related(l, store, relation, k, q) {
+        if held_related(store, relation, own, k, l.places[q], q) {
             return true;
         }
         q += 1;
@@ -103,7 +110,7 @@ pub fn is_head(l: Ledger, store: &[u8], k: usize) -> bool
     requires { ⌜ (l .used ≤ 64) × (k < 64) ⌝ }
     ensures { λ r. ⌜ r ≡ headAt l (now (store .entry)) k ⌝ }
 {
-    if stands(l, k, Standing::Held) {
+    if stands(l.places[k], Standing::Held) {
         !some_held(l, store, Relation::Covers, k)
     } else {
         false
@@ -115,7 +122,7 @@ pub fn is_forked(l: Ledger, store: &[u8], k: usize) -> bool
     requires { ⌜ (l .used ≤ 64) × (k < 64) ⌝ }
     ensures { λ r. ⌜ r ≡ forkedAt l (now (store .entry)) k ⌝ }
 {
-    if stands(l, k, Standing::Held) {
+    if stands(l.places[k], Standing::Held) {
         some_held(l, store, Relation::Forks, k)
     } else {
         false
@@ -127,10 +134,11 @@ pub fn is_present(l: Ledger, store: &[u8], k: usize) -> bool
     requires { ⌜ (l .used ≤ 64) × (k < 64) ⌝ }
     ensures { λ r. ⌜ r ≡ presentAt l (now (store .entry)) k ⌝ }
 {
-    if !stands(l, k, Standing::Held) {
+    let p = l.places[k];
+    if !stands(p, Standing::Held) {
         return false;
     }
-    if read::is_add(l, store, k) {
+    if read::is_add(stored(store, k, p.length)) {
         !some_held(l, store, Relation::Removes, k)
     } else {
         false
@@ -145,18 +153,17 @@ pub fn is_shown(l: Ledger, store: &[u8], k: usize) -> bool
     !some_held(l, store, Relation::Deletes, k)
 }
 
-// Whether place k holds a held Insert with n ancestors.
-pub fn is_ranked(l: Ledger, store: &[u8], n: usize, k: usize) -> bool
+// Whether the place, k, holds a held Insert with n ancestors.
+pub fn is_ranked(store: &[u8], n: usize, p: Place, k: usize) -> bool
     requires { ⌜ k < 64 ⌝ }
-    ensures { λ r. ⌜ r ≡ rankedAt l (now (store .entry)) n k ⌝ }
+    ensures { λ r. ⌜ r ≡ rankedIn (now (store .entry)) n p k ⌝ }
 {
-    if !stands(l, k, Standing::Held) {
+    if !stands(p, Standing::Held) {
         return false;
     }
-    let p = l.place(k);
     let rank = bits::count(p.ancestors);
     if rank == n {
-        read::is_insert(l, store, k)
+        read::is_insert(stored(store, k, p.length))
     } else {
         false
     }

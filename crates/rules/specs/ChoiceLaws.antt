@@ -23,11 +23,10 @@ use Rattle.keys.specs.SortLaws.{ascending-keep, sort-∈, ∈-sort, sort-ascend
 use Rattle.format.specs.Update.{Id, maxPredecessors, Update}
 use Rattle.rules.specs.Standing.{Ancestor}
 use Rattle.rules.specs.ReadOff.{Marked}
-use Rattle.rules.specs.Settle.{Row, Table, heldRow, covered, heads, rank}
+use Rattle.rules.specs.Settle.{Row, Table, heldRow, covered, heads, rank, rankKey}
 use Rattle.rules.specs.Decides.{Decides}
 use Rattle.keys.specs.ListLaws.{before-first, take-∈, front-∈, some-taken, greatest-first}
 use Rattle.rules.specs.TableLaws.{HeldRow, any-held→, keep-held→, →keep-held, row-eq, row-held, row-id, ancestor→above, above-trans, rank-bound, rank-less}
-use Rattle.rules.specs.ListLaws.{siblingKey}
 use Rattle.rules.specs.Writing.{heldBy, ranked, atOrAbove, firstHeads, others, chosenFrom, chosen}
 
 abbrev pub rowId : Row → Id
@@ -200,12 +199,12 @@ module _ {ident : Update → Id} {S : List Update} {T : Table} (distinct : Disti
     →held-by {r} k e = →keep-held T byAuthor k (eq-eqb (r .update .author) a e)
 
     by-rank : List Row
-    by-rank = sort siblingKey (heldBy T a)
+    by-rank = sort rankKey (heldBy T a)
 
     ∈-by-rank : {r : Row} → HeldRow T r → r .update .author ≡ a → r ∈ by-rank
     unfolding by-rank
     ∈-by-rank k e =
-        ∈-sort siblingKey (λ x y m n q. row-eq distinct decides (held-by→ m .0 .row-in) (held-by→ n .0 .row-in) (tail-eq-of-cons-eq q)) (→held-by k e)
+        ∈-sort rankKey (λ x y m n q. row-eq distinct decides (held-by→ m .0 .row-in) (held-by→ n .0 .row-in) (tail-eq-of-cons-eq q)) (→held-by k e)
 
     -- of two held updates of an author who is not marked, that of higher rank is at or above the other
     unmarked : (Marked ident S a → ⊥) → {r t : Row} → HeldRow T r → HeldRow T t → r .update .author ≡ a → t .update .author ≡ a
@@ -238,17 +237,17 @@ module _ {ident : Update → Id} {S : List Update} {T : Table} (distinct : Disti
     unfolding ranked by-rank
     top n {r} k e =
         let i : r ∈ by-rank = ∈-by-rank k e in
-        let f = greatest-first siblingKey by-rank (sort-ascending siblingKey (heldBy T a)) i in
+        let f = greatest-first rankKey by-rank (sort-ascending rankKey (heldBy T a)) i in
         let t : Row = f .0 in
-        let h = held-by→ (sort-∈ siblingKey (heldBy T a) (f .3)) in
-        let ne : before (siblingKey r) (siblingKey t) ≡ true → r .id ≡ t .id → ⊥ = λ b q.
-        before→ne (siblingKey r) (siblingKey t) b (ap siblingKey (row-eq distinct decides (k .row-in) (h .0 .row-in) q)) in (
+        let h = held-by→ (sort-∈ rankKey (heldBy T a) (f .3)) in
+        let ne : before (rankKey r) (rankKey t) ≡ true → r .id ≡ t .id → ⊥ = λ b q.
+        before→ne (rankKey r) (rankKey t) b (ap rankKey (row-eq distinct decides (k .row-in) (h .0 .row-in) q)) in (
           t,
           f .1,
           f .2,
           h .0,
           ⊎-elim (λ (q : r ≡ t). inl (ap rowId (sym q)))
-              (λ (b : before (siblingKey r) (siblingKey t) ≡ true).
+              (λ (b : before (rankKey r) (rankKey t) ≡ true).
               inr (unmarked n k (h .0) e (h .1) (before-first (rank r) (rank t) (r .id) (t .id) b) (ne b))) (f .4 r i),
         )
 

@@ -6,7 +6,7 @@ use Rattle.keys.specs.Member.{_∈_}
 use Rattle.keys.specs.Distinct.{Distinct}
 use Rattle.format.specs.Update.{Id, Update}
 use Rattle.rules.specs.Standing.{Ancestor, Held, Void, Waiting}
-use Rattle.rules.specs.Settle.{Row, Table, Verdict, held, waiting, void}
+use Rattle.rules.specs.Settle.{Row, Table, held, waiting, void}
 
 pub record Decides (ident : Update → Id) (S : List Update) (T : Table) : Type 0 where
   pub of-set : (r : Row) → r ∈ T → r .update ∈ S

@@ -7,7 +7,7 @@ use mathlib.Core.Bool.{true≢false}
 use mathlib.Core.List.{List}
 use Rattle.keys.specs.Member.{_∈_}
 use Rattle.format.specs.Update.{Id, Update}
-use Rattle.rules.specs.Standing.{Ancestor, Known, Fine, Held, Void, Waiting}
+use Rattle.rules.specs.Standing.{Ancestor, Known, Held, Void, Waiting}
 use Rattle.rules.specs.Settle.{Verdict, held, waiting, void, isWaiting}
 
 -- the verdicts differ

@@ -1,15 +1,14 @@
 -- Document 01, "What is read from the held updates", by Held and Ancestor alone.
 -- Assumes nothing.
 use mathlib.Core.Path.{_≡_}
-use mathlib.Core.Logic.{_⊎_, _↔_}
 use mathlib.Core.List.{List, [], _∷_, _++_}
-use Prim.Native.Nat.{ℕ, _<_}
+use Prim.Native.Nat.{ℕ}
 use mathlib.Core.Bool.{true}
 use lib.ListN.{length}
 use Rattle.keys.specs.Order.{before}
 use Rattle.keys.specs.Member.{_∈_}
 use Rattle.keys.specs.Distinct.{Distinct}
-use Rattle.format.specs.Update.{Id, Operation, Add, Remove, Insert, Delete, Update}
+use Rattle.format.specs.Update.{Id, Add, Remove, Insert, Delete, Update}
 use Rattle.rules.specs.Standing.{beginning, Ancestor, Held}
 
 module _ (ident : Update → Id) (S : List Update) where

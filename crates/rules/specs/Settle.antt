@@ -2,8 +2,8 @@
 -- theorems of `Settling` and `ReadOffLaws` say that these are the standings and read-offs of `Standing` and `ReadOff`.
 -- Assumes nothing.
 use Prim.Native.Nat.{ℕ, zero, suc}
-use mathlib.Core.List.{List, [], _∷_, _++_, map, reverse}
-use mathlib.Core.Bool.{Bool, true, false, cond, not, _&&_, _||_}
+use mathlib.Core.List.{List, [], _∷_, map, reverse}
+use mathlib.Core.Bool.{Bool, true, false, not, _&&_, _||_}
 use lib.ListN.{length}
 use lib.Dec.{eqb}
 use Rattle.keys.specs.Order.{same}
@@ -188,10 +188,14 @@ anchored p (Remove t named) = false
 anchored p (Insert a v) = p a
 anchored p (Delete i) = false
 
+-- "Among siblings higher rank comes first, then the larger id.": what siblings are sorted by
+abbrev pub rankKey : Row → List ℕ
+rankKey r = rank r ∷ r .id
+
 -- the held Inserts whose anchor passes a test, higher rank first, then the larger id
 unfoldable pub siblings : Table → (Id → Bool) → Table
 siblings T p =
-    reverse (sort (λ (r : Row). rank r ∷ r .id) (keep (λ (r : Row). heldRow r && anchored p (r .update .op)) T))
+    reverse (sort rankKey (keep (λ (r : Row). heldRow r && anchored p (r .update .op)) T))
 
 unfoldable pub under : Row → Id → Bool
 under e a = not (same a beginning) && same a (e .id)

@@ -13,15 +13,16 @@ use Rattle.keys.specs.Distinct.{Distinct, distinct-nil, distinct-cons}
 use Rattle.keys.specs.BoolLaws.{true-false}
 use Rattle.keys.specs.OrderLaws.{eq→same, ne→same-false}
 use Rattle.keys.specs.Sort.{sort}
+use Rattle.keys.specs.Ascending.{Ascending}
 use Rattle.keys.specs.MemberLaws.{∈-cases, ∈-cast, ∈-map, map-∈, keep-length, ∈→any, ∈→all}
 use Rattle.keys.specs.DistinctLaws.{distinct-eq, distinct-identifies, distinct-map}
-use Rattle.keys.specs.SortLaws.{sort-∈, ∈-sort, sort-distinct, sort-length}
+use Rattle.keys.specs.SortLaws.{sort-∈, ∈-sort, sort-ascending, sort-distinct, sort-length}
 use Rattle.format.specs.Update.{Id, Update}
 use Rattle.rules.specs.Standing.{Held, Void, Waiting}
 use Rattle.rules.specs.Settle.{Verdict, held, waiting, void, Row, Table, isWaiting, heldIn, voidIn, ruled, judge, round, rounds, start, startAll, settled}
 use Rattle.rules.specs.Decides.{Decides}
 use Rattle.rules.specs.LeastSets.{Sound, Stable, settled-waiting}
-use Rattle.keys.specs.ListLaws.{count, map-lowers}
+use Rattle.keys.specs.ListLaws.{count, map-lowers, ascending-map}
 use Rattle.rules.specs.SettlingTable.{SoundRow, SoundTable, Undecided, Outcome, stays, rules, judge-outcome, judge-id}
 use Rattle.rules.specs.SettlingTable.{round-sound, held-in, void-in, row-of, right-as}
 
@@ -163,6 +164,17 @@ pub settled-decides : (ident : Update → Id) (S : List Update) → Distinct ide
 unfolding settled
 settled-decides ident S distinct =
     stable-decides (rounds-sound (start-sound ident S distinct) (length S)) (rounds-fixed (startAll ident S) (length S) (start-few ident S))
+
+-- the settled table is ascending by id
+rounds-ascending : {T : Table} → Ascending (λ (r : Row). r .id) T → (n : ℕ) → Ascending (λ (r : Row). r .id) (rounds n T)
+unfolding rounds round
+rounds-ascending a zero = a
+rounds-ascending {T} a (suc n) = ascending-map (λ (r : Row). r .id) (judge (rounds n T)) (rounds-ascending a n) (judge-id (rounds n T))
+
+pub settled-ascending : (ident : Update → Id) (S : List Update) → Ascending (λ (r : Row). r .id) (settled ident S)
+unfolding settled startAll start
+settled-ascending ident S =
+    rounds-ascending (ascending-map (λ (r : Row). r .id) (start ident) (sort-ascending ident S) (λ u. refl)) (length S)
 
 -- held, waiting and void cover the set
 pub covers : (ident : Update → Id) (S : List Update) → Distinct ident S → (u : Update) → u ∈ S

@@ -48,7 +48,7 @@ pub record Ready (T : Table) (u : Update) : Type 0 where
 
 -- the tests of a row
 
-isHeld→ : (v : Verdict) → isHeld v ≡ true → v ≡ held
+pub isHeld→ : (v : Verdict) → isHeld v ≡ true → v ≡ held
 unfolding isHeld
 isHeld→ held e = refl
 isHeld→ waiting e = absurd (false≢true e)
@@ -60,25 +60,25 @@ isVoid→ held e = absurd (false≢true e)
 isVoid→ waiting e = absurd (false≢true e)
 isVoid→ void e = refl
 
-isAdd→ : (t : List ℕ) (o : Operation) → isAdd t o ≡ true → o ≡ Add t
+pub isAdd→ : (t : List ℕ) (o : Operation) → isAdd t o ≡ true → o ≡ Add t
 unfolding isAdd
 isAdd→ t (Add t′) e = ap Add (sym (same→eq t t′ e))
 isAdd→ t (Remove t′ named) e = absurd (false≢true e)
 isAdd→ t (Insert a v) e = absurd (false≢true e)
 isAdd→ t (Delete i) e = absurd (false≢true e)
 
-→isAdd : (t : List ℕ) {o : Operation} → o ≡ Add t → isAdd t o ≡ true
+pub →isAdd : (t : List ℕ) {o : Operation} → o ≡ Add t → isAdd t o ≡ true
 unfolding isAdd
 →isAdd t e = ap (isAdd t) e ∙ eq→same t t refl
 
-isInsert→ : (o : Operation) → isInsert o ≡ true → (a : Id) × (v : List ℕ) × (o ≡ Insert a v)
+pub isInsert→ : (o : Operation) → isInsert o ≡ true → (a : Id) × (v : List ℕ) × (o ≡ Insert a v)
 unfolding isInsert
 isInsert→ (Add t) e = absurd (false≢true e)
 isInsert→ (Remove t named) e = absurd (false≢true e)
 isInsert→ (Insert a v) e = (a, v, refl)
 isInsert→ (Delete i) e = absurd (false≢true e)
 
-→isInsert : {o : Operation} {a : Id} {v : List ℕ} → o ≡ Insert a v → isInsert o ≡ true
+pub →isInsert : {o : Operation} {a : Id} {v : List ℕ} → o ≡ Insert a v → isInsert o ≡ true
 unfolding isInsert
 →isInsert e = ap isInsert e
 

@@ -10,15 +10,14 @@
 -- Assumes nothing.
 use Prim.Native.Nat.{ℕ}
 use mathlib.Core.Path.{_≡_, refl}
-use mathlib.Core.List.{List, [], _∷_, map, _++_, reverse, reverseAux}
-use mathlib.Core.Bool.{Bool, true, false, cond}
-use lib.ListN.{length, replicate}
+use mathlib.Core.List.{List, [], _∷_, map, _++_}
+use mathlib.Core.Bool.{cond}
 use Rattle.keys.specs.Order.{same, before}
 use Rattle.keys.specs.Member.{member, keep, any, all, concatMap}
 use Rattle.keys.specs.Sort.{insert, sort}
 use Rattle.format.specs.Update.{Id, Operation, Add, Remove, Insert, Delete, Update, encode, encodeOperation}
 use Rattle.rules.specs.Standing.{beginning}
-use Rattle.rules.specs.Settle.{Row, Table, Verdict, held, waiting, void, isHeld, isWaiting, isVoid, isAdd, isInsert, heldIn, voidIn, addIn, insertIn, aboveIn, ancestorsOf, antichain, validOp, ruled, judgeFine, judgeKnown, judgeBy, judgeFrom, judge, round, rounds, start, startAll, settled, heldRow, covered, heads, forkedBy, marks, names, removed, tagsOf, tags, rank, anchored, siblings, under, walk, entries, deletes, deleted, valuesOf, list}
+use Rattle.rules.specs.Settle.{Row, Table, isHeld, isWaiting, isVoid, isAdd, isInsert, heldIn, voidIn, addIn, insertIn, aboveIn, ancestorsOf, antichain, validOp, ruled, judgeFine, judgeKnown, judgeBy, judgeFrom, judge, round, rounds, start, startAll, settled, heldRow, covered, heads, forkedBy, marks, names, removed, tagsOf, tags, rank, anchored, siblings, under, walk, entries, deletes, deleted, valuesOf, list}
 
 -- an update with its stand-in id
 pub record Named : Type 0 where

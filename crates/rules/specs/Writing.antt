@@ -9,7 +9,7 @@ use Rattle.keys.specs.Order.{same}
 use Rattle.keys.specs.Member.{member, keep}
 use Rattle.keys.specs.Sort.{sort}
 use Rattle.format.specs.Update.{Id, maxPredecessors, Operation, Update}
-use Rattle.rules.specs.Settle.{Row, Table, heldRow, heads, rank, ancestorsOf, validOp, settled}
+use Rattle.rules.specs.Settle.{Row, Table, heldRow, heads, rankKey, ancestorsOf, validOp, settled}
 
 -- the held updates of an author
 unfoldable pub heldBy : Table → ℕ → Table
@@ -17,7 +17,7 @@ heldBy T a = keep (λ (r : Row). heldRow r && eqb (r .update .author) a) T
 
 -- "that author's held update of highest rank (on a tie, larger id)": the first of these, if there is one
 unfoldable pub ranked : Table → Table
-ranked rs = reverse (sort (λ (r : Row). rank r ∷ r .id) rs)
+ranked rs = reverse (sort rankKey rs)
 
 -- the head h is at or above the update of the row t
 unfoldable pub atOrAbove : Row → Row → Bool

@@ -2,7 +2,7 @@
 -- Assumes nothing.
 use mathlib.Core.Path.{_≡_, refl, sym, _∙_, ap, subst}
 use mathlib.Core.Logic.{⊎-elim}
-use Prim.Native.Nat.{ℕ, zero, suc, _≤_}
+use Prim.Native.Nat.{ℕ, _≤_}
 use mathlib.Core.List.{List, [], _∷_, _++_, List·Memᴰ·head, List·Memᴰ·not-nil}
 use mathlib.Core.Bool.{true, false}
 use lib.ListN.{length, length-map}
@@ -11,33 +11,20 @@ use Rattle.keys.specs.BoolLaws.{true-false}
 use Rattle.keys.specs.MemberLaws.{∈-singleton, ∈-cast, ∈-append-right, ∈-map, map-∈}
 use Rattle.keys.specs.Distinct.{Distinct, distinct-nil, distinct-cons}
 use Rattle.keys.specs.DistinctLaws.{distinct-eq, distinct-append}
-use Rattle.keys.specs.Ascending.{Ascending}
-use Rattle.keys.specs.SortLaws.{Ascending→ascending, sort-ascending}
+use Rattle.keys.specs.SortLaws.{Ascending→ascending}
 use Rattle.format.specs.Update.{Id, idLength, maxAuthor, maxPredecessors, Operation, Add, Update, Bounded, BoundedOperation}
 use Rattle.rules.specs.Standing.{Ancestor, Known, Fine, Held, Void}
 use Rattle.rules.specs.ReadOff.{Head, Marked}
-use Rattle.rules.specs.Settle.{Verdict, held, waiting, void, Row, Table, judge, round, rounds, start, startAll, settled, heads, validOp}
+use Rattle.rules.specs.Settle.{Verdict, held, waiting, void, Row, Table, settled, heads, validOp}
 use Rattle.rules.specs.Decides.{Decides}
-use Rattle.keys.specs.ListLaws.{ascending-map}
 use Rattle.rules.specs.LeastSets.{held-stored, held-not-void}
 use Rattle.rules.specs.Growth.{added, added-more, PredsHeld, grow-ready, grow-broken, held-kept}
-use Rattle.rules.specs.SettlingTable.{Right, SoundTable, Ready, judge-id, preds-known, preds-held, valid→, →valid}
-use Rattle.rules.specs.Settling.{settled-decides}
+use Rattle.rules.specs.SettlingTable.{Right, SoundTable, Ready, preds-known, preds-held, valid→, →valid}
+use Rattle.rules.specs.Settling.{settled-ascending, settled-decides}
 use Rattle.rules.specs.TableLaws.{row-eq, row-id, held-row, above→ancestor}
 use Rattle.rules.specs.ReadOffLaws.{head-right, head-all}
 use Rattle.rules.specs.ChoiceLaws.{rowId, chosen-all, chosen-few, chosen-ascending, chosen-head, chosen-some, head-row, some-head, named}
 use Rattle.rules.specs.Writing.{chosen, written, writable, writtenOf, writableOf}
-
--- the settled table is ascending by id
-
-rounds-ascending : {T : Table} → Ascending rowId T → (n : ℕ) → Ascending rowId (rounds n T)
-unfolding rounds round
-rounds-ascending a zero = a
-rounds-ascending {T} a (suc n) = ascending-map rowId (judge (rounds n T)) (rounds-ascending a n) (judge-id (rounds n T))
-
-pub settled-ascending : (ident : Update → Id) (S : List Update) → Ascending rowId (settled ident S)
-unfolding settled startAll start
-settled-ascending ident S = rounds-ascending (ascending-map rowId (start ident) (sort-ascending ident S) (λ u. refl)) (length S)
 
 -- a table that decides its set is sound
 decides-sound : {ident : Update → Id} {S : List Update} {T : Table} → Decides ident S T → SoundTable ident S T

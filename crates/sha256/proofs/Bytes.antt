@@ -8,16 +8,12 @@ use native.Mathlib.Numerals.{add-one}
 use native.Mathlib.Omega.{arith}
 use lib.ListN.{length, getD, take, drop, set, replicate, take-append-drop, length-append, length-set}
 use lib.Seq.{take-suc, drop-cons, take-set-le, drop-set-lt, set-at, take-at, length-take-le, getD-set-same}
-use Rattle.sha256.specs.Fips180.{bigEndian, bytesOf, SHA-256}
+use Rattle.sha256.specs.Fips180.{bigEndian}
+use Rattle.sha256.specs.Lengths.{length-bigEndian}
 
 -- d with xs in the place of the k bytes from `at` on
 abbrev pub splice : List ℕ → ℕ → ℕ → List ℕ → List ℕ
 splice d at k xs = take at d ++ (xs ++ drop (at + k) d)
-
-pub length-bigEndian : (k n : ℕ) → length (bigEndian k n) ≡ k
-unfolding bigEndian
-length-bigEndian zero n = refl
-length-bigEndian (suc k) n = rw (length-append, length-bigEndian k (n / 256), add-one)
 
 drop-set-same : (d : List ℕ) (i v : ℕ) → i < length d → drop i (set d i v) ≡ v ∷ drop (suc i) d
 drop-set-same d i v h =
@@ -94,7 +90,3 @@ written {p} {d} {d′} at x f h e k =
       size = k ∙ f .size;
       front = rw (e, take-splice d (bigEndian 4 x) at 4 (length-bigEndian 4 x) (omega arith), f .front);
     }
-
-pub length-digest : (m : List ℕ) → length (SHA-256 m) ≡ 32
-unfolding SHA-256 bytesOf
-length-digest m = simp (length-append, length-bigEndian)

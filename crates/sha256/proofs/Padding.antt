@@ -11,7 +11,8 @@ use lib.ListN.{length, take, drop, set, replicate, length-append, length-drop, l
 use lib.Seq.{take-all, take-take, take-append-le, drop-append-le, drop-drop, set-at, take-at, drop-at}
 use Rattle.sha256.specs.Fips180.{bigEndian, zeroBytes, pad, block, compress, hash}
 use Rattle.sha256.specs.Code.{lastSize, tail}
-use Rattle.sha256.proofs.Bytes.{splice, length-bigEndian, take-splice}
+use Rattle.sha256.specs.Lengths.{length-bigEndian}
+use Rattle.sha256.proofs.Bytes.{splice, take-splice}
 
 pub one-block : (n : ℕ) → n % 64 < 56 → lastSize n ≡ 64
 unfolding lastSize zeroBytes

@@ -3,7 +3,6 @@
 use mathlib.Core.Path.{_≡_, refl}
 use Prim.Native.Nat.{ℕ}
 use mathlib.Core.List.{List, [], _∷_, map}
-use lib.ListN.{getD, length, take, drop, replicate}
 use Rattle.sha256.specs.Fips180.{SHA-256, Σ₀, Σ₁, σ₀, σ₁, K, bigEndian, zeroBytes, pad, words, block, H⁰, nextWord, extend, schedule, T₁, T₂, step, steps, added, compress, hash, bytesOf}
 
 pub record Example : Type 0 where

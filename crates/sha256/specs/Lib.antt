@@ -1,3 +1,4 @@
 pub mod Fips180
 pub mod Examples
 pub mod Code
+pub mod Lengths

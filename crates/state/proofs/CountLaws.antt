@@ -1,14 +1,13 @@
 -- The count of a standing, one place after the other.
 -- Assumes nothing.
 use Prim.Native.Nat.{ℕ, _+_}
-use mathlib.Core.Path.{_≡_, refl, sym, ap, _∙_}
+use mathlib.Core.Path.{_≡_, refl, ap, _∙_}
 use mathlib.Core.Bool.{Bool, true, false}
 use Rattle.bits.specs.Below.{countBelow}
 use Rattle.bits.specs.BelowLaws.{countBelow-more, countBelow-cong}
 use Rattle.state.specs.State.{placeAt, isHeld, isVoid, countOf}
 use Rattle.state.specs.Number.{hasStanding}
 use Rattle.state.specs.declared.Ledger.{Ledger}
-use Rattle.state.specs.declared.Place.{Place}
 use Rattle.state.specs.declared.Standing.{Standing}
 use Rattle.state.specs.declared.Standing.the-variants.{Held, Waiting, Void}
 
@@ -29,17 +28,15 @@ module _ (l : Ledger) (s : Standing) where
   unfolding counted countOf
   counted-whole k e h = h ∙ ap (λ (m : ℕ). countBelow m (standsAt l s)) e
 
-  module _ (k : ℕ) {p : Place} {r : Bool} (e : p ≡ placeAt l k) (t : r ≡ hasStanding s (p .standing)) where
-    test-standing : standsAt l s k ≡ r
-    test-standing = sym (t ∙ ap (λ (q : Place). hasStanding s (q .standing)) e)
-
+  -- what a test of place k says
+  module _ (k : ℕ) {r : Bool} (t : r ≡ standsAt l s k) where
     pub counted-one : r ≡ true → {n : ℕ} → n ≡ counted l s k → n + 1 ≡ counted l s (k + 1)
     unfolding counted
-    counted-one b h = rw (countBelow-more, test-standing, b, h)
+    counted-one b h = rw (countBelow-more, ← t, b, h)
 
     pub counted-none : r ≡ false → {n : ℕ} → n ≡ counted l s k → n ≡ counted l s (k + 1)
     unfolding counted
-    counted-none b h = rw (countBelow-more, test-standing, b, h)
+    counted-none b h = rw (countBelow-more, ← t, b, h)
 
 pub is-held : (v : Standing) → hasStanding Held v ≡ isHeld v
 unfolding hasStanding isHeld

@@ -11,7 +11,6 @@ use Rattle.bits.specs.Below.{firstBelow, orElse}
 use Rattle.bits.specs.BelowLaws.{firstBelow-more, firstBelow-some←, firstBelow-none→}
 use Rattle.state.specs.State.{placeAt, findIn, foundOf}
 use Rattle.state.specs.declared.Ledger.{Ledger}
-use Rattle.state.specs.declared.Place.{Place}
 use Rattle.state.specs.declared.Found.the-variants.{At, Nowhere}
 
 -- place k has the id i
@@ -30,10 +29,6 @@ module _ (l : Ledger) (i : Id) where
   pub none-more : (k : ℕ) → NoneBelow l i k → hasId l i k ≡ false → NoneBelow l i (k + 1)
   unfolding NoneBelow orElse
   none-more k h e = rw (firstBelow-more, h, e)
-
-  -- what a test of the place says
-  pub test-id : (k : ℕ) {p : Place} {r : Bool} → p ≡ placeAt l k → r ≡ same (p .id) i → hasId l i k ≡ r
-  test-id k e t = sym (t ∙ ap (λ (q : Place). same (q .id) i) e)
 
   pub found : (k : ℕ) → k < l .used → NoneBelow l i k → hasId l i k ≡ true → At k ≡ foundOf (findIn l i)
   unfolding NoneBelow findIn

@@ -1,16 +1,16 @@
 -- What finding an id, reading a stored update and judging it come to, by cases.
 -- Assumes nothing.
-use Prim.Native.Nat.{ℕ, _*_, _<_}
+use Prim.Native.Nat.{ℕ, _≤_, _<_}
 use mathlib.Core.Path.{_≡_, refl, sym, ap, ap₂, _∙_}
 use mathlib.Core.List.{List}
 use mathlib.Core.Option.{Option, none, some}
-use mathlib.Core.Bool.{Bool, true, false, cond, _&&_, _||_}
+use mathlib.Core.Bool.{Bool, true, false, _||_}
 use native.Mathlib.Omega.{arith}
 use Rattle.keys.specs.Order.{same}
 use Rattle.keys.specs.Member.{all}
 use borrow.Author.Tests.{eq-eqb, ne-eqb}
 use Rattle.format.specs.Update as U
-use Rattle.format.specs.Update.{Id, idLength, tagLength, maxLength}
+use Rattle.format.specs.Update.{Id, idLength, tagLength}
 use Rattle.format.specs.Decode.{part, idsAt, decode}
 use Rattle.format.specs.Reading.{operationAt, valueOf, decodedOf}
 use Rattle.format.specs.declared.Malformed.{Malformed}
@@ -24,13 +24,11 @@ use Rattle.rules.specs.Settle.{isAdd, isInsert}
 use Rattle.bits.specs.Bits.{has, including, join, meet}
 use Rattle.bits.specs.BelowLaws.{firstBelow-some→}
 use Rattle.state.specs.declared.Ledger.{Ledger}
-use Rattle.state.specs.declared.Gathered.{Gathered}
 use Rattle.state.specs.declared.Place.{Place}
+use Rattle.state.specs.declared.Gathered.{Gathered}
 use Rattle.state.specs.declared.Standing.{Standing}
 use Rattle.state.specs.declared.Standing.the-variants.{Held, Waiting, Void}
-use Rattle.state.specs.declared.Found.{Found}
 use Rattle.state.specs.declared.Found.the-variants.{At, Nowhere}
-use Rattle.state.specs.declared.Judgement.{Judgement}
 use Rattle.state.specs.declared.Judgement.the-variants.{Holds, Fails, Waits}
 use Rattle.state.specs.State.{placeAt, storedAt, findIn, foundOf}
 use Rattle.state.specs.Judge.{gatherBy, gatherAt, testOf, namesAt, names, valid, nothingGathered, gather, judgeReady, judgeGathered, judgeDecoded, judge}
@@ -48,44 +46,38 @@ pub found-inside : (l : Ledger) (i : Id) (j : ℕ) → findIn l i ≡ some j →
 unfolding findIn
 found-inside l i j e = firstBelow-some→ (l .used) _ e .0
 
--- what is gathered with the predecessor at place j, by its standing
-module _ (l : Ledger) (g : Gathered) (j : ℕ) (p : Place) (placed : p ≡ placeAt l j) where
-  standing-at : (v : Standing) → p .standing ≡ v → placeAt l j .standing ≡ v
-  standing-at v e = ap (λ (q : Place). q .standing) (sym placed) ∙ e
+pub found-below : (l : Ledger) (i : Id) {j : ℕ} → foundOf (findIn l i) ≡ At j → l .used ≤ 64 → j < 64
+found-below l i {j} e h = omega (arith, found-inside l i j (found-at (findIn l i) j e))
+
+-- what is gathered with the predecessor p at place j, by its standing
+module _ (p : Place) (g : Gathered) (j : ℕ) (l : Ledger) (at : placeAt l j ≡ p) where
+  by-standing : (v : Standing) → p .standing ≡ v → gatherBy l g j v ≡ gatherAt l g (some j)
+  by-standing v e = ap (gatherBy l g j) (sym (ap (λ (q : Place). q .standing) at ∙ e))
 
   pub by-held : (d a : ℕ) → p .standing ≡ Held → d ≡ including (g .direct) j → a ≡ join (g .above) (p .ancestors)
       → record { ready = g .ready; void = g .void; direct = d; above = a } ≡ gatherAt l g (some j)
   by-held d a v e f =
       ap₂ (λ (x y : ℕ). record { ready = g .ready; void = g .void; direct = x; above = y }) e
-      (f ∙ ap (λ (q : Place). join (g .above) (q .ancestors)) placed)
-      ∙ ap (gatherBy l g j) (sym (standing-at Held v))
+      (f ∙ ap (λ (q : Place). join (g .above) (q .ancestors)) (sym at))
+      ∙ by-standing Held v
 
   pub by-waiting : p .standing ≡ Waiting
       → record { ready = false; void = g .void; direct = g .direct; above = g .above } ≡ gatherAt l g (some j)
-  by-waiting v = ap (gatherBy l g j) (sym (standing-at Waiting v))
+  by-waiting = by-standing Waiting
 
   pub by-void : p .standing ≡ Void
       → record { ready = g .ready; void = true; direct = g .direct; above = g .above } ≡ gatherAt l g (some j)
-  by-void v = ap (gatherBy l g j) (sym (standing-at Void v))
+  by-void = by-standing Void
 
--- the bytes b of a place j, and what reading them answered
-module _ (l : Ledger) (s : List ℕ) (j : ℕ) (b : List ℕ) (q : Place) (placed : q ≡ placeAt l j) (stored : b ≡ part s (maxLength * j) (q .length))
-    (r : Reading) (read : decodedOf b r ≡ decode b) where
-  is-stored : b ≡ storedAt l s j
-  is-stored = stored ∙ ap (λ (x : Place). part s (maxLength * j) (x .length)) placed
+-- a test of the operation of the update that the bytes b are, by what reading them answered
+module _ (b : List ℕ) (r : Reading) (read : decodedOf b r ≡ decode b) (p : U.Operation → Bool) where
+  pub test-update : (u : Parsed) → r ≡ Accepted u → p (operationAt b (u .operation)) ≡ testOf p (decode b)
+  unfolding testOf
+  test-update u e = ap (testOf p) (ap (decodedOf b) (sym e) ∙ read)
 
-  decoded : (x : Reading) → r ≡ x → decodedOf b x ≡ decode (storedAt l s j)
-  decoded x e = ap (decodedOf b) (sym e) ∙ read ∙ ap decode is-stored
-
-  -- a test of the stored update's operation
-  module _ (p : U.Operation → Bool) where
-    pub test-update : (u : Parsed) → r ≡ Accepted u → p (operationAt b (u .operation)) ≡ testOf p (decode (storedAt l s j))
-    unfolding testOf
-    test-update u e = ap (testOf p) (decoded (Accepted u) e)
-
-    pub test-refused : (m : Malformed) → r ≡ Refused m → false ≡ testOf p (decode (storedAt l s j))
-    unfolding testOf
-    test-refused m e = ap (testOf p) (decoded (Refused m) e)
+  pub test-refused : (m : Malformed) → r ≡ Refused m → false ≡ testOf p (decode b)
+  unfolding testOf
+  test-refused m e = ap (testOf p) (ap (decodedOf b) (sym e) ∙ read)
 
 -- the judgement of bytes, by what reading them answered
 module _ (l : Ledger) (s b : List ℕ) (r : Reading) (read : decodedOf b r ≡ decode b) where
@@ -99,17 +91,16 @@ module _ (l : Ledger) (s b : List ℕ) (r : Reading) (read : decodedOf b r ≡ d
   judge-refused m e = ap (judgeDecoded l s) (ap (decodedOf b) (sym e) ∙ read)
 
 -- the judgement of the bytes of a place
-pub judge-stored : (l : Ledger) (s : List ℕ) (j : ℕ) (b : List ℕ) (q : Place) → q ≡ placeAt l j → b ≡ part s (maxLength * j) (q .length)
+pub judge-stored : (l : Ledger) (s : List ℕ) (j : ℕ) (b : List ℕ) → b ≡ storedAt l s j
     → judgeDecoded l s (decode b) ≡ judge l s j
 unfolding judge
-judge-stored l s j b q placed stored =
-    ap (λ (x : List ℕ). judgeDecoded l s (decode x)) (stored ∙ ap (λ (x : Place). part s (maxLength * j) (x .length)) placed)
+judge-stored l s j b stored = ap (λ (x : List ℕ). judgeDecoded l s (decode x)) stored
 
 -- an id that names a place in the set `up`
 module _ (l : Ledger) (s : List ℕ) (p : U.Operation → Bool) (up : ℕ) (i : Id) where
-  pub names-in : (j : ℕ) → findIn l i ≡ some j → has up j ≡ true → testOf p (decode (storedAt l s j)) ≡ names l s p up i
+  pub names-in : (j : ℕ) → findIn l i ≡ some j → has up j ≡ true → (b : List ℕ) → b ≡ storedAt l s j → testOf p (decode b) ≡ names l s p up i
   unfolding names namesAt
-  names-in j e h = rw (e, h)
+  names-in j e h b f = rw (e, h, f)
 
   pub names-out : (j : ℕ) → findIn l i ≡ some j → has up j ≡ false → false ≡ names l s p up i
   unfolding names namesAt

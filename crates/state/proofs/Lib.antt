@@ -5,3 +5,4 @@ pub mod CopyLaws
 pub mod Runs
 pub mod Judging
 pub mod Settling
+pub mod Owning

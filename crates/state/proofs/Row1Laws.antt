@@ -42,16 +42,13 @@ unfolding SoundBelow allBelow
 sound-first l = refl
 
 -- what a test of place k says
-module _ (l : Ledger) (k : ℕ) {p : Place} {r : Bool} (f : p ≡ placeAt l k) (t : r ≡ soundPlace (l .used) p) where
-  test-place : soundAt l k ≡ r
-  test-place = sym (t ∙ ap (soundPlace (l .used)) f)
-
+module _ (l : Ledger) (k : ℕ) {r : Bool} (t : r ≡ soundAt l k) where
   pub sound-more : r ≡ true → SoundBelow l k → SoundBelow l (k + 1)
   unfolding SoundBelow
-  sound-more b h = rw (allBelow-more, h, test-place, b)
+  sound-more b h = rw (allBelow-more, h, ← t, b)
 
   pub unsound : k < l .used → r ≡ false → allBelow (l .used) (soundAt l) ≡ false
-  unsound h b = allBelow-false← (l .used) (soundAt l) k h (test-place ∙ b)
+  unsound h b = allBelow-false← (l .used) (soundAt l) k h (sym t ∙ b)
 
 -- the ledger and the store
 module _ (l : Ledger) (s : List ℕ) where

@@ -3,12 +3,11 @@
 use Prim.Native.Nat.{ℕ, suc, _+_, _≤_, _<_}
 use mathlib.Core.Path.{_≡_, refl, sym, ap, ap₂, _∙_, subst}
 use mathlib.Core.List.{List}
-use mathlib.Core.Bool.{Bool, true, false, cond, _||_, true≢false}
+use mathlib.Core.Bool.{Bool, true, false, cond, _||_, true≢false, false≢true, or-false}
 use native.Mathlib.Numerals.{add-one}
 use native.Mathlib.Omega.{arith}
 use lib.ListN.{length}
 use Rattle.state.specs.declared.Ledger.{Ledger}
-use Rattle.state.specs.declared.Place.{Place}
 use Rattle.state.specs.declared.Pass.{Pass}
 use Rattle.state.specs.declared.Standing.{Standing}
 use Rattle.state.specs.declared.Standing.the-variants.{Held, Waiting, Void}
@@ -36,33 +35,37 @@ module _ (l : Ledger) (s : List ℕ) (k : ℕ) where
   unfolding settleBy
   by-waits j = ap (settleBy l k) (sym j)
 
-  -- the place k by its standing
-  module _ (p : Place) (placed : p ≡ placeAt l k) where
-    by-standing : (v : Standing) → p .standing ≡ v → settleFrom v l s k ≡ settlePlace l s k
-    unfolding settlePlace
-    by-standing v e = ap (λ (x : Standing). settleFrom x l s k) (sym e ∙ ap (λ (q : Place). q .standing) placed)
+-- a standing that waits is judged, any other stays
+module _ (l : Ledger) (s : List ℕ) (k : ℕ) where
+  judged : (v : Standing) → isWaiting v ≡ true → settleBy l k (judge l s k) ≡ settleFrom v l s k
+  unfolding isWaiting settleFrom
+  judged Held e = absurd (false≢true e)
+  judged Waiting e = refl
+  judged Void e = absurd (false≢true e)
 
-    pub from-held : p .standing ≡ Held → record { ledger = l; changed = false } ≡ settlePlace l s k
-    unfolding settleFrom
-    from-held = by-standing Held
+  stays : (v : Standing) → isWaiting v ≡ false → record { ledger = l; changed = false } ≡ settleFrom v l s k
+  unfolding isWaiting settleFrom
+  stays Held e = refl
+  stays Waiting e = absurd (true≢false e)
+  stays Void e = refl
 
-    pub from-waiting : p .standing ≡ Waiting → settleBy l k (judge l s k) ≡ settlePlace l s k
-    unfolding settleFrom
-    from-waiting = by-standing Waiting
+-- one place more of a pass, by whether it waits
+module _ (p : Pass) (s : List ℕ) (k : ℕ) where
+  abbrev after : Pass → Pass
+  after q = record { ledger = q .ledger; changed = p .changed || q .changed }
 
-    pub from-void : p .standing ≡ Void → record { ledger = l; changed = false } ≡ settlePlace l s k
-    unfolding settleFrom
-    from-void = by-standing Void
+  pub next-judged : isWaiting (placeAt (p .ledger) k .standing) ≡ true → (q : Pass) → q ≡ settleBy (p .ledger) k (judge (p .ledger) s k)
+      → {m : Ledger} {b : Bool} → m ≡ q .ledger → b ≡ (p .changed || q .changed) → record { ledger = m; changed = b } ≡ settleNext p s k
+  unfolding settleNext settlePlace
+  next-judged w q e f g =
+      ap₂ (λ (x : Ledger) (y : Bool). record { ledger = x; changed = y }) f g ∙ ap after (e ∙ judged (p .ledger) s k _ w)
 
--- one place more of a pass, by what was changed before
-module _ (p q : Pass) (s : List ℕ) (k : ℕ) (placed : q ≡ settlePlace (p .ledger) s k) where
-  pub next-changed : p .changed ≡ true → record { ledger = q .ledger; changed = true } ≡ settleNext p s k
-  unfolding settleNext
-  next-changed e = rw (e, ← placed)
-
-  pub next-unchanged : p .changed ≡ false → q ≡ settleNext p s k
-  unfolding settleNext
-  next-unchanged e = rw (e, ← placed)
+  pub next-stays : isWaiting (placeAt (p .ledger) k .standing) ≡ false → {m : Ledger} {b : Bool} → m ≡ p .ledger → b ≡ p .changed
+      → record { ledger = m; changed = b } ≡ settleNext p s k
+  unfolding settleNext settlePlace
+  next-stays w f g =
+      ap₂ (λ (x : Ledger) (y : Bool). record { ledger = x; changed = y }) f (g ∙ sym (or-false (p .changed)))
+      ∙ ap after (stays (p .ledger) s k _ w)
 
 module _ (l : Ledger) (s : List ℕ) where
   pub below-none : record { ledger = l; changed = false } ≡ settleBelow l s 0

@@ -9,13 +9,14 @@ use lib.ListN.{length}
 use Rattle.keys.specs.Order.{same}
 use Rattle.keys.specs.OrderLaws.{same→eq, eq→same, same-false→ne}
 use Rattle.keys.specs.Member.{_∈_}
+use Rattle.keys.specs.MemberLaws.{getD-∈, ∈-getD}
+use Rattle.keys.specs.DistinctLaws.{distinct-index}
 use Rattle.format.specs.Update.{Id, Update}
 use Rattle.bits.specs.Below.{firstBelow}
 use Rattle.bits.specs.BelowLaws.{firstBelow-some→, firstBelow-one, firstBelow-none→}
 use Rattle.state.specs.declared.Ledger.{Ledger}
 use Rattle.state.specs.State.{placeAt, findIn}
 use Rattle.state.specs.Stands.{ident, noUpdate, updateAt, Holds}
-use Rattle.state.specs.ListFacts.{getD-∈, ∈-getD, distinct-index}
 
 -- each update stands at a place
 pub stored-at : (us : List Update) (k : ℕ) → k < length us → updateAt us k ∈ us

@@ -30,7 +30,7 @@ abbrev pub AllHeld : Ledger → List Update → List Id → Type 0
 AllHeld l us is = (i : Id) → i ∈ is → (j : ℕ) × (j < length us) × (ident (updateAt us j) ≡ i) × (placeAt l j .standing ≡ Held)
 
 -- the tests of a standing
-isHeld→ : (v : Standing) → isHeld v ≡ true → v ≡ Held
+pub isHeld→ : (v : Standing) → isHeld v ≡ true → v ≡ Held
 unfolding isHeld
 isHeld→ Held e = refl
 isHeld→ Waiting e = absurd (false≢true e)

@@ -17,14 +17,16 @@ use Rattle.keys.specs.Member.{_∈_}
 use Rattle.keys.specs.BoolLaws.{true-false, not-true→false, or-true→, or-left, or-right, and-true→, and-true}
 use Rattle.keys.specs.OrderLaws.{same→eq, eq→same}
 use Rattle.keys.specs.MemberLaws.{∈-cast, all→∈, ∈→all}
+use Rattle.keys.specs.DistinctLaws.{distinct-index}
 use Rattle.format.specs.Update.{Id, Operation, Add, Remove, Insert, Delete, Update}
 use Rattle.format.specs.Decode.{Decoded, update, decode}
 use Rattle.format.specs.Laws.{decode-complete}
 use Rattle.rules.specs.Standing.{beginning, Ancestor, InsertAncestor, Valid, Known, Held, Void}
 use Rattle.rules.specs.Settle.{isAdd, isInsert}
 use Rattle.rules.specs.LeastSets.{ancestor-stored, ancestor-cases}
-use Rattle.bits.specs.Bits.{has, join, meet, within}
-use Rattle.bits.specs.BitsLaws.{has-join, meet-none→, meet-none←, within→lt, within-join}
+use Rattle.rules.specs.SettlingTable.{isAdd→, →isAdd, isInsert→, →isInsert}
+use Rattle.bits.specs.Bits.{has, join, meet}
+use Rattle.bits.specs.BitsLaws.{has-join, meet-none→, meet-none←, within→lt}
 use Rattle.state.specs.declared.Ledger.{Ledger}
 use Rattle.state.specs.declared.Standing.the-variants.{Held as IsHeld, Void as IsVoid}
 use Rattle.state.specs.declared.Gathered.{Gathered}
@@ -33,34 +35,10 @@ use Rattle.state.specs.declared.Judgement.the-variants.{Holds as Judged-
 use Rattle.state.specs.State.{placeAt, storedAt, findIn}
 use Rattle.state.specs.Judge.{nothingGathered, gather, testOf, namesAt, names, valid, judgeReady, judgeGathered, judgeDecoded, judge}
 use Rattle.state.specs.Stands.{ident, noUpdate, updateAt, Holds, Truthful}
-use Rattle.state.specs.ListFacts.{distinct-index}
 use Rattle.state.specs.FindLaws.{stored-at, place-of}
 use Rattle.state.specs.GatherLaws.{AllHeld, gather-inside, gathered-void→, gathered-void←, gathered-ready→, gathered-ready←, gathered-direct→, gathered-direct←, gathered-above→, gathered-above←}
 -- finding an id
 pub use Rattle.state.specs.FindLaws.{find-right, find-all, find-none}
-
--- the tests of an operation
-isAdd→ : (t : List ℕ) (o : Operation) → isAdd t o ≡ true → o ≡ Add t
-unfolding isAdd
-isAdd→ t (Add t′) e = ap Add (sym (same→eq t t′ e))
-isAdd→ t (Remove t′ named) e = absurd (false≢true e)
-isAdd→ t (Insert a v) e = absurd (false≢true e)
-isAdd→ t (Delete i) e = absurd (false≢true e)
-
-→isAdd : (t : List ℕ) {o : Operation} → o ≡ Add t → isAdd t o ≡ true
-unfolding isAdd
-→isAdd t e = ap (isAdd t) e ∙ eq→same t t refl
-
-isInsert→ : (o : Operation) → isInsert o ≡ true → (a : Id) × (v : List ℕ) × (o ≡ Insert a v)
-unfolding isInsert
-isInsert→ (Add t) e = absurd (false≢true e)
-isInsert→ (Remove t named) e = absurd (false≢true e)
-isInsert→ (Insert a v) e = (a, v, refl)
-isInsert→ (Delete i) e = absurd (false≢true e)
-
-→isInsert : {o : Operation} {a : Id} {v : List ℕ} → o ≡ Insert a v → isInsert o ≡ true
-unfolding isInsert
-→isInsert e = ap isInsert e
 
 -- what is read from a place is its update
 stored-update : (l : Ledger) (s : List ℕ) (us : List Update) → Holds l s us → (k : ℕ) → k < length us
@@ -70,7 +48,6 @@ stored-update l s us holds k h =
 
 -- the word has exactly the places of the ancestors of u
 record AncestorWord (us : List Update) (u : Update) (w : ℕ) : Type 0 where
-  inside : within w (length us) ≡ true
   only : (j : ℕ) → j < length us → has w j ≡ true → Ancestor ident us (updateAt us j) u
   each : (j : ℕ) → j < length us → Ancestor ident us (updateAt us j) u → has w j ≡ true
 
@@ -184,8 +161,6 @@ module _ (l : Ledger) (s : List ℕ) (us : List Update) (holds : Holds l s us) w
         unfolding word
         word-right =
             record {
-              inside =
-                  let g = gather-inside l s us holds (u .preds) in within-join (gathered .direct) (gathered .above) (length us) (g .0) (g .1);
               only = λ j h e.
                   ⊎-elim
                   (λ (d : has (gathered .direct) j ≡ true).
@@ -271,10 +246,6 @@ module _ (l : Ledger) (s : List ℕ) (us : List Update) (holds : Holds l s us) w
     pub judged-held : (k w : ℕ) → k < length us → judge l s k ≡ Judged-holds w → Held ident us (updateAt us k)
     unfolding Says
     judged-held k w h e = subst (Says l us (updateAt us k)) e (judged k h) .0
-
-    pub judged-within : (k w : ℕ) → k < length us → judge l s k ≡ Judged-holds w → within w (length us) ≡ true
-    unfolding Says
-    judged-within k w h e = subst (Says l us (updateAt us k)) e (judged k h) .1 .inside
 
     pub judged-above : (k w j : ℕ) → k < length us → j < length us → judge l s k ≡ Judged-holds w → has w j ≡ true
         → Ancestor ident us (updateAt us j) (updateAt us k)

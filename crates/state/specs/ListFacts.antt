@@ -1,15 +1,13 @@
--- Members of a list by index, a store in a list by cases, parts, and counts by index.
+-- A store in a list by cases, parts, and counts by index.
 -- Assumes nothing.
-use mathlib.Core.Path.{_≡_, refl, sym, _∙_, ap}
-use Prim.Native.Nat.{ℕ, zero, suc, _+_, _≤_, _<_, suc-le-suc, zero-le}
+use mathlib.Core.Path.{_≡_, refl, _∙_, ap}
+use Prim.Native.Nat.{ℕ, zero, suc, _+_, _≤_}
 use native.Mathlib.Omega.{arith}
-use native.Mathlib.Nat.{le-of-suc-le-suc, not-suc-le-zero}
-use mathlib.Core.List.{List, [], _∷_, _++_, List·Memᴰ·head, List·Memᴰ·tail}
+use mathlib.Core.List.{List, [], _∷_, _++_}
 use lib.ListN.{length, getD, set, take, drop, length-drop}
 use lib.Seq.{take-append-le, drop-append-le}
 use mathlib.Core.Bool.{Bool, true, false, cond}
-use Rattle.keys.specs.Member.{_∈_, keep}
-use Rattle.keys.specs.Distinct.{Distinct, distinct-nil, distinct-cons}
+use Rattle.keys.specs.Member.{keep}
 use Rattle.bits.specs.Below.{countBelow}
 
 -- a count by its first number
@@ -26,26 +24,6 @@ count-first p (suc n) = step (p 0) (p (suc n)) (countBelow n (λ (k : ℕ). p (s
     step false false d e = e
 
 module _ {A : Type 0} where
-  pub getD-∈ : (xs : List A) (k : ℕ) (d : A) → k < length xs → getD xs k d ∈ xs
-  getD-∈ [] k d h = absurd (not-suc-le-zero h)
-  getD-∈ (x ∷ xs) zero d h = List·Memᴰ·head refl
-  getD-∈ (x ∷ xs) (suc k) d h = List·Memᴰ·tail (getD-∈ xs k d (le-of-suc-le-suc h))
-
-  pub ∈-getD : {x : A} {xs : List A} (d : A) → x ∈ xs → (k : ℕ) × (k < length xs) × (getD xs k d ≡ x)
-  ∈-getD d (List·Memᴰ·head e) = (0, suc-le-suc zero-le, sym e)
-  ∈-getD d (List·Memᴰ·tail m) = let r = ∈-getD d m in (suc (r .0), suc-le-suc (r .1), r .2)
-
-  -- with distinct keys, one key stands at one index
-  pub distinct-index : {key : A → List ℕ} {xs : List A} (d : A) → Distinct key xs → (i j : ℕ) → i < length xs → j < length xs
-      → key (getD xs i d) ≡ key (getD xs j d) → i ≡ j
-  distinct-index d distinct-nil i j h g e = absurd (not-suc-le-zero h)
-  distinct-index d (distinct-cons n s) zero zero h g e = refl
-  distinct-index d (distinct-cons {xs = xs} n s) zero (suc j) h g e = absurd (n (getD xs j d) (getD-∈ xs j d (le-of-suc-le-suc g)) e)
-  distinct-index d (distinct-cons {xs = xs} n s) (suc i) zero h g e =
-      absurd (n (getD xs i d) (getD-∈ xs i d (le-of-suc-le-suc h)) (sym e))
-  distinct-index d (distinct-cons n s) (suc i) (suc j) h g e =
-      ap suc (distinct-index d s i j (le-of-suc-le-suc h) (le-of-suc-le-suc g) e)
-
   -- what stands at index j after a store at k: what stood there, or what was stored
   pub set-cases : (P : A → Type 0) (xs : List A) (k j : ℕ) (a d : A) → P (getD xs j d) → (j ≡ k → P a) → P (getD (set xs k a) j d)
   set-cases P [] k j a d p q = p

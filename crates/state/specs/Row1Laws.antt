@@ -9,6 +9,7 @@ use lib.ListN.{length}
 use lib.Dec.{leb, eqb}
 use borrow.Author.Tests.{leb-true, le-leb, eqb-true, eq-eqb}
 use Rattle.keys.specs.BoolLaws.{and-true→, and-true}
+use Rattle.keys.specs.MemberLaws.{getD-∈}
 use Rattle.format.specs.Update.{Update, minLength, maxLength}
 use Rattle.format.specs.Laws.{encode-within}
 use Rattle.bits.specs.Below.{allBelow}
@@ -19,7 +20,6 @@ use Rattle.state.specs.declared.Place.{Place}
 use Rattle.state.specs.State.{places, storeLength, placeAt}
 use Rattle.state.specs.Row1.{soundPlace, sound}
 use Rattle.state.specs.Stands.{noUpdate, updateAt, Holds}
-use Rattle.state.specs.ListFacts.{getD-∈}
 
 pub record SoundPlace (used : ℕ) (p : Place) : Type 0 where
   pub long : minLength ≤ p .length

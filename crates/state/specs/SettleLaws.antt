@@ -11,6 +11,7 @@ use lib.ListN.{length, length-set}
 use lib.Seq.{getD-set-same, getD-set-other}
 use Rattle.keys.specs.BoolLaws.{or-true→}
 use Rattle.keys.specs.Member.{_∈_}
+use Rattle.keys.specs.MemberLaws.{getD-∈}
 use Rattle.format.specs.Update.{Update, maxLength}
 use Rattle.format.specs.Decode.{part}
 use Rattle.rules.specs.Standing.{Ancestor, Known, Held, Void}
@@ -32,7 +33,7 @@ use Rattle.state.specs.Verdicts.{verdictOf, verdict-held, verdict-waitin
 use Rattle.state.specs.Judge.{judge}
 use Rattle.state.specs.Settle.{settlePlace, settleNext, settleBelow, pass, SettledFrom}
 use Rattle.state.specs.Stands.{ident, noUpdate, updateAt, Holds, Truthful, Settled, Stands}
-use Rattle.state.specs.ListFacts.{getD-∈, set-cases}
+use Rattle.state.specs.ListFacts.{set-cases}
 use Rattle.state.specs.JudgeWithin.{judge-within}
 use Rattle.state.specs.JudgeLaws.{judged-held, judged-above, judged-above-all, judged-void, judged-no-void, judged-not-ready}
 use Rattle.state.specs.Passes.{Settles, to-held, to-void, settles-not-waiting, settles-held, settles-void}

@@ -1,18 +1,17 @@
 -- The invariant: a ledger and a store stand for a list of updates, in the order of their places.
 -- Assumes nothing.
 use mathlib.Core.Path.{_≡_}
-use Prim.Native.Nat.{ℕ, _*_, _≤_, _<_}
+use Prim.Native.Nat.{ℕ, _≤_, _<_}
 use mathlib.Core.List.{List, []}
-use mathlib.Core.Bool.{true, false}
+use mathlib.Core.Bool.{true}
 use lib.ListN.{length, getD}
 use Rattle.sha256.specs.Fips180.{SHA-256}
 use Rattle.keys.specs.Member.{_∈_}
 use Rattle.keys.specs.Distinct.{Distinct}
-use Rattle.format.specs.Update.{Id, Operation, Add, Update, encode, Bounded, maxLength}
+use Rattle.format.specs.Update.{Id, Add, Update, encode, Bounded}
 use Rattle.rules.specs.Standing.{Ancestor, Held, Void, Waiting}
 use Rattle.bits.specs.Bits.{has, within}
 use Rattle.state.specs.declared.Ledger.{Ledger}
-use Rattle.state.specs.declared.Standing.{Standing}
 use Rattle.state.specs.declared.Standing.the-variants.{Held as IsHeld, Waiting as IsWaiting, Void as IsVoid}
 use Rattle.state.specs.State.{places, storeLength, placeAt, storedAt}
 

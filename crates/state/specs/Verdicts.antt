@@ -7,6 +7,7 @@ use mathlib.Core.Option.{Option, none, some}
 use mathlib.Core.Bool.{false≢true}
 use lib.ListN.{length}
 use Rattle.keys.specs.Member.{_∈_}
+use Rattle.keys.specs.MemberLaws.{∈-getD}
 use Rattle.format.specs.Update.{Update}
 use Rattle.rules.specs.Settle.{Verdict, held, waiting, void, isHeld, isWaiting, isVoid}
 use Rattle.state.specs.declared.Ledger.{Ledger}
@@ -14,7 +15,6 @@ use Rattle.state.specs.declared.Standing.{Standing}
 use Rattle.state.specs.declared.Standing.the-variants.{Held as IsHeld, Waiting as IsWaiting, Void as IsVoid}
 use Rattle.state.specs.State.{placeAt, findIn}
 use Rattle.state.specs.Stands.{ident, noUpdate, updateAt, Holds}
-use Rattle.state.specs.ListFacts.{∈-getD}
 use Rattle.state.specs.JudgeLaws.{find-all}
 
 abbrev pub verdictOf : Standing → Verdict

@@ -24,7 +24,7 @@ pub fn find(l: Ledger, id: &[u8]) -> Found
     let used = l.used;
     let mut k: usize = 0;
     while k < used {
-        if has_id(l.place(k), id) {
+        if has_id(l.places[k], id) {
             return Found::At(k);
         }
         k += 1;
@@ -59,7 +59,7 @@ fn count(l: Ledger, standing: Standing) -> usize
     let mut n: usize = 0;
     let mut j: usize = 0;
     while j < used {
-        if has_standing(l.place(j), standing) {
+        if has_standing(l.places[j], standing) {
             n += 1;
         }
         j += 1;

@@ -8,12 +8,14 @@ ghost use Rattle.format.specs.Update.{tagLength};
 ghost use Rattle.format.specs.Decode.{part, idsAt, firstPredecessor, decode};
 ghost use Rattle.format.specs.Reading.{operationAt, valueOf};
 ghost use Rattle.rules.specs.Settle.{isAdd, isInsert};
-ghost use Rattle.state.specs.State.{findIn, storedAt};
-ghost use Rattle.state.specs.Judge.{nothingGathered, gatherBy, gatherAt, gather as gatherAll, testOf, names, valid as validOperation, judgeReady, judgeGathered, judgeDecoded, judge as judgeAt};
+ghost use Rattle.state.specs.declared.Ledger.{Ledger};
+ghost use Rattle.state.specs.State.{placeAt};
+ghost use Rattle.state.specs.Judge.{nothingGathered, gatherAt, gather as gatherAll, testOf, names, valid as validOperation, judgeReady, judgeGathered, judgeDecoded, judge as judgeAt};
 use crate::Found;
 use crate::Gathered;
 use crate::Judgement;
 use crate::Ledger;
+use crate::Place;
 use crate::Standing;
 use crate::find::find;
 use crate::store::stored;
@@ -21,12 +23,11 @@ use format::Operation;
 use format::Parsed;
 use format::Reading;
 
-// What is gathered with the predecessor at place j.
-fn gather_by(l: Ledger, g: Gathered, j: usize) -> Gathered
+// What is gathered with a predecessor at place j, which is p.
+fn gather_by(p: Place, g: Gathered, j: usize) -> Gathered
     requires { ⌜ j < 64 ⌝ }
-    ensures { λ r. ⌜ r ≡ gatherAt l g (some j) ⌝ }
+    ensures { λ r. ⌜ ((l : Ledger) → placeAt l j ≡ p → r ≡ gatherAt l g (some j)) ⌝ }
 {
-    let p = l.place(j);
     let standing = p.standing;
     match standing {
         Standing::Held => Gathered {
@@ -50,22 +51,6 @@ fn gather_by(l: Ledger, g: Gathered, j: usize) -> Gathered
     }
 }
 
-// What is gathered with one more predecessor.
-fn gather_one(l: Ledger, g: Gathered, id: &[u8]) -> Gathered
-    requires { ⌜ l .used ≤ 64 ⌝ }
-    ensures { λ r. ⌜ r ≡ gatherAt l g (findIn l (now (id .entry))) ⌝ }
-{
-    match find(l, id) {
-        Found::At(j) => gather_by(l, g, j),
-        Found::Nowhere => Gathered {
-            ready: false,
-            void: g.void,
-            direct: g.direct,
-            above: g.above,
-        },
-    }
-}
-
 // What the count predecessors of the update b say.
 fn gather(l: Ledger, b: &[u8], count: usize) -> Gathered
     requires { ⌜ l .used ≤ 64 ⌝ }
@@ -79,7 +64,14 @@ fn gather(l: Ledger, b: &[u8], count: usize) -> Gathered
     };
     let mut k: usize = 0;
     while k < count {
-        g = gather_one(l, g, format::predecessor(b, k));
+        match find(l, format::predecessor(b, k)) {
+            Found::At(j) => {
+                g = gather_by(l.places[j], g, j);
+            }
+            Found::Nowhere => {
+                g.ready = false;
+            }
+        }
         k += 1;
     }
     g
@@ -104,13 +96,10 @@ fn is_add(b: &[u8], operation: Operation, tag: &[u8]) -> bool
     }
 }
 
-// Whether place j holds an Add of the tag.
-fn add_at(l: Ledger, store: &[u8], j: usize, tag: &[u8]) -> bool
-    requires { ⌜ j < 64 ⌝ }
-    ensures { λ r. ⌜ r ≡ testOf (isAdd (now (tag .entry))) (decode (storedAt l (now (store .entry)) j)) ⌝ }
+// Whether the bytes b are an update whose operation is an Add of the tag.
+fn holds_add(b: &[u8], tag: &[u8]) -> bool
+    ensures { λ r. ⌜ r ≡ testOf (isAdd (now (tag .entry))) (decode (now (b .entry))) ⌝ }
 {
-    let p = l.place(j);
-    let b = stored(store, j, p.length);
     match format::read(b) {
         Reading::Update(u) => {
             let operation = u.operation;
@@ -139,13 +128,11 @@ fn is_insert(operation: Operation) -> bool
     }
 }
 
-// Whether place j holds an Insert.
-fn insert_at(l: Ledger, store: &[u8], j: usize) -> bool
-    requires { ⌜ j < 64 ⌝ }
-    ensures { λ r. ⌜ r ≡ testOf isInsert (decode (storedAt l (now (store .entry)) j)) ⌝ }
+// Whether the bytes b are an update whose operation is an Insert.
+fn holds_insert(b: &[u8]) -> bool
+    ensures { λ r. ⌜ r ≡ testOf isInsert (decode (now (b .entry))) ⌝ }
 {
-    let p = l.place(j);
-    match format::read(stored(store, j, p.length)) {
+    match format::read(b) {
         Reading::Update(u) => {
             let operation = u.operation;
             is_insert(operation)
@@ -162,7 +149,8 @@ fn names_add(l: Ledger, store: &[u8], up: u64, id: &[u8], tag: &[u8]) -> bool
     match find(l, id) {
         Found::At(j) => {
             if bits::has(up, j) {
-                add_at(l, store, j, tag)
+                let p = l.places[j];
+                holds_add(stored(store, j, p.length), tag)
             } else {
                 false
             }
@@ -179,7 +167,8 @@ fn names_insert(l: Ledger, store: &[u8], up: u64, id: &[u8]) -> bool
     match find(l, id) {
         Found::At(j) => {
             if bits::has(up, j) {
-                insert_at(l, store, j)
+                let p = l.places[j];
+                holds_insert(stored(store, j, p.length))
             } else {
                 false
             }
@@ -301,6 +290,6 @@ pub fn judge(l: Ledger, store: &[u8], k: usize) -> Judgement
     requires { ⌜ (l .used ≤ 64) × (k < 64) ⌝ }
     ensures { λ r. ⌜ r ≡ judgeAt l (now (store .entry)) k ⌝ }
 {
-    let p = l.place(k);
+    let p = l.places[k];
     judge_bytes(l, store, stored(store, k, p.length))
 }

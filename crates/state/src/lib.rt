@@ -7,7 +7,7 @@ pub mod store;
 
 ghost use mathlib.Core.Path.{_≡_};
 ghost use Prim.Native.Nat.{_+_, _<_, _≤_};
-ghost use Rattle.state.specs.State.{placeAt, withTaken, withStanding};
+ghost use Rattle.state.specs.State.{withTaken, withStanding};
 ghost use Rattle.state.specs.Settle.{SettledFrom};
 
 // How many places a ledger has.
@@ -65,14 +65,6 @@ pub enum Judgement {
 }
 
 impl Ledger {
-    // The place k.
-    pub fn place(self, k: usize) -> Place
-        requires { ⌜ k < 64 ⌝ }
-        ensures { λ r. ⌜ r ≡ placeAt self k ⌝ }
-    {
-        self.places[k]
-    }
-
     // The next place is taken, by an update that waits.
     pub fn taken(mut self, id: [u8; 32], length: usize) -> Ledger
         requires { ⌜ self .used < 64 ⌝ }

@@ -34,7 +34,7 @@ pub fn sound(l: Ledger, store: &[u8]) -> bool
     }
     let mut k: usize = 0;
     while k < used {
-        if !sound_place(used, l.place(k)) {
+        if !sound_place(used, l.places[k]) {
             return false;
         }
         k += 1;

@@ -19,7 +19,6 @@ use Rattle.bits.specs.Below.{firstBelow, orElse}
 use Rattle.bits.specs.BelowLaws.{firstBelow-more, firstBelow-some→, firstBelow-some←, firstBelow-none→}
 use Rattle.bits.specs.Bits.{has, count}
 use Rattle.state.specs.declared.Ledger.{Ledger}
-use Rattle.state.specs.declared.Place.{Place}
 use Rattle.state.specs.declared.Found.{Found}
 use Rattle.state.specs.declared.Found.the-variants.{At, Nowhere}
 use Rattle.state.specs.declared.Standing.{Standing}
@@ -27,7 +26,7 @@ use Rattle.state.specs.declared.Standing.the-variants.{Held, Waiting, Void}
 use Rattle.state.specs.State.{placeAt, foundOf, isHeld}
 use Rattle.state.proofs.Judging.{found-at}
 use Rattle.report.specs.declared.Places.{Places}
-use Rattle.report.specs.Board.{idAt, heldAt, authorAt, rankAt, headAt, order}
+use Rattle.report.specs.Board.{authorIn, idAt, decodedAt, heldAt, authorAt, rankAt, headAt, order}
 use Rattle.report.specs.Pieces.{placesIn, ins, small, Sound, Lists}
 use Rattle.report.proofs.Inserting.{length-is, passed, ins-end}
 use Rattle.writer.specs.Choose.{headsOf, ownAt, higher, betterThan, topBelow, aboveAt, eightWith, eightFor, chosenPlaces}
@@ -51,28 +50,28 @@ module _ (l : Ledger) (s : List ℕ) (o : Places) (sound : Sound o) where
   heads-end i h e = ap (keep (headAt l s)) (take-all i (placesIn o) (omega (arith, length-is o sound)) ∙ e)
 
 -- the author's own held places
-module _ (l : Ledger) (s : List ℕ) (a k : ℕ) (p : Place) (placed : p ≡ placeAt l k) where
-  own-by : (v : Standing) → p .standing ≡ v → ownAt l s a k ≡ (isHeld v && eqb (authorAt l s k) a)
+module _ (l : Ledger) (s : List ℕ) (a k : ℕ) where
+  own-by : (v : Standing) → placeAt l k .standing ≡ v → ownAt l s a k ≡ (isHeld v && eqb (authorAt l s k) a)
   unfolding ownAt heldAt
-  own-by v e = ap (λ (w : Standing). isHeld w && eqb (authorAt l s k) a) (ap (λ (q : Place). q .standing) (sym placed) ∙ e)
+  own-by v e = ap (λ (w : Standing). isHeld w && eqb (authorAt l s k) a) e
 
-  pub own-held : {n : ℕ} → p .standing ≡ Held → n ≡ authorAt l s k → eqb n a ≡ ownAt l s a k
-  unfolding isHeld
+  pub own-held : {n : ℕ} → placeAt l k .standing ≡ Held → n ≡ authorIn (decodedAt l s k) → eqb n a ≡ ownAt l s a k
+  unfolding isHeld authorAt
   own-held e f = ap (λ (m : ℕ). eqb m a) f ∙ sym (own-by Held e)
 
-  pub own-waiting : p .standing ≡ Waiting → false ≡ ownAt l s a k
+  pub own-waiting : placeAt l k .standing ≡ Waiting → false ≡ ownAt l s a k
   unfolding isHeld
   own-waiting e = sym (own-by Waiting e)
 
-  pub own-void : p .standing ≡ Void → false ≡ ownAt l s a k
+  pub own-void : placeAt l k .standing ≡ Void → false ≡ ownAt l s a k
   unfolding isHeld
   own-void e = sym (own-by Void e)
 
 -- rank, then id
 
-pub rank-is : (l : Ledger) (s : List ℕ) (k : ℕ) {p : Place} {m : ℕ} → p ≡ placeAt l k → m ≡ count (p .ancestors) → m ≡ rankAt l s k
+pub rank-is : (l : Ledger) (s : List ℕ) (k : ℕ) {m : ℕ} → m ≡ count (placeAt l k .ancestors) → m ≡ rankAt l s k
 unfolding rankAt
-rank-is l s k e f = f ∙ ap (λ (q : Place). count (q .ancestors)) e
+rank-is l s k f = f
 
 module _ (l : Ledger) (s : List ℕ) (k j : ℕ) {m n : ℕ} (own : m ≡ rankAt l s k) (other : n ≡ rankAt l s j) where
   higher-by : {b c : Bool} → ltb n m ≡ b → eqb n m ≡ c → higher l s k j ≡ (b || (c && before (idAt l s j) (idAt l s k)))
@@ -140,10 +139,9 @@ module _ (l : Ledger) (s : List ℕ) (a : ℕ) where
 pub above-same : (l : Ledger) (t h : ℕ) → h ≡ t → true ≡ (eqb h t || has (placeAt l h .ancestors) t)
 above-same l t h e = ap (λ (b : Bool). b || has (placeAt l h .ancestors) t) (sym (eq-eqb h t e))
 
-pub above-other : (l : Ledger) (t h : ℕ) {p : Place} {b : Bool} → (h ≡ t → ⊥) → p ≡ placeAt l h → b ≡ has (p .ancestors) t
+pub above-other : (l : Ledger) (t h : ℕ) {b : Bool} → (h ≡ t → ⊥) → b ≡ has (placeAt l h .ancestors) t
     → b ≡ (eqb h t || has (placeAt l h .ancestors) t)
-above-other l t h n e f =
-    f ∙ ap (λ (q : Place). has (q .ancestors) t) e ∙ ap (λ (b : Bool). b || has (placeAt l h .ancestors) t) (sym (ne-eqb h t n))
+above-other l t h n f = f ∙ ap (λ (b : Bool). b || has (placeAt l h .ancestors) t) (sym (ne-eqb h t n))
 
 module _ (l : Ledger) (s : List ℕ) (o : Places) (lists : Lists o (headsOf l s)) (t : ℕ) where
   heads-length : length (headsOf l s) ≡ o .count

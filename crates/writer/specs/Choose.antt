@@ -4,12 +4,12 @@
 use Prim.Native.Nat.{ℕ, zero, suc, _-_}
 use mathlib.Core.List.{List, [], _∷_, _++_, map}
 use mathlib.Core.Option.{Option, none, some}
-use mathlib.Core.Bool.{Bool, true, false, cond, _&&_, _||_}
+use mathlib.Core.Bool.{Bool, true, cond, _&&_, _||_}
 use lib.ListN.{length, getD, take}
 use lib.Dec.{leb, ltb, eqb}
 use Rattle.keys.specs.Order.{before}
 use Rattle.keys.specs.Member.{keep}
-use Rattle.format.specs.Update.{Id, maxPredecessors, Operation, Update}
+use Rattle.format.specs.Update.{maxPredecessors, Operation, Update}
 use Rattle.bits.specs.Below.{firstBelow}
 use Rattle.bits.specs.Bits.{has}
 use Rattle.state.specs.declared.Ledger.{Ledger}

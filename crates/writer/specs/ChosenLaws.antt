@@ -8,13 +8,11 @@ use mathlib.Core.Option.{Option, none, some}
 use mathlib.Core.Bool.{Bool, true, false, cond, not, _&&_, _||_}
 use lib.ListN.{length, getD, take, length-map}
 use lib.Dec.{leb, eqb}
-use borrow.Author.Tests.{eqb-true, eq-eqb}
-use Rattle.keys.specs.Order.{same}
 use Rattle.keys.specs.Member.{_∈_, member, keep}
 use Rattle.keys.specs.Ascending.{Ascending}
 use Rattle.keys.specs.Sort.{sort}
-use Rattle.keys.specs.BoolLaws.{test-ext, and-true→}
-use Rattle.keys.specs.OrderLaws.{same→eq, eq→same, same-refl, ne→same-false}
+use Rattle.keys.specs.BoolLaws.{and-true→}
+use Rattle.keys.specs.OrderLaws.{same-refl, ne→same-false}
 use Rattle.keys.specs.MemberLaws.{append-∈, keep-∈, keep-map, keep-cong, keep-all, map-cong}
 use Rattle.keys.specs.SortLaws.{ascending-keep, sort-∈, sort-sorted, sort-map, sort-cong}
 use Rattle.keys.specs.ListLaws.{take-∈}
@@ -29,8 +27,7 @@ use Rattle.state.specs.declared.Ledger.{Ledger}
 use Rattle.state.specs.State.{placeAt}
 use Rattle.state.specs.Stands.{ident, Stands}
 use Rattle.report.specs.Board.{idAt, heldAt, coveredAt, headAt, order}
-use Rattle.report.specs.PlaceLaws.{same-place}
-use Rattle.report.specs.RowLaws.{rowAt, row-id, order-∈, order-ascending, table-rows, above-agrees, head-agrees}
+use Rattle.report.specs.RowLaws.{rowAt, row-id, order-∈, order-ascending, table-rows, above-agrees, head-agrees, same-agrees}
 use Rattle.writer.specs.Choose.{headsOf, topBelow, aboveAt, eightWith, eightFor, chosenPlaces}
 use Rattle.writer.specs.FrontLaws.{take-map, first-kept, none-kept, ascending-take, front-with}
 use Rattle.writer.specs.TopLaws.{RankedBy, top-right}
@@ -68,15 +65,9 @@ module _ {l : Ledger} {s : List ℕ} {us : List Update} (stands : Stands l s us)
   upAt : ℕ → ℕ → Bool
   upAt t k = eqb k t || has (placeAt l k .ancestors) t
 
-  same-agrees : {j k : ℕ} → j < length us → k < length us → same (row j .id) (row k .id) ≡ eqb j k
-  same-agrees {j} {k} g h =
-      test-ext (same (row j .id) (row k .id)) (eqb j k)
-      (λ e. eq-eqb j k (same-place stands g h (sym (row-id stands g) ∙ same→eq (row j .id) (row k .id) e ∙ row-id stands h)))
-      (λ e. eq→same (row j .id) (row k .id) (ap (λ (i : ℕ). row i .id) (eqb-true j k e)))
-
   up-agrees : {t k : ℕ} → t < length us → k < length us → heldAt l s k ≡ true → atOrAbove (row t) (row k) ≡ upAt t k
   unfolding atOrAbove upAt
-  up-agrees g h e = ap₂ _||_ (same-agrees h g) (above-agrees stands g h e)
+  up-agrees g h e = ap₂ _||_ (same-agrees stands h g) (above-agrees stands g h e)
 
   -- the first head, by its place
   firstOf : Option ℕ → List ℕ

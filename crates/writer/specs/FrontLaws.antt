@@ -15,11 +15,10 @@ use Rattle.keys.specs.Member.{_∈_, keep, SameMembers}
 use Rattle.keys.specs.Distinct.{Distinct, Identifies}
 use Rattle.keys.specs.Ascending.{Ascending, ascending-nil, ascending-cons}
 use Rattle.keys.specs.Sort.{sort}
-use Rattle.keys.specs.MemberLaws.{∈-cases, ∈-singleton, ∈-append-left, ∈-append-right, append-∈, keep-∈, keep-true, keep-false, keep-all, keep-none, same-members-refl}
+use Rattle.keys.specs.MemberLaws.{∈-cases, ∈-singleton, ∈-append-left, ∈-append-right, append-∈, keep-∈, keep-true, keep-false, keep-all, keep-none, same-members-refl, getD-∈, ∈-getD}
 use Rattle.keys.specs.DistinctLaws.{distinct-head, distinct-tail}
-use Rattle.keys.specs.SortLaws.{ascending-head, ascending-tail, ascending-distinct, ascending-identifies, sort-unique}
+use Rattle.keys.specs.SortLaws.{ascending-head, ascending-tail, ascending-append, ascending-distinct, ascending-identifies, sort-unique}
 use Rattle.keys.specs.ListLaws.{take-∈}
-use Rattle.report.specs.ListFacts.{getD-∈, ∈-getD, ascending-append}
 
 pub take-map : {A B : Type 0} (f : A → B) (n : ℕ) (xs : List A) → take n (map f xs) ≡ map f (take n xs)
 take-map f zero xs = refl

@@ -12,30 +12,29 @@ use lib.ListN.{length, length-map}
 use lib.Dec.{eqb}
 use Rattle.keys.specs.Order.{before}
 use Rattle.keys.specs.Member.{_∈_, keep}
-use Rattle.keys.specs.Distinct.{Distinct}
 use Rattle.keys.specs.Sort.{sort}
 use Rattle.keys.specs.BoolLaws.{true-false, not-true→false, and-true→, and-true}
 use Rattle.keys.specs.OrderLaws.{before-irrefl, before-trans}
 use Rattle.keys.specs.MemberLaws.{∈-cast, ∈-map, map-∈, ∈-keep, keep-∈, keep-none, member→∈, ∈→member}
 use Rattle.keys.specs.DistinctLaws.{distinct-keep, distinct-keys, distinct-same-length}
-use Rattle.keys.specs.SortLaws.{ascending-distinct, sort-∈, ∈-sort, sort-ascending}
-use Rattle.keys.specs.ListLaws.{distinct-rekey, greatest-first}
+use Rattle.keys.specs.SortLaws.{sort-∈, ∈-sort, sort-ascending}
+use Rattle.keys.specs.ListLaws.{greatest-first}
 use Rattle.format.specs.Update.{Update}
-use Rattle.rules.specs.Settle.{Row, Table, heldRow, rank, settled}
+use Rattle.rules.specs.Settle.{Row, Table, heldRow, rank, settled, rankKey}
 use Rattle.rules.specs.Decides.{Decides}
 use Rattle.rules.specs.Settling.{settled-decides}
 use Rattle.rules.specs.TableLaws.{HeldRow, keep-held→, row-eq, above-row}
-use Rattle.rules.specs.ListLaws.{siblingKey}
 use Rattle.rules.specs.Writing.{heldBy, ranked}
 use Rattle.bits.specs.Below.{upTo}
+use Rattle.bits.specs.BelowLaws.{upTo-∈, ∈-upTo, countBelow-length}
 use Rattle.bits.specs.Bits.{has}
 use Rattle.bits.specs.BitsLaws.{count-within}
 use Rattle.state.specs.declared.Ledger.{Ledger}
 use Rattle.state.specs.State.{placeAt}
 use Rattle.state.specs.Stands.{ident, Stands}
 use Rattle.report.specs.Board.{idAt, heldAt, authorAt, rankAt, order}
-use Rattle.report.specs.ListFacts.{and-agrees, upTo-∈, ∈-upTo, upTo-ascending, countBelow-length}
-use Rattle.report.specs.PlaceLaws.{from-used, to-used, same-place}
+use Rattle.report.specs.ListFacts.{and-agrees}
+use Rattle.report.specs.PlaceLaws.{from-used, to-used, places-distinct}
 use Rattle.report.specs.RowLaws.{rowAt, row-id, order-∈, ∈-order, table-rows, held-agrees, author-agrees, above-agrees}
 use Rattle.writer.specs.Choose.{ownAt, higher, betterThan, topBelow}
 
@@ -110,16 +109,11 @@ module _ {l : Ledger} {s : List ℕ} {us : List Update} (stands : Stands l s us)
       (∈-keep (λ (r : Row). heldRow r && true) (row-at h) (and-true (heldRow (rowAt us k)) true (held-agrees stands k h ∙ e) refl)) .0
 
   -- the rank of a held row is that of its place
-  places-distinct : Distinct (idAt l s) (upTo (length us))
-  places-distinct =
-      distinct-rekey (idAt l s) (ascending-distinct (upTo-ascending (length us)))
-      (λ j k m n e. ap (λ (i : ℕ). i ∷ []) (same-place stands (upTo-∈ (length us) m) (upTo-∈ (length us) n) e))
-
   rank-agrees : {k : ℕ} → k < length us → heldAt l s k ≡ true → rank (rowAt us k) ≡ rankAt l s k
   unfolding rank rankAt
   rank-agrees {k} h e =
       distinct-same-length (decides .above-once (rowAt us k) (held-row-at h e .row-in) (held-row-at h e .ruled-held))
-      (distinct-keys (idAt l s) (distinct-keep (has (placeAt l k .ancestors)) places-distinct))
+      (distinct-keys (idAt l s) (distinct-keep (has (placeAt l k .ancestors)) (places-distinct stands)))
       (record {
         forth = λ i m.
             let f = above-row (stands .holds .distinct) decides (held-row-at h e) m in
@@ -140,7 +134,7 @@ module _ {l : Ledger} {s : List ℕ} {us : List Update} (stands : Stands l s us)
       above : List ℕ
       above = keep (has (placeAt l k .ancestors)) (upTo (length us))
 
-  key-agrees : {k : ℕ} → k < length us → heldAt l s k ≡ true → siblingKey (rowAt us k) ≡ keyAt l s k
+  key-agrees : {k : ℕ} → k < length us → heldAt l s k ≡ true → rankKey (rowAt us k) ≡ keyAt l s k
   key-agrees h e = λ i. rank-agrees h e i ∷ row-id stands h i
 
   -- the author's rows
@@ -175,30 +169,30 @@ module _ {l : Ledger} {s : List ℕ} {us : List Update} (stands : Stands l s us)
 
       -- no row has a greater key than that of the top place
       greatest : (j : ℕ) → Top l s a (l .used) (some j) → {r : Row} → r ∈ rows
-          → (rowAt us j ≡ r) ⊎ (before (siblingKey (rowAt us j)) (siblingKey r) ≡ true) → r ≡ rowAt us j
+          → (rowAt us j ≡ r) ⊎ (before (rankKey (rowAt us j)) (rankKey r) ≡ true) → r ≡ rowAt us j
       greatest j t m (inl q) = sym q
       greatest j t m (inr b) =
           let g = row-of m in
           absurd
           (true-false
           (subst₂ (λ (x y : List ℕ). before x y ≡ true) (key-agrees (from-used stands (t .0)) (own-held a j (t .1)))
-          (ap siblingKey (sym (g .2)) ∙ key-agrees (g .1) (own-held a (g .0) (g .3))) b) (t .2 (g .0) (to-used stands (g .1)) (g .3)))
+          (ap rankKey (sym (g .2)) ∙ key-agrees (g .1) (own-held a (g .0) (g .3))) b) (t .2 (g .0) (to-used stands (g .1)) (g .3)))
 
-      top-in : (j : ℕ) → Top l s a (l .used) (some j) → rowAt us j ∈ sort siblingKey rows
+      top-in : (j : ℕ) → Top l s a (l .used) (some j) → rowAt us j ∈ sort rankKey rows
       top-in j t =
-          ∈-sort siblingKey
+          ∈-sort rankKey
           (λ x y i k q. row-eq (stands .holds .distinct) decides (keep-∈ (own a) T i .0) (keep-∈ (own a) T k .0) (tail-eq-of-cons-eq q))
           (∈-keep (own a) (row-at (from-used stands (t .0))) (own-agrees a (from-used stands (t .0)) ∙ t .1))
 
-      step : (o : Option ℕ) → Top l s a (l .used) o → RankedBy (reverse (sort siblingKey rows)) o
+      step : (o : Option ℕ) → Top l s a (l .used) o → RankedBy (reverse (sort rankKey rows)) o
       step none t =
-          ap (λ (rs : Table). reverse (sort siblingKey rs))
+          ap (λ (rs : Table). reverse (sort rankKey rs))
           (keep-none (own a) T (λ r m. let g = at-row m in ap (own a) (sym (g .2)) ∙ own-agrees a (g .1) ∙ t (g .0) (to-used stands (g .1))))
       step (some j) t =
-          let f = greatest-first siblingKey (sort siblingKey rows) (sort-ascending siblingKey rows) (top-in j t) in (
+          let f = greatest-first rankKey (sort rankKey rows) (sort-ascending rankKey rows) (top-in j t) in (
             from-used stands (t .0),
             own-held a j (t .1),
             f .1,
-            subst (λ (r : Row). reverse (sort siblingKey rows) ≡ r ∷ f .1)
-                (greatest j t (sort-∈ siblingKey rows (f .3)) (f .4 (rowAt us j) (top-in j t))) (f .2),
+            subst (λ (r : Row). reverse (sort rankKey rows) ≡ r ∷ f .1)
+                (greatest j t (sort-∈ rankKey rows (f .3)) (f .4 (rowAt us j) (top-in j t))) (f .2),
           )

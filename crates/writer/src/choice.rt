@@ -23,6 +23,7 @@ use report::tests;
 use state::Found;
 use state::Ledger;
 use state::Standing;
+use state::store::stored;
 
 // How many predecessors an update has at most: format::bounds::MAX_PREDECESSORS.
 const NAMED_HEADS: usize = 8;
@@ -62,10 +63,10 @@ fn is_own(l: Ledger, store: &[u8], author: u8, k: usize) -> bool
     requires { ⌜ k < 64 ⌝ }
     ensures { λ r. ⌜ r ≡ ownAt l (now (store .entry)) author k ⌝ }
 {
-    let p = l.place(k);
+    let p = l.places[k];
     let standing = p.standing;
     match standing {
-        Standing::Held => read::author_at(l, store, k) == author,
+        Standing::Held => read::author_of(stored(store, k, p.length)) == author,
         Standing::Waiting => false,
         Standing::Void => false,
     }
@@ -76,7 +77,7 @@ fn comes_before(l: Ledger, j: usize, k: usize) -> bool
     requires { ⌜ (j < 64) × (k < 64) ⌝ }
     ensures { λ r. ⌜ r ≡ before (placeAt l j .id) (placeAt l k .id) ⌝ }
 {
-    match sorted::compare_ids(l, j, k) {
+    match sorted::compare_ids(l.places[j], l.places[k]) {
         Order::Less => true,
         Order::Equal => false,
         Order::Greater => false,
@@ -88,8 +89,8 @@ fn is_higher(l: Ledger, store: &[u8], k: usize, j: usize) -> bool
     requires { ⌜ (k < 64) × (j < 64) ⌝ }
     ensures { λ r. ⌜ r ≡ higher l (now (store .entry)) k j ⌝ }
 {
-    let p = l.place(k);
-    let q = l.place(j);
+    let p = l.places[k];
+    let q = l.places[j];
     let rank = bits::count(p.ancestors);
     let other = bits::count(q.ancestors);
     if other < rank {
@@ -151,7 +152,7 @@ fn is_above(l: Ledger, t: usize, h: usize) -> bool
     if h == t {
         return true;
     }
-    let p = l.place(h);
+    let p = l.places[h];
     bits::has(p.ancestors, t)
 }
 

@@ -40,7 +40,7 @@ fn put_id(l: Ledger, k: usize, page: &mut [u8], at: usize) -> usize
     ensures prints { λ r. ⌜ Prints (now (page .entry)) at (placeAt l k .id) (now (page .exit)) r ⌝ }
     ensures small { λ r. ⌜ r ≡ at + 32 ⌝ }
 {
-    let p = l.place(k);
+    let p = l.places[k];
     let id = p.id;
     put(page, at, &id)
 }

@@ -1,5 +1,6 @@
 -- `standing` meets its contract, by row 1 and by where the id was found.
 -- Assumes nothing.
+use Prim.Native.Nat.{_<_}
 use mathlib.Core.Path.{sym, _∙_}
 use native.Mathlib.Omega.{arith}
 use borrow.Author.Needs.{needs}
@@ -12,6 +13,16 @@ use Rattle.ledger.proofs.OfferLaws.{asked-unfit, asked-at, asked-nowher
 use Rattle.ledger.proofs.standing.Statement.{statement}
 use Rattle.ledger.proofs.standing.Tie as tie
 
+-- the place where the id was found is one
+inside : (c : tie.After-known-told) → c .before .k .given .0 .0 < 64
+inside c =
+    let f = c .before .before .before in
+    let d = f .before .before .before in
+    let a = d .before .before .args in
+    let h = sound→ (a .t1) (now (a .store)) (sym (d .sound .ensures) ∙ not-false _ (f .before .before .if1 .left)) in
+    let e = found-at (findIn (a .t1) (a .t3)) _ (sym (f .find .ensures) ∙ c .before .k .given .1) in
+    omega (arith, found-inside (a .t1) (a .t3) _ e, h .few)
+
 pub standing-spec : {M : Type 1} → statement M
 standing-spec =
     tie.close
@@ -19,32 +30,26 @@ standing-spec =
     (λ c κs. search needs)
     (λ c.
     let a = c .before .before .before .args in
-    asked-unfit (a .ledger) (now (a .store)) (a .t3) (sym (c .before .sound .ensures) ∙ not-true _ (c .if1 .taken)))
+    asked-unfit (a .t1) (now (a .store)) (a .t3) (sym (c .before .sound .ensures) ∙ not-true _ (c .if1 .taken)))
     (λ c. search needs)
     (λ c κs.
     let d = c .before .before in
     let a = d .before .before .args in
-    sound→ (a .ledger) (now (a .store)) (sym (d .sound .ensures) ∙ not-false _ (c .before .if1 .left)) .few)
+    sound→ (a .t1) (now (a .store)) (sym (d .sound .ensures) ∙ not-false _ (c .before .if1 .left)) .few)
     (λ c. search needs)
-    (λ c κs.
-    let f = c .before .before .before in
-    let d = f .before .before .before in
-    let a = d .before .before .args in
-    let h = sound→ (a .ledger) (now (a .store)) (sym (d .sound .ensures) ∙ not-false _ (f .before .before .if1 .left)) in
-    let e = found-at (findIn (a .ledger) (a .t3)) _ (sym (f .find .ensures) ∙ c .before .k .given .1) in
-    omega (arith, found-inside (a .ledger) (a .t3) _ e, h .few))
+    (λ c. let h = inside c in search needs)
+    (λ c. let h = inside c in search needs)
     (λ c. search needs)
     (λ c.
     let k = c .before .before in
     let f = k .before .before in
     let d = f .before .before .before in
     let a = d .before .before .args in
-    asked-at (a .ledger) (now (a .store)) (a .t3) (sym (d .sound .ensures) ∙ not-false _ (f .before .before .if1 .left)) _
-    (found-at (findIn (a .ledger) (a .t3)) _ (sym (f .find .ensures) ∙ k .k .given .1))
-    (c .place .ensures))
+    asked-at (a .t1) (now (a .store)) (a .t3) (sym (d .sound .ensures) ∙ not-false _ (f .before .before .if1 .left)) _
+    (found-at (findIn (a .t1) (a .t3)) _ (sym (f .find .ensures) ∙ k .k .given .1)))
     (λ c.
     let f = c .before .before in
     let d = f .before .before .before in
     let a = d .before .before .args in
-    asked-nowhere (a .ledger) (now (a .store)) (a .t3) (sym (d .sound .ensures) ∙ not-false _ (f .before .before .if1 .left))
-    (found-nowhere (findIn (a .ledger) (a .t3)) (sym (f .find .ensures) ∙ c .enum-told .given .1))))
+    asked-nowhere (a .t1) (now (a .store)) (a .t3) (sym (d .sound .ensures) ∙ not-false _ (f .before .before .if1 .left))
+    (found-nowhere (findIn (a .t1) (a .t3)) (sym (f .find .ensures) ∙ c .enum-told .given .1))))

@@ -1,14 +1,14 @@
 -- `take` meets its contract: what settling ensures of the ledger with the place taken, and the counts.
 -- Assumes nothing.
-use mathlib.Core.Path.{_≡_, sym, ap, _∙_}
+use mathlib.Core.Path.{ap}
 use Prim.Native.Nat.{_≤_}
 use native.Mathlib.Omega.{arith}
-use lib.ListN.{length, length-map}
 use borrow.Author.Needs.{needs}
 use denote.Ref.{now}
 use Rattle.format.specs.Laws.{accepted}
 use Rattle.state.specs.declared.Ledger.{Ledger}
 use Rattle.state.specs.Row1Laws.{sound→}
+use Rattle.state.proofs.Owning.{places-length}
 use Rattle.ledger.specs.Offer.{Took}
 use Rattle.ledger.proofs.TakeLaws as laws
 use Rattle.ledger.proofs.OfferLaws.{offered-taken}
@@ -26,8 +26,7 @@ took c =
     let z = w .before .before .before .before in
     let a = z .args in
     let f = z .pre .0 in
-    let g = z .good .0 in
-    let whole : length (a .ledger .places) ≡ 64 = sym (length-map (a .ledger .places) _) ∙ g .1 .1 .1 .0 .1 .0 .1 in
+    let whole = places-length (a .ledger) _ (z .good .0) in
     laws.took (a .ledger) (now (a .store)) (now (a .update)) (f .value) (f .is-sound) (f .decodes) (z .pre .3) whole (z .pre .1) (z .pre .2)
     (t .taken .ensures)
     (w .write-at .ensures)
@@ -51,7 +50,8 @@ take-spec =
     let t = c .before in
     let z = t .before .before .before .before .before .before .before in
     omega (arith, ap (λ (m : Ledger). m .used) (t .taken .ensures), z .pre .3))
-    (λ c κs. search needs)
+    (λ c. search needs)
+    (λ c. search needs)
     (λ c κs. settled-few (c .before))
     (λ c κs. search needs)
     (λ c.
@@ -68,7 +68,6 @@ take-spec =
     let z = w .before .before .before .before in
     let a = z .args in
     offered-taken (a .ledger) (now (a .store)) (now (a .update)) (z .pre .0) _ (z .pre .1) (z .pre .2) (z .pre .3) (took n) (w .write-at .ensures)
-    (p .place .ensures)
     (c .before .before .before .held-count .ensures)
     (c .before .before .held-count2 .ensures)
     (c .before .void-count .ensures)

@@ -1,8 +1,9 @@
--- `index_after` meets its contract. The loop's invariant: the place goes among those from the i-th on.
+-- `index_after` meets its contract. The loop's invariant: the place goes among the entries from the i-th on.
 -- Assumes nothing.
 use Prim.Native.Nat.{_-_, _≤_}
 use mathlib.Core.Path.{_≡_, refl, sym, _∙_}
 use mathlib.Core.List.{_++_}
+use native.Mathlib.Omega.{arith}
 use borrow.Author.Needs.{needs}
 use lib.ListN.{getD, take, drop}
 use denote.Ref.{now}
@@ -14,12 +15,12 @@ use Rattle.report.proofs.list.index_after.Statement.{statement}
 use Rattle.report.proofs.list.index_after.Tie as tie
 
 abbrev Inv-loop : tie.InvT-loop
-Inv-loop l store id k entries count i₀ i =
+Inv-loop store id k l entries count i₀ i =
     (i ≤ count)
     × (after l store id k (placesIn entries) ≡ take i (placesIn entries) ++ after l store id k (drop i (placesIn entries)))
 
 abbrev μ-loop : tie.MeasureT-loop
-μ-loop l store id k entries count i₀ i = count - i
+μ-loop store id k l entries count i₀ i = count - i
 
 pub index-after-spec : {M : Type 1} → statement M
 index-after-spec =
@@ -30,38 +31,33 @@ index-after-spec =
     (λ c. (search needs, refl))
     (λ c. search needs)
     (λ c. search needs)
-    (λ c κs.
-    let pre = c .before .before .before .before .before .pre in
+    (λ c.
     let args = c .before .before .before .before .before .args in
-    below (args .t3) (pre) (c .before .before .loop .i) (search needs))
+    let pre = c .before .before .before .before .before .pre in
+    omega (arith, below (args .t3) pre (c .before .before .loop .i) (search needs)))
+    (λ c.
+    let args = c .before .before .before .before .before .args in
+    let pre = c .before .before .before .before .before .pre in
+    omega (arith, below (args .t3) pre (c .before .before .loop .i) (search needs)))
+    (λ c κs. search needs)
     (λ c. search needs)
     (λ c.
-    let args = c .before .before .before .before .before .before .before .args in
-    let loop = c .before .before .before .before .loop in
-    let pre = c .before .before .before .before .before .before .before .pre in
-    let xs = placesIn (args .t3) in
+    let args = c .before .before .before .before .before .before .before .before .args in
+    let loop = c .before .before .before .before .before .loop in
+    let pre = c .before .before .before .before .before .before .before .before .pre in
     let e = getD (args .t3 .items) (loop .i) 0 in
-    let d = next (args .t3) (pre) (loop .i) (search needs) in (
-      search needs,
-      after-here (args .l) (now (args .store)) (now (args .id)) (args .k) xs (loop .i) e (loop .inv .1) d (passed (args .t3) (pre) (loop .i) (search needs)) (sym (c .before .has-id .ensures) ∙ c .if1 .taken),
-    ))
+    (search needs, after-here (args .t1) (now (args .store)) (now (args .id)) (args .k) (placesIn (args .t3)) (loop .i) e (loop .inv .1) (next (args .t3) pre (loop .i) (search needs)) (passed (args .t3) pre (loop .i) (search needs)) (sym (c .before .has-id .ensures) ∙ c .if1 .taken)))
     (λ c. search needs)
     (λ c. search needs)
     (λ c.
-    let args = c .before .before .before .before .before .before .before .args in
-    let loop = c .before .before .before .before .loop in
-    let pre = c .before .before .before .before .before .before .before .pre in
-    let xs = placesIn (args .t3) in
+    let args = c .before .before .before .before .before .before .before .before .args in
+    let loop = c .before .before .before .before .before .loop in
+    let pre = c .before .before .before .before .before .before .before .before .pre in
     let e = getD (args .t3 .items) (loop .i) 0 in
-    let d = next (args .t3) (pre) (loop .i) (search needs) in (
-      search needs,
-      after-later (args .l) (now (args .store)) (now (args .id)) (args .k) xs (loop .i) e (loop .inv .1) d (passed (args .t3) (pre) (loop .i) (search needs)) (sym (c .before .has-id .ensures) ∙ c .if1 .left),
-    ))
+    (search needs, after-later (args .t1) (now (args .store)) (now (args .id)) (args .k) (placesIn (args .t3)) (loop .i) e (loop .inv .1) (next (args .t3) pre (loop .i) (search needs)) (passed (args .t3) pre (loop .i) (search needs)) (sym (c .before .has-id .ensures) ∙ c .if1 .left)))
     (λ c.
     let args = c .before .before .before .before .args in
     let loop = c .before .loop in
-    let xs = placesIn (args .t3) in
-    let e = getD (args .t3 .items) (loop .i) 0 in (
-      search needs,
-      after-none (args .l) (now (args .store)) (now (args .id)) (args .k) xs (loop .i) e (loop .inv .1) (ended (args .t3) (c .before .before .before .before .pre) (loop .i) (search needs)),
-    )))
+    let pre = c .before .before .before .before .pre in
+    let e = getD (args .t3 .items) (loop .i) 0 in
+    (search needs, after-none (args .t1) (now (args .store)) (now (args .id)) (args .k) (placesIn (args .t3)) (loop .i) e (loop .inv .1) (ended (args .t3) pre (loop .i) (search needs)))))

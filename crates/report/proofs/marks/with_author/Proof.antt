@@ -1,10 +1,14 @@
 -- `with_author` meets its contract.
 -- Assumes nothing.
+use Prim.Native.Nat.{ℕ}
 use mathlib.Core.Path.{ap, _∙_}
+use mathlib.Core.List.{List}
 use borrow.Author.Needs.{needs}
 use denote.Ref.{now}
-use Rattle.report.proofs.Testing.{author-added, author-kept}
+use Rattle.format.specs.Decode.{decode}
 use Rattle.bits.specs.Bits.{including}
+use Rattle.report.specs.Board.{authorIn}
+use Rattle.report.proofs.Testing.{author-added, author-kept}
 use Rattle.report.proofs.marks.with_author.Statement.{statement}
 use Rattle.report.proofs.marks.with_author.Tie as tie
 
@@ -13,13 +17,18 @@ with-author-spec =
     tie.close
     (tie.spec
     (λ c κs. search needs)
+    (λ c. search needs)
+    (λ c. search needs)
+    (λ c κs. search needs)
     (λ c κs. search needs)
     (λ c κs. search needs)
     (λ c κs. search needs)
     (λ c.
-    let args = c .before .before .before .before .before .before .args in
-    let author-at = c .before .before .author-at in
-    λ a. author-added (args .l) (now (args .store)) (args .authors) (args .k) a (c .before .before .before .before .is-forked .ensures) (c .before .before .before .if1 .taken) (author-at .ensures .0) (author-at .ensures .1) (c .including .ensures ∙ ap (including (args .authors)) (c .before .wide .ensures)))
+    let args = c .before .before .before .before .before .before .before .before .args in
+    let is-forked = c .before .before .before .before .before .before .is-forked in
+    let if1 = c .before .before .before .before .before .if1 in
+    let author-of = c .before .before .author-of in
+    λ a. author-added (args .t1) (now (args .store)) (args .authors) (args .k) a (is-forked .ensures) (if1 .taken) (author-of .ensures .0 ∙ ap (λ (b : List ℕ). authorIn (decode b)) (c .before .before .before .stored .ensures)) (author-of .ensures .1) (c .including .ensures ∙ ap (including (args .authors)) (c .before .wide .ensures)))
     (λ c.
     let args = c .before .before .before .args in
-    λ a. author-kept (args .l) (now (args .store)) (args .authors) (args .k) a (c .before .is-forked .ensures) (c .if1 .left)))
+    λ a. author-kept (args .t1) (now (args .store)) (args .authors) (args .k) a (c .before .is-forked .ensures) (c .if1 .left)))

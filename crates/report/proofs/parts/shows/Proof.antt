@@ -14,11 +14,17 @@ shows-spec =
     tie.close
     (tie.spec
     (λ c. search needs)
-    (λ c κs. search needs)
+    (λ c. search needs)
     (λ c. search needs)
     (λ c κs. search needs)
     (λ c. search needs)
     (λ c κs. search needs)
+    (λ c. search needs)
+    (λ c. search needs)
+    (λ c. search needs)
+    (λ c κs. search needs)
+    (λ c. search needs)
+    (λ c. search needs)
     (λ c. search needs)
     (λ c κs. search needs)
     (λ c. search needs)
@@ -26,26 +32,23 @@ shows-spec =
     (λ c. search needs)
     (λ c κs. search needs)
     (λ c.
-    let args = c .before .before .before .before .args in
-    held-is (args .l) (now (args .store)) (args .k) (c .stands .ensures)
-    ∙ ap (λ (p : Part). passes (args .l) (now (args .store)) p (args .k)) (sym (c .before .enum-told .given .1)))
+    let args = c .before .before .before .before .before .args in
+    held-is (args .t1) (now (args .store)) (args .k) (c .stands .ensures) ∙ ap (λ (p : Part). passes (args .t1) (now (args .store)) p (args .k)) (sym (c .before .before .enum-told .given .1)))
     (λ c.
     let args = c .before .before .before .before .args in
-    c .is-head .ensures ∙ ap (λ (p : Part). passes (args .l) (now (args .store)) p (args .k)) (sym (c .before .enum-told2 .given .1)))
+    c .is-head .ensures ∙ ap (λ (p : Part). passes (args .t1) (now (args .store)) p (args .k)) (sym (c .before .enum-told2 .given .1)))
     (λ c.
-    let args = c .before .before .before .before .args in
-    waiting-is (args .l) (now (args .store)) (args .k) (c .stands2 .ensures)
-    ∙ ap (λ (p : Part). passes (args .l) (now (args .store)) p (args .k)) (sym (c .before .enum-told3 .given .1)))
+    let args = c .before .before .before .before .before .args in
+    waiting-is (args .t1) (now (args .store)) (args .k) (c .stands2 .ensures) ∙ ap (λ (p : Part). passes (args .t1) (now (args .store)) p (args .k)) (sym (c .before .before .enum-told3 .given .1)))
     (λ c.
-    let args = c .before .before .before .before .args in
-    void-is (args .l) (now (args .store)) (args .k) (c .stands3 .ensures)
-    ∙ ap (λ (p : Part). passes (args .l) (now (args .store)) p (args .k)) (sym (c .before .enum-told4 .given .1)))
+    let args = c .before .before .before .before .before .args in
+    void-is (args .t1) (now (args .store)) (args .k) (c .stands3 .ensures) ∙ ap (λ (p : Part). passes (args .t1) (now (args .store)) p (args .k)) (sym (c .before .before .enum-told4 .given .1)))
     (λ c.
     let args = c .before .before .before .args in
-    ap (λ (p : Part). passes (args .l) (now (args .store)) p (args .k)) (sym (c .enum-told5 .given .1)))
+    ap (λ (p : Part). passes (args .t1) (now (args .store)) p (args .k)) (sym (c .enum-told5 .given .1)))
     (λ c.
     let args = c .before .before .before .args in
-    ap (λ (p : Part). passes (args .l) (now (args .store)) p (args .k)) (sym (c .enum-told6 .given .1)))
+    ap (λ (p : Part). passes (args .t1) (now (args .store)) p (args .k)) (sym (c .enum-told6 .given .1)))
     (λ c.
     let args = c .before .before .before .before .args in
-    c .is-shown .ensures ∙ ap (λ (p : Part). passes (args .l) (now (args .store)) p (args .k)) (sym (c .before .enum-told7 .given .1))))
+    c .is-shown .ensures ∙ ap (λ (p : Part). passes (args .t1) (now (args .store)) p (args .k)) (sym (c .before .enum-told7 .given .1))))

@@ -1,14 +1,10 @@
 -- `erases` meets its contract, by the operation.
 -- Assumes nothing.
-use Prim.Native.Nat.{ℕ}
 use mathlib.Core.Path.{ap, _∙_}
-use mathlib.Core.List.{List}
 use borrow.Author.Needs.{needs}
 use denote.Ref.{now}
 use Rattle.keys.specs.Order.{same}
-use Rattle.format.specs.Decode.{decode}
 use Rattle.rules.specs.Settle.{deletes}
-use Rattle.state.specs.Judge.{testOf}
 use Rattle.report.proofs.Reading.{deletes-seen, test-none}
 use Rattle.report.proofs.read.erases.Statement.{statement}
 use Rattle.report.proofs.read.erases.Tie as tie
@@ -18,7 +14,6 @@ erases-spec =
     tie.close
     (tie.spec
     (λ c κs. search needs)
-    (λ c κs. search needs)
     (λ c. search needs)
     (λ c. search needs)
     (λ c κs. search needs)
@@ -28,33 +23,22 @@ erases-spec =
     (λ c. search needs)
     (λ c. search needs)
     (λ c.
-    let bytes = c .before .before .before .before .before .before .before .before .before .bytes-at in
-    let args = c .before .before .before .before .before .before .before .before .before .before .before .before .args in
+    let args = c .before .before .before .before .before .before .before .before .before .before .before .args in
     let read = c .before .before .before .before .before .before .before .before .read in
     let u = c .before .before .before .before .before .before .u in
-    c .same .ensures ∙ ap (same (now (args .id))) (c .before .part-of .ensures)
-    ∙ deletes-seen (now (bytes .result)) (read .ensures .0) (now (args .id)) (u .given .1) (c .before .before .before .operation .given .1)
-    ∙ ap (λ (x : List ℕ). testOf (deletes (now (args .id))) (decode x)) (bytes .ensures))
+    c .same .ensures ∙ ap (same (now (args .id))) (c .before .part-of .ensures) ∙ deletes-seen (now (args .b)) (read .ensures .0) (now (args .id)) (u .given .1) (c .before .before .before .operation .given .1))
     (λ c.
-    let bytes = c .before .before .before .before .before .before .bytes-at in
-    let args = c .before .before .before .before .before .before .before .before .before .args in
+    let args = c .before .before .before .before .before .before .before .before .args in
     let read = c .before .before .before .before .before .read in
-    deletes-seen (now (bytes .result)) (read .ensures .0) (now (args .id)) (c .before .before .before .u .given .1) (c .enum-told .given .1)
-    ∙ ap (λ (x : List ℕ). testOf (deletes (now (args .id))) (decode x)) (bytes .ensures))
+    deletes-seen (now (args .b)) (read .ensures .0) (now (args .id)) (c .before .before .before .u .given .1) (c .enum-told .given .1))
     (λ c.
-    let bytes = c .before .before .before .before .before .before .bytes-at in
-    let args = c .before .before .before .before .before .before .before .before .before .args in
+    let args = c .before .before .before .before .before .before .before .before .args in
     let read = c .before .before .before .before .before .read in
-    deletes-seen (now (bytes .result)) (read .ensures .0) (now (args .id)) (c .before .before .before .u .given .1) (c .enum-told2 .given .1)
-    ∙ ap (λ (x : List ℕ). testOf (deletes (now (args .id))) (decode x)) (bytes .ensures))
+    deletes-seen (now (args .b)) (read .ensures .0) (now (args .id)) (c .before .before .before .u .given .1) (c .enum-told2 .given .1))
     (λ c.
-    let bytes = c .before .before .before .before .before .before .bytes-at in
-    let args = c .before .before .before .before .before .before .before .before .before .args in
+    let args = c .before .before .before .before .before .before .before .before .args in
     let read = c .before .before .before .before .before .read in
-    deletes-seen (now (bytes .result)) (read .ensures .0) (now (args .id)) (c .before .before .before .u .given .1) (c .enum-told3 .given .1)
-    ∙ ap (λ (x : List ℕ). testOf (deletes (now (args .id))) (decode x)) (bytes .ensures))
+    deletes-seen (now (args .b)) (read .ensures .0) (now (args .id)) (c .before .before .before .u .given .1) (c .enum-told3 .given .1))
     (λ c.
-    let bytes = c .before .before .before .bytes-at in
-    let args = c .before .before .before .before .before .before .args in
-    test-none (now (bytes .result)) (c .before .before .read .ensures .0) (deletes (now (args .id))) (c .enum-told4 .given .1)
-    ∙ ap (λ (x : List ℕ). testOf (deletes (now (args .id))) (decode x)) (bytes .ensures)))
+    let args = c .before .before .before .before .before .args in
+    test-none (now (args .b)) (c .before .before .read .ensures .0) (deletes (now (args .id))) (c .enum-told4 .given .1)))

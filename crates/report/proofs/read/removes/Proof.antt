@@ -1,13 +1,9 @@
 -- `removes` meets its contract, by the operation.
 -- Assumes nothing.
-use Prim.Native.Nat.{ℕ}
-use mathlib.Core.Path.{ap, _∙_}
-use mathlib.Core.List.{List}
+use mathlib.Core.Path.{_∙_}
 use borrow.Author.Needs.{needs}
 use denote.Ref.{now}
-use Rattle.format.specs.Decode.{decode}
 use Rattle.rules.specs.Settle.{names}
-use Rattle.state.specs.Judge.{testOf}
 use Rattle.report.proofs.Reading.{names-seen, test-none}
 use Rattle.report.proofs.read.removes.Statement.{statement}
 use Rattle.report.proofs.read.removes.Tie as tie
@@ -17,7 +13,6 @@ removes-spec =
     tie.close
     (tie.spec
     (λ c κs. search needs)
-    (λ c κs. search needs)
     (λ c. search needs)
     (λ c. search needs)
     (λ c κs. search needs)
@@ -26,32 +21,22 @@ removes-spec =
     (λ c. search needs)
     (λ c. search needs)
     (λ c.
-    let bytes = c .before .before .before .before .before .before .before .before .bytes-at in
-    let args = c .before .before .before .before .before .before .before .before .before .before .before .args in
+    let args = c .before .before .before .before .before .before .before .before .before .before .args in
     let read = c .before .before .before .before .before .before .before .read in
     let u = c .before .before .before .before .before .u in
-    c .among .ensures ∙ names-seen (now (bytes .result)) (read .ensures .0) (now (args .id)) (u .given .1) (c .before .before .operation .given .1)
-    ∙ ap (λ (x : List ℕ). testOf (names (now (args .id))) (decode x)) (bytes .ensures))
+    c .among .ensures ∙ names-seen (now (args .b)) (read .ensures .0) (now (args .id)) (u .given .1) (c .before .before .operation .given .1))
     (λ c.
-    let bytes = c .before .before .before .before .before .before .bytes-at in
-    let args = c .before .before .before .before .before .before .before .before .before .args in
+    let args = c .before .before .before .before .before .before .before .before .args in
     let read = c .before .before .before .before .before .read in
-    names-seen (now (bytes .result)) (read .ensures .0) (now (args .id)) (c .before .before .before .u .given .1) (c .enum-told .given .1)
-    ∙ ap (λ (x : List ℕ). testOf (names (now (args .id))) (decode x)) (bytes .ensures))
+    names-seen (now (args .b)) (read .ensures .0) (now (args .id)) (c .before .before .before .u .given .1) (c .enum-told .given .1))
     (λ c.
-    let bytes = c .before .before .before .before .before .before .bytes-at in
-    let args = c .before .before .before .before .before .before .before .before .before .args in
+    let args = c .before .before .before .before .before .before .before .before .args in
     let read = c .before .before .before .before .before .read in
-    names-seen (now (bytes .result)) (read .ensures .0) (now (args .id)) (c .before .before .before .u .given .1) (c .enum-told2 .given .1)
-    ∙ ap (λ (x : List ℕ). testOf (names (now (args .id))) (decode x)) (bytes .ensures))
+    names-seen (now (args .b)) (read .ensures .0) (now (args .id)) (c .before .before .before .u .given .1) (c .enum-told2 .given .1))
     (λ c.
-    let bytes = c .before .before .before .before .before .before .bytes-at in
-    let args = c .before .before .before .before .before .before .before .before .before .args in
+    let args = c .before .before .before .before .before .before .before .before .args in
     let read = c .before .before .before .before .before .read in
-    names-seen (now (bytes .result)) (read .ensures .0) (now (args .id)) (c .before .before .before .u .given .1) (c .enum-told3 .given .1)
-    ∙ ap (λ (x : List ℕ). testOf (names (now (args .id))) (decode x)) (bytes .ensures))
+    names-seen (now (args .b)) (read .ensures .0) (now (args .id)) (c .before .before .before .u .given .1) (c .enum-told3 .given .1))
     (λ c.
-    let bytes = c .before .before .before .bytes-at in
-    let args = c .before .before .before .before .before .before .args in
-    test-none (now (bytes .result)) (c .before .before .read .ensures .0) (names (now (args .id))) (c .enum-told4 .given .1)
-    ∙ ap (λ (x : List ℕ). testOf (names (now (args .id))) (decode x)) (bytes .ensures)))
+    let args = c .before .before .before .before .before .args in
+    test-none (now (args .b)) (c .before .before .read .ensures .0) (names (now (args .id))) (c .enum-told4 .given .1)))

@@ -1,11 +1,11 @@
 -- `compare` meets its contract, by the key.
 -- Assumes nothing.
-use mathlib.Core.Path.{sym, ap, ap₂, _∙_}
+use mathlib.Core.Path.{sym, ap, _∙_}
 use borrow.Author.Needs.{needs}
 use denote.Ref.{now}
 use Rattle.keys.specs.Compare.{orderOf}
 use Rattle.report.specs.declared.Key.{Key}
-use Rattle.report.specs.Pieces.{keyOf}
+use Rattle.report.specs.Pieces.{keyIn}
 use Rattle.report.proofs.sorted.compare.Statement.{statement}
 use Rattle.report.proofs.sorted.compare.Tie as tie
 
@@ -17,13 +17,9 @@ compare-spec =
     (λ c κs. search needs)
     (λ c. search needs)
     (λ c κs. search needs)
-    (λ c κs. search needs)
-    (λ c κs. search needs)
     (λ c.
     let args = c .before .before .before .before .args in
-    c .compare-ids .ensures
-    ∙ ap (λ (y : Key). orderOf (keyOf (args .l) (now (args .store)) y (args .j)) (keyOf (args .l) (now (args .store)) y (args .k))) (sym (c .before .enum-told .given .1)))
+    c .compare-ids .ensures ∙ ap (λ (y : Key). orderOf (keyIn (now (args .store)) y (args .own) (args .j)) (keyIn (now (args .store)) y (args .other) (args .k))) (sym (c .before .enum-told .given .1)))
     (λ c.
-    let args = c .before .before .before .before .before .before .args in
-    c .compare .ensures ∙ ap₂ orderOf (c .before .before .tag-at .ensures .0) (c .before .tag-at2 .ensures .0)
-    ∙ ap (λ (y : Key). orderOf (keyOf (args .l) (now (args .store)) y (args .j)) (keyOf (args .l) (now (args .store)) y (args .k))) (sym (c .before .before .before .enum-told2 .given .1))))
+    let args = c .before .before .before .before .args in
+    c .compare-tags .ensures ∙ ap (λ (y : Key). orderOf (keyIn (now (args .store)) y (args .own) (args .j)) (keyIn (now (args .store)) y (args .other) (args .k))) (sym (c .before .enum-told2 .given .1))))

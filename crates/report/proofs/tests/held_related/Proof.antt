@@ -14,7 +14,7 @@ held-related-spec =
     (λ c κs. search needs)
     (λ c.
     let args = c .before .before .before .before .args in
-    held-related (args .l) (now (args .store)) (args .q) (c .before .before .stands .ensures) (args .relation) (args .k) (c .before .if1 .taken) (c .related .ensures))
+    held-related (now (args .store)) (args .other) (args .q) (c .before .before .stands .ensures) (args .relation) (args .own) (args .k) (c .before .if1 .taken) (c .related .ensures))
     (λ c.
     let args = c .before .before .before .args in
-    held-unrelated (args .l) (now (args .store)) (args .q) (c .before .stands .ensures) (args .relation) (args .k) (c .if1 .left)))
+    held-unrelated (now (args .store)) (args .other) (args .q) (c .before .stands .ensures) (args .relation) (args .own) (args .k) (c .if1 .left)))

@@ -10,11 +10,13 @@ pub is-forked-spec : {M : Type 1} → statement M
 is-forked-spec =
     tie.close
     (tie.spec
+    (λ c. search needs)
+    (λ c. search needs)
     (λ c κs. search needs)
     (λ c κs. search needs)
+    (λ c.
+    let args = c .before .before .before .before .before .args in
+    forked-held (args .t1) (now (args .store)) (args .k) (c .before .before .stands .ensures) (c .before .if1 .taken) (c .some-held .ensures))
     (λ c.
     let args = c .before .before .before .before .args in
-    forked-held (args .l) (now (args .store)) (args .k) (c .before .before .stands .ensures) (c .before .if1 .taken) (c .some-held .ensures))
-    (λ c.
-    let args = c .before .before .before .args in
-    forked-none (args .l) (now (args .store)) (args .k) (c .before .stands .ensures) (c .if1 .left)))
+    forked-none (args .t1) (now (args .store)) (args .k) (c .before .stands .ensures) (c .if1 .left)))

@@ -2,21 +2,21 @@
 -- Assumes nothing.
 use Prim.Native.Nat.{ℕ, _-_, _≤_}
 use mathlib.Core.Path.{_≡_}
-use mathlib.Core.Bool.{false, _&&_}
+use mathlib.Core.Bool.{false}
 use borrow.Author.Needs.{needs}
 use denote.Ref.{now}
 use Rattle.bits.specs.Below.{anyBelow}
-use Rattle.report.specs.Board.{heldAt}
-use Rattle.report.specs.Pieces.{relates}
+use Rattle.state.specs.State.{placeAt}
+use Rattle.report.specs.Pieces.{heldRelates}
 use Rattle.report.proofs.Testing.{some-start, some-hit, some-more, some-end}
 use Rattle.report.proofs.tests.some_held.Statement.{statement}
 use Rattle.report.proofs.tests.some_held.Tie as tie
 
 abbrev Inv-loop : tie.InvT-loop
-Inv-loop l store relation k used q₀ q = (q ≤ used) × (anyBelow q (λ (j : ℕ). heldAt l store j && relates l store relation k j) ≡ false)
+Inv-loop store relation k l used own q₀ q = (q ≤ used) × (anyBelow q (λ (j : ℕ). heldRelates store relation (placeAt l k) k (placeAt l j) j) ≡ false)
 
 abbrev μ-loop : tie.MeasureT-loop
-μ-loop l store relation k used q₀ q = used - q
+μ-loop store relation k l used own q₀ q = used - q
 
 pub some-held-spec : {M : Type 1} → statement M
 some-held-spec =
@@ -24,22 +24,25 @@ some-held-spec =
     (tie.spec
     Inv-loop
     μ-loop
+    (λ c. search needs)
+    (λ c. search needs)
     (λ c.
-    let args = c .before .args in
-    (search needs, some-start (args .l) (now (args .store)) (args .k) (args .relation)))
+    let args = c .before .before .args in
+    (search needs, some-start (args .t1) (now (args .store)) (args .k) (args .relation)))
+    (λ c. search needs)
+    (λ c. search needs)
     (λ c κs. search needs)
     (λ c.
-    let args = c .before .before .before .before .before .args in
-    some-hit (args .l) (now (args .store)) (args .k) (args .relation) (c .before .before .before .loop .q) (search needs) (c .before .held-related .ensures) (c .if1 .taken))
+    let args = c .before .before .before .before .before .before .before .args in
+    let loop = c .before .before .before .before .loop in
+    some-hit (args .t1) (now (args .store)) (args .k) (args .relation) (loop .q) (search needs) (c .before .held-related .ensures) (c .if1 .taken))
     (λ c. search needs)
     (λ c. search needs)
     (λ c.
-    let args = c .before .before .before .before .before .args in
-    let loop = c .before .before .before .loop in (
-      search needs,
-      some-more (args .l) (now (args .store)) (args .k) (args .relation) (loop .q) (loop .inv .1) (c .before .held-related .ensures) (c .if1 .left),
-    ))
+    let args = c .before .before .before .before .before .before .before .args in
+    let loop = c .before .before .before .before .loop in
+    (search needs, some-more (args .t1) (now (args .store)) (args .k) (args .relation) (loop .q) (loop .inv .1) (c .before .held-related .ensures) (c .if1 .left)))
     (λ c.
-    let args = c .before .before .before .args in
+    let args = c .before .before .before .before .args in
     let loop = c .before .loop in
-    some-end (args .l) (now (args .store)) (args .k) (args .relation) (loop .q) (search needs) (search needs) (loop .inv .1)))
+    some-end (args .t1) (now (args .store)) (args .k) (args .relation) (loop .q) (search needs) (search needs) (loop .inv .1)))

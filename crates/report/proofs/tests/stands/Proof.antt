@@ -1,10 +1,8 @@
 -- `stands` meets its contract.
 -- Assumes nothing.
-use mathlib.Core.Path.{ap, ap₂, _∙_}
+use mathlib.Core.Path.{ap₂}
 use borrow.Author.Needs.{needs}
 use lib.Dec.{eqb}
-use Rattle.state.specs.declared.Place.{Place}
-use Rattle.report.specs.Pieces.{numberOf}
 use Rattle.report.proofs.tests.stands.Statement.{statement}
 use Rattle.report.proofs.tests.stands.Tie as tie
 
@@ -14,6 +12,4 @@ stands-spec =
     (tie.spec
     (λ c κs. search needs)
     (λ c κs. search needs)
-    (λ c κs. search needs)
-    (λ c.
-    ap₂ eqb (c .before .number .ensures ∙ ap (λ (p : Place). numberOf (p .standing)) (c .before .before .place .ensures)) (c .number2 .ensures)))
+    (λ c. ap₂ eqb (c .before .number .ensures) (c .number2 .ensures)))

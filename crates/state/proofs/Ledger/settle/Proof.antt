@@ -2,12 +2,12 @@
 -- The measure: how many places wait, and one more while there is a pass to make.
 -- Assumes nothing.
 use Prim.Native.Nat.{_<_}
-use mathlib.Core.Path.{_≡_, sym, subst, _∙_}
+use mathlib.Core.Path.{_≡_, sym, subst}
 use mathlib.Core.Bool.{Bool}
-use lib.ListN.{length, length-map}
+use lib.ListN.{length}
 use native.Mathlib.Omega.{arith}
-use borrow.Author.Needs.{needs}
 use denote.Ref.{now}
+use Rattle.state.proofs.Owning.{places-length}
 use Rattle.state.proofs.Settling.{Reached, left, reached-none, reached-next, left-falls, reached-settled}
 use Rattle.state.proofs.Ledger.settle.Statement.{statement}
 use Rattle.state.proofs.Ledger.settle.Tie as tie
@@ -29,8 +29,7 @@ settle-spec =
     (λ c.
     let h = c .before .before .before in
     let a = h .before .before .args in
-    let g = h .before .before .good .0 in
-    let whole : length (a .self .places) ≡ 64 = sym (length-map (a .self .places) _) ∙ g .1 .1 .1 .0 .1 .0 .1 in
+    let whole : length (a .self .places) ≡ 64 = places-length (a .self) _ (h .before .before .good .0) in
     let p = c .before .pass .result in
     subst (λ (b : Bool). left (p .ledger) (p .changed) < left (h .loop .self) b) (sym (c .before .before .loop-test .taken))
     (left-falls (a .self) (now (a .store)) (h .loop .self) (h .loop .changed) (h .loop .inv) p (c .before .pass .ensures)

@@ -9,10 +9,10 @@ use Rattle.state.proofs.find.count.Statement.{statement}
 use Rattle.state.proofs.find.count.Tie as tie
 
 abbrev Inv-loop : tie.InvT-loop
-Inv-loop l standing used n₀ j₀ n j = (j ≤ used) × (n ≤ j) × (n ≡ counted l standing j)
+Inv-loop standing l used n₀ j₀ n j = (j ≤ used) × (n ≤ j) × (n ≡ counted l standing j)
 
 abbrev μ-loop : tie.MeasureT-loop
-μ-loop l standing used n₀ j₀ n j = used - j
+μ-loop standing l used n₀ j₀ n j = used - j
 
 pub count-spec : {M : Type 1} → statement M
 count-spec =
@@ -21,7 +21,8 @@ count-spec =
     Inv-loop
     μ-loop
     (λ c. (search needs, search needs, counted-first _ _))
-    (λ c κs. search needs)
+    (λ c. search needs)
+    (λ c. search needs)
     (λ c κs. search needs)
     (λ c. search needs)
     (λ c. search needs)
@@ -29,13 +30,12 @@ count-spec =
     (λ c.
     let h = c .before .before .before .before in
     let a = h .before .args in
-    let p = c .before .before .place .ensures in
     let t = c .before .has-standing .ensures in
     ⊎-elim
-    (λ w. (search needs, search needs, w .1 ∙ counted-one (a .l) (a .standing) (h .loop .j) p t (w .0 .taken) (h .loop .inv .2)))
-    (λ w. (search needs, search needs, w .1 ∙ counted-none (a .l) (a .standing) (h .loop .j) p t (w .0 .left) (h .loop .inv .2)))
+    (λ w. (search needs, search needs, w .1 ∙ counted-one (a .t1) (a .standing) (h .loop .j) t (w .0 .taken) (h .loop .inv .2)))
+    (λ w. (search needs, search needs, w .1 ∙ counted-none (a .t1) (a .standing) (h .loop .j) t (w .0 .left) (h .loop .inv .2)))
     (c .if1 .came))
     (λ c.
     let h = c .before in
     let a = h .before .args in
-    counted-whole (a .l) (a .standing) (h .loop .j) (search needs) (h .loop .inv .2)))
+    counted-whole (a .t1) (a .standing) (h .loop .j) (search needs) (h .loop .inv .2)))

@@ -1,18 +1,18 @@
 -- `find` meets its contract. The loop's invariant: no place below k has the id.
 -- Assumes nothing.
 use Prim.Native.Nat.{_≤_, _-_}
-use mathlib.Core.Path.{_∙_}
+use mathlib.Core.Path.{sym, _∙_}
 use borrow.Author.Needs.{needs}
 use denote.Ref.{now}
-use Rattle.state.proofs.FindLaws.{NoneBelow, none-first, none-more, found, nowhere, test-id}
+use Rattle.state.proofs.FindLaws.{NoneBelow, none-first, none-more, found, nowhere}
 use Rattle.state.proofs.find.find.Statement.{statement}
 use Rattle.state.proofs.find.find.Tie as tie
 
 abbrev Inv-loop : tie.InvT-loop
-Inv-loop l id used k₀ k = (k ≤ used) × NoneBelow l id k
+Inv-loop id l used k₀ k = (k ≤ used) × NoneBelow l id k
 
 abbrev μ-loop : tie.MeasureT-loop
-μ-loop l id used k₀ k = used - k
+μ-loop id l used k₀ k = used - k
 
 pub find-spec : {M : Type 1} → statement M
 find-spec =
@@ -21,22 +21,23 @@ find-spec =
     Inv-loop
     μ-loop
     (λ c. (search needs, none-first _ _))
-    (λ c κs. search needs)
+    (λ c. search needs)
+    (λ c. search needs)
     (λ c κs. search needs)
     (λ c.
     let h = c .before .before .before .before in
     let a = h .before .before .args in
-    found (a .l) (now (a .id)) (h .loop .k) (search needs) (h .loop .inv .1)
-    (test-id (a .l) (now (a .id)) (h .loop .k) (c .before .before .place .ensures) (c .before .has-id .ensures) ∙ c .if1 .taken))
+    found (a .t1) (now (a .id)) (h .loop .k) (search needs) (h .loop .inv .1)
+    (sym (c .before .has-id .ensures) ∙ c .if1 .taken))
     (λ c. search needs)
     (λ c. search needs)
     (λ c.
     let h = c .before .before .before .before in
     let a = h .before .before .args in (
       search needs,
-      none-more (a .l) (now (a .id)) (h .loop .k) (h .loop .inv .1)
-          (test-id (a .l) (now (a .id)) (h .loop .k) (c .before .before .place .ensures) (c .before .has-id .ensures) ∙ c .if1 .left),
+      none-more (a .t1) (now (a .id)) (h .loop .k) (h .loop .inv .1)
+          (sym (c .before .has-id .ensures) ∙ c .if1 .left),
     ))
     (λ c.
     let a = c .before .before .before .args in
-    nowhere (a .l) (now (a .id)) (c .before .loop .k) (search needs) (c .before .loop .inv .1)))
+    nowhere (a .t1) (now (a .id)) (c .before .loop .k) (search needs) (c .before .loop .inv .1)))

@@ -9,7 +9,6 @@ pub gather-by-spec : {M : Type 1} → statement M
 gather-by-spec =
     tie.close
     (tie.spec
-    (λ c κs. search needs)
     (λ c. search needs)
     (λ c κs. search needs)
     (λ c κs. search needs)
@@ -17,14 +16,8 @@ gather-by-spec =
     (λ c. search needs)
     (λ c.
     let t = c .before .before in
-    let d = t .before .before in
-    let a = d .before .args in
-    by-held (a .l) (a .g) (a .j) _ (d .place .ensures) _ _ (t .enum-told .given .1) (c .before .including .ensures) (c .join .ensures))
-    (λ c.
-    let d = c .before .before in
-    let a = d .before .args in
-    by-waiting (a .l) (a .g) (a .j) _ (d .place .ensures) (c .enum-told2 .given .1))
-    (λ c.
-    let d = c .before .before in
-    let a = d .before .args in
-    by-void (a .l) (a .g) (a .j) _ (d .place .ensures) (c .enum-told3 .given .1)))
+    let a = t .before .before .args in
+    λ l e.
+    by-held (a .p) (a .g) (a .j) l e _ _ (t .enum-told .given .1) (c .before .including .ensures) (c .join .ensures))
+    (λ c. let a = c .before .before .args in λ l e. by-waiting (a .p) (a .g) (a .j) l e (c .enum-told2 .given .1))
+    (λ c. let a = c .before .before .args in λ l e. by-void (a .p) (a .g) (a .j) l e (c .enum-told3 .given .1)))

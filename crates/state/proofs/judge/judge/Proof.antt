@@ -11,11 +11,12 @@ pub judge-spec : {M : Type 1} → statement M
 judge-spec =
     tie.close
     (tie.spec
-    (λ c κs. search needs)
+    (λ c. search needs)
+    (λ c. search needs)
     (λ c κs. search needs)
     (λ c κs. search needs)
     (λ c.
     let d = c .before in
     let q = d .before in
     let a = q .before .before .args in
-    c .judge-bytes .ensures ∙ judge-stored (a .l) (now (a .store)) (a .k) _ _ (q .place .ensures) (d .stored .ensures)))
+    c .judge-bytes .ensures ∙ judge-stored (a .t1) (now (a .store)) (a .k) _ (d .stored .ensures)))

@@ -10,10 +10,10 @@ use Rattle.state.proofs.row1.sound.Statement.{statement}
 use Rattle.state.proofs.row1.sound.Tie as tie
 
 abbrev Inv-loop : tie.InvT-loop
-Inv-loop l store used k₀ k = (k ≤ used) × SoundBelow l k
+Inv-loop store l used k₀ k = (k ≤ used) × SoundBelow l k
 
 abbrev μ-loop : tie.MeasureT-loop
-μ-loop l store used k₀ k = used - k
+μ-loop store l used k₀ k = used - k
 
 pub sound-spec : {M : Type 1} → statement M
 sound-spec =
@@ -21,26 +21,27 @@ sound-spec =
     (tie.spec
     Inv-loop
     μ-loop
-    (λ c. let a = c .before .before .args in wrong-store (a .l) (now (a .store)) (c .if1 .taken))
-    (λ c. let a = c .before .before .before .args in too-many (a .l) (now (a .store)) (search needs) (search needs))
+    (λ c. let a = c .before .before .args in wrong-store (a .t1) (now (a .store)) (c .if1 .taken))
+    (λ c. let a = c .before .before .before .args in too-many (a .t1) (now (a .store)) (search needs) (search needs))
     (λ c. (search needs, sound-first _))
-    (λ c κs. search needs)
+    (λ c. search needs)
+    (λ c. search needs)
     (λ c κs. search needs)
     (λ c.
     let h = c .before .before .before .before in
     let a = h .before .before .before .before .args in
-    sym (unsound (a .l) (h .loop .k) (c .before .before .place .ensures) (c .before .sound-place .ensures) (search needs) (not-true _ (c .if3 .taken)))
-    ∙ by-places (a .l) (now (a .store)) (search needs) (search needs))
+    sym (unsound (a .t1) (h .loop .k) (c .before .sound-place .ensures) (search needs) (not-true _ (c .if3 .taken)))
+    ∙ by-places (a .t1) (now (a .store)) (search needs) (search needs))
     (λ c. search needs)
     (λ c. search needs)
     (λ c.
     let h = c .before .before .before .before in
     let a = h .before .before .before .before .args in (
       search needs,
-      sound-more (a .l) (h .loop .k) (c .before .before .place .ensures) (c .before .sound-place .ensures)
+      sound-more (a .t1) (h .loop .k) (c .before .sound-place .ensures)
           (not-false _ (c .if3 .left)) (h .loop .inv .1),
     ))
     (λ c.
     let h = c .before in
     let a = h .before .before .before .before .args in
-    sym (all-sound (a .l) (h .loop .k) (search needs) (h .loop .inv .1)) ∙ by-places (a .l) (now (a .store)) (search needs) (search needs)))
+    sym (all-sound (a .t1) (h .loop .k) (search needs) (h .loop .inv .1)) ∙ by-places (a .t1) (now (a .store)) (search needs) (search needs)))

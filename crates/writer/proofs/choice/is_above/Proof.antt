@@ -11,10 +11,11 @@ is-above-spec =
     (tie.spec
     (λ c.
     let args = c .before .args in
-    above-same (args .l) (args .t) (args .h) (c .if1 .taken))
-    (λ c κs. search needs)
+    above-same (args .t1) (args .t) (args .h) (c .if1 .taken))
+    (λ c. search needs)
+    (λ c. search needs)
     (λ c κs. search needs)
     (λ c.
     let args = c .before .before .before .args in
     let if1 = c .before .before .if1 in
-    above-other (args .l) (args .t) (args .h) (if1 .left) (c .before .place .ensures) (c .has .ensures)))
+    above-other (args .t1) (args .t) (args .h) (if1 .left) (c .has .ensures)))

@@ -1,7 +1,12 @@
 -- `is_own` meets its contract, by the standing.
 -- Assumes nothing.
+use Prim.Native.Nat.{ℕ}
+use mathlib.Core.Path.{ap, _∙_}
+use mathlib.Core.List.{List}
 use borrow.Author.Needs.{needs}
 use denote.Ref.{now}
+use Rattle.format.specs.Decode.{decode}
+use Rattle.report.specs.Board.{authorIn}
 use Rattle.writer.proofs.Choosing.{own-held, own-waiting, own-void}
 use Rattle.writer.proofs.choice.is_own.Statement.{statement}
 use Rattle.writer.proofs.choice.is_own.Tie as tie
@@ -10,20 +15,19 @@ pub is-own-spec : {M : Type 1} → statement M
 is-own-spec =
     tie.close
     (tie.spec
-    (λ c κs. search needs)
+    (λ c. search needs)
+    (λ c. search needs)
     (λ c. search needs)
     (λ c κs. search needs)
+    (λ c κs. search needs)
     (λ c. search needs)
     (λ c. search needs)
     (λ c.
-    let args = c .before .before .before .before .before .args in
-    let place = c .before .before .before .place in
-    own-held (args .l) (now (args .store)) (args .author) (args .k) _ (place .ensures) (c .before .enum-told .given .1) (c .author-at .ensures .0))
+    let args = c .before .before .before .before .before .before .args in
+    own-held (args .t1) (now (args .store)) (args .author) (args .k) (c .before .before .enum-told .given .1) (c .author-of .ensures .0 ∙ ap (λ (b : List ℕ). authorIn (decode b)) (c .before .stored .ensures)))
     (λ c.
     let args = c .before .before .before .before .args in
-    let place = c .before .before .place in
-    own-waiting (args .l) (now (args .store)) (args .author) (args .k) _ (place .ensures) (c .enum-told2 .given .1))
+    own-waiting (args .t1) (now (args .store)) (args .author) (args .k) (c .enum-told2 .given .1))
     (λ c.
     let args = c .before .before .before .before .args in
-    let place = c .before .before .place in
-    own-void (args .l) (now (args .store)) (args .author) (args .k) _ (place .ensures) (c .enum-told3 .given .1)))
+    own-void (args .t1) (now (args .store)) (args .author) (args .k) (c .enum-told3 .given .1)))
