@@ -1,4 +1,10 @@
 // Updates to offer, written part by part.
+use fixtures::bytes::Bytes;
+use fixtures::bytes::ROOM;
+use fixtures::bytes::append;
+use fixtures::bytes::id;
+use fixtures::bytes::joined;
+use fixtures::bytes::none;
 use format::bounds::ADD;
 use format::bounds::DELETE;
 use format::bounds::ID_LENGTH;
@@ -8,72 +14,6 @@ use format::bounds::TAG_LENGTH;
 use format::bounds::VERSION;
 use format::part_of;
 use keys::Order;
-
-// One byte more than the longest update has.
-const LONGEST: usize = 534;
-
-// At most so many bytes: an update, or ids one after another.
-pub struct Bytes {
-    pub array: [u8; LONGEST],
-    pub length: usize,
-}
-
-// No bytes.
-pub fn none() -> Bytes {
-    Bytes {
-        array: [0u8; LONGEST],
-        length: 0,
-    }
-}
-
-impl Bytes {
-    // One byte more, where there is room.
-    pub fn with(mut self, x: u8) -> Bytes {
-        let at = self.length;
-        if at < LONGEST {
-            self.array[at] = x;
-            self.length = at + 1;
-        }
-        self
-    }
-
-    // Another byte at a place.
-    pub fn changed(mut self, at: usize, x: u8) -> Bytes {
-        if at < LONGEST {
-            self.array[at] = x;
-        }
-        self
-    }
-
-    // The first n bytes.
-    pub fn first(mut self, n: usize) -> Bytes {
-        self.length = n;
-        self
-    }
-}
-
-// b, and then the bytes of s.
-fn append(b: Bytes, s: &[u8]) -> Bytes {
-    let mut next = b;
-    let mut i: usize = 0;
-    while i < s.len() {
-        next = next.with(s[i]);
-        i += 1;
-    }
-    next
-}
-
-// a, and then b.
-pub fn joined(a: Bytes, b: Bytes) -> Bytes {
-    let array = b.array;
-    append(a, part_of(&array, 0, b.length))
-}
-
-// The id of an update.
-pub fn id(u: Bytes) -> [u8; 32] {
-    let array = u.array;
-    sha256::digest(part_of(&array, 0, u.length))
-}
 
 // Whether the id at a place of ids comes before x.
 fn precedes(ids: &[u8], at: usize, x: &[u8]) -> bool {
@@ -90,7 +30,7 @@ fn precedes(ids: &[u8], at: usize, x: &[u8]) -> bool {
 // The place of x among ascending ids.
 fn place_of(ids: &[u8], x: &[u8]) -> usize {
     let mut at: usize = 0;
-    while at < LONGEST {
+    while at < ROOM {
         if !precedes(ids, at, x) {
             return at;
         }
@@ -103,7 +43,7 @@ fn place_of(ids: &[u8], x: &[u8]) -> usize {
 fn include(ids: &[u8], x: &[u8]) -> Bytes {
     let at = place_of(ids, x);
     let low = append(none(), part_of(ids, 0, at));
-    append(append(low, x), part_of(ids, at, LONGEST))
+    append(append(low, x), part_of(ids, at, ROOM))
 }
 
 // Ascending ids and an update's id among them.

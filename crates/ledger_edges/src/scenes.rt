@@ -1,21 +1,21 @@
 // Lists of offers.
-use crate::build::Bytes;
 use crate::build::add;
 use crate::build::after;
 use crate::build::and;
 use crate::build::delete;
-use crate::build::id;
 use crate::build::insert;
-use crate::build::joined;
 use crate::build::link;
-use crate::build::none;
 use crate::build::remove;
 use crate::build::root;
 use crate::build::roots;
-use crate::show::Store;
 use crate::show::ask;
-use crate::show::offer;
-use crate::show::text;
+use fixtures::bytes::Bytes;
+use fixtures::bytes::id;
+use fixtures::bytes::joined;
+use fixtures::bytes::none;
+use fixtures::show::Store;
+use fixtures::show::offer;
+use fixtures::show::text;
 use ledger::fresh;
 use state::Ledger;
 

@@ -1,14 +1,14 @@
 // Ledgers and stores that do not fit each other: row 1.
 use crate::FILL;
-use crate::build::Bytes;
 use crate::build::link;
-use crate::build::none;
 use crate::scenes::up;
-use crate::show::Store;
 use crate::show::ask;
 use crate::show::ask_in;
-use crate::show::offer_in;
-use crate::show::text;
+use fixtures::bytes::Bytes;
+use fixtures::bytes::none;
+use fixtures::show::Store;
+use fixtures::show::offer_in;
+use fixtures::show::text;
 use ledger::fresh;
 use state::Ledger;
 use state::PLACES;

@@ -1,2 +1,6 @@
 pub mod Session
 pub mod Examples
+pub mod Answers
+pub mod Feeding
+pub mod FeedLaws
+pub mod InPieces

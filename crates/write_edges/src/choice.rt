@@ -1,16 +1,16 @@
 // The predecessors of written updates.
-use crate::bytes::Bytes;
-use crate::bytes::append;
-use crate::bytes::id;
-use crate::bytes::none;
 use crate::show::BEGINNING;
-use crate::show::Store;
 use crate::show::add;
 use crate::show::delete;
 use crate::show::insert;
-use crate::show::offer;
 use crate::show::remove;
-use crate::show::text;
+use fixtures::bytes::Bytes;
+use fixtures::bytes::append;
+use fixtures::bytes::id;
+use fixtures::bytes::none;
+use fixtures::show::Store;
+use fixtures::show::offer;
+use fixtures::show::text;
 use ledger::fresh;
 use state::Ledger;
 

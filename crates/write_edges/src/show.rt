@@ -1,31 +1,20 @@
-// Calls of the ledger, each with a line for its answer.
+// Calls of the writer, each with a line for its answer.
 use crate::FILL;
-use crate::bytes::Bytes;
-use crate::bytes::ROOM;
-use format::Malformed;
+use fixtures::bytes::Bytes;
+use fixtures::bytes::ROOM;
+use fixtures::show::Store;
+use fixtures::show::number;
+use fixtures::show::refused;
+use fixtures::show::text;
 use format::bounds::TAG_LENGTH;
 use format::part_of;
-use ledger::Answer;
-use ledger::Refusal;
 use ledger::Wrote;
 use libc::STDOUT_FILENO;
 use state::Ledger;
-use state::STORE_LENGTH;
-use state::Standing;
 use writer::Kind;
-
-pub type Store = [u8; STORE_LENGTH];
 
 // An anchor at the list's beginning.
 pub const BEGINNING: [u8; 32] = [0; 32];
-
-pub fn text(s: &[u8]) {
-    io::write_all(STDOUT_FILENO, s);
-}
-
-fn number(n: usize) {
-    io::print_decimal(STDOUT_FILENO, n as u64);
-}
 
 // The SHA-256 of bytes, in hexadecimal digits.
 fn digest(s: &[u8]) {
@@ -35,75 +24,6 @@ fn digest(s: &[u8]) {
         io::print_hex(STDOUT_FILENO, d[i] as u64, 2);
         i += 1;
     }
-}
-
-fn word(s: Standing) {
-    match s {
-        Standing::Held => text(b"held"),
-        Standing::Waiting => text(b"waiting"),
-        Standing::Void => text(b"void"),
-    }
-}
-
-fn row(m: Malformed) -> usize {
-    match m {
-        Malformed::Length => 2,
-        Malformed::Version => 3,
-        Malformed::Author => 4,
-        Malformed::Predecessors => 5,
-        Malformed::Truncated => 6,
-        Malformed::Kind => 7,
-        Malformed::Layout => 8,
-        Malformed::Unordered => 9,
-    }
-}
-
-fn refused(r: Refusal) {
-    text(b"(refused ");
-    match r {
-        Refusal::Unfit => number(1),
-        Refusal::Malformed(m) => number(row(m)),
-        Refusal::Full => number(10),
-        Refusal::Short => number(11),
-        Refusal::Invalid => number(12),
-    }
-}
-
-fn answered(a: Answer) {
-    match a {
-        Answer::Taken {
-            standing,
-            held,
-            void,
-        } => {
-            text(b"(taken ");
-            word(standing);
-            text(b" ");
-            number(held);
-            text(b" ");
-            number(void);
-        }
-        Answer::Known(standing) => {
-            text(b"(known ");
-            word(standing);
-        }
-        Answer::Refused(r) => refused(r),
-    }
-    text(b")\n");
-}
-
-fn offer_in(l: Ledger, store: &mut [u8], u: Bytes) -> Ledger {
-    let array = u.array;
-    let o = ledger::offer(l, store, part_of(&array, 0, u.length));
-    let a = o.answer;
-    answered(a);
-    let next = o.ledger;
-    next
-}
-
-// Offers an update.
-pub fn offer(l: Ledger, store: &mut Store, u: Bytes) -> Ledger {
-    offer_in(l, store, u)
 }
 
 // Writes an update: prints its length and its id, and gives the length, or nothing where it is refused.
@@ -127,6 +47,7 @@ pub fn write_in(
             n
         }
         Wrote::Refused(r) => {
+            text(b"(");
             refused(r);
             0
         }

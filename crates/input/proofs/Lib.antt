@@ -1,0 +1,4 @@
+pub mod Searching
+pub mod Digits
+pub mod Assembling
+pub mod Framing

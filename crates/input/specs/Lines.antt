@@ -1,0 +1,67 @@
+-- Lines as a lent buffer keeps them: how they are assembled from pieces of the input, and read.
+-- Assumes nothing.
+use mathlib.Core.Path.{_≡_}
+use Prim.Native.Nat.{ℕ, _+_, _-_, _*_, _≤_, _<_, min}
+use mathlib.Core.List.{List, [], _∷_, _++_}
+use mathlib.Core.Option.{Option, none, some}
+use mathlib.Core.Bool.{Bool, true, false, cond, _&&_}
+use lib.ListN.{length, take, drop}
+use lib.Dec.{leb, eqb}
+use Rattle.keys.specs.Member.{any}
+use Rattle.input.specs.declared.Assembled.{Assembled}
+use Rattle.input.specs.declared.Line.{Line}
+use Rattle.input.specs.declared.Line.the-variants.{Offered, Unread}
+use Rattle.input.specs.Reading.{unhex, maxLine, readLine}
+
+-- is there a newline?
+unfoldable pub broken : List ℕ → Bool
+broken xs = any (λ (b : ℕ). eqb b 10) xs
+
+-- n is the index of the first newline, or the length where there is none
+pub record FirstNewline (xs : List ℕ) (n : ℕ) : Type 0 where
+  pub within : n ≤ length xs
+  pub none-before : broken (take n xs) ≡ false
+  pub here : n < length xs → drop n xs ≡ 10 ∷ drop (n + 1) xs
+
+-- The line so far, as the line buffer keeps it: how long it is, with maxLine + 1 for every greater length; and its bytes, up to maxLine of them.
+pub record Keeps (buffer : List ℕ) (fill : ℕ) (line : List ℕ) : Type 0 where
+  pub sized : length buffer ≡ maxLine
+  pub counted : fill ≡ min (length line) (maxLine + 1)
+  pub kept : fill ≤ maxLine → take fill buffer ≡ line
+
+-- a line goes on with the text
+pub record Appends (buffer : List ℕ) (fill : ℕ) (text : List ℕ) (r : ℕ) (buffer′ : List ℕ) : Type 0 where
+  pub keeps : (line : List ℕ) → Keeps buffer fill line → Keeps buffer′ r (line ++ text)
+
+-- the newline that ends a line
+abbrev pub ending : Bool → List ℕ
+ending true = 10 ∷ []
+ending false = []
+
+-- a line goes on with the text, up to and with the first newline of the input
+pub record Takes (buffer : List ℕ) (fill : ℕ) (input : List ℕ) (r : Assembled) (buffer′ : List ℕ) : Type 0 where
+  pub text : List ℕ
+  pub whole : broken text ≡ false
+  pub within : r .consumed ≤ length input
+  pub consumes : take (r .consumed) input ≡ text ++ ending (r .ended)
+  pub goes-on : r .ended ≡ false → r .consumed ≡ length input
+  pub some-taken : 0 < length input → 0 < r .consumed
+  pub keeps : (line : List ℕ) → Keeps buffer fill line → Keeps buffer′ (r .fill) (line ++ text)
+
+-- the value of a digit; 16 for any other byte
+abbrev pub digitValue : ℕ → ℕ
+digitValue c = cond (leb 48 c && leb c 57) (c - 48) (cond (leb 97 c && leb c 102) (c - 87) 16)
+
+-- how the line in the buffer reads
+unfoldable pub lineIn : List ℕ → ℕ → Option (List ℕ)
+lineIn buffer fill = cond (leb fill maxLine && leb fill (length buffer)) (readLine (take fill buffer)) none
+
+abbrev pub lineFor : Option (List ℕ) → Line
+lineFor none = Unread
+lineFor (some b) = Offered (length b)
+
+-- the digits from the eighth byte of the buffer on spell n bytes
+pub record Spells (buffer : List ℕ) (n : ℕ) : Type 0 where
+  pub room : 2 * n + 8 ≤ length buffer
+  pub bytes : List ℕ
+  pub digits : unhex (take (2 * n) (drop 7 buffer)) ≡ some bytes

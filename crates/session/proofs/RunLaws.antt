@@ -1,0 +1,150 @@
+-- Feeding, turn after turn: where the machine is once some of the input is consumed and some of the output is written; and what that comes to at the end.
+-- Assumes nothing.
+use mathlib.Core.Path.{_≡_, refl, sym, ap, subst, subst₂, _∙_}
+use Prim.Native.Nat.{ℕ, _+_, _-_, _*_, _≤_, _<_}
+use native.Mathlib.Omega.{arith}
+use mathlib.Core.Bool.{true, false}
+use mathlib.Core.List.{List, _++_}
+use lib.ListN.{length, take, drop}
+use lib.Seq.{take-add, drop-drop}
+use Rattle.state.specs.declared.Ledger.{Ledger}
+use Rattle.report.specs.Text.{Prints}
+use Rattle.ledger.specs.declared.Offered.{Offered}
+use Rattle.ledger.specs.Offer.{Offering}
+use Rattle.ledger.specs.Words.{answerText}
+use Rattle.input.specs.declared.Assembled.{Assembled}
+use Rattle.input.specs.Lines.{Takes}
+use Rattle.session.specs.declared.Begun.{Begun}
+use Rattle.session.specs.declared.Begun.the-variants.{Unread, Offers}
+use Rattle.session.specs.Answers.{Begins}
+use Rattle.session.specs.Feeding.{maxAnswer, Feeds}
+use Rattle.session.specs.FeedLaws.{Moves, moves-none, moves-then}
+use Rattle.session.proofs.AnswerLaws.{unread-past}
+use Rattle.session.proofs.BeginLaws.{begun-unread, begun-offer}
+use Rattle.session.proofs.OutLaws.{Extends, extends-none, partFrom, withPart, part-is, part-length, with-same, prints}
+use Rattle.session.proofs.TurnLaws.{turn-text, turn-unread, turn-offer}
+
+pub record Running (l : Ledger) (s buffer : List ℕ) (fill : ℕ) (input out : List ℕ) (l′ : Ledger) (s′ buffer′ out′ update : List ℕ) (fill′ consumed written : ℕ)
+    : Type 0 where
+  pub within-input : consumed ≤ length input
+  pub within-out : written ≤ length out
+  -- each turn consumes something, and writes one answer at most
+  pub slow : written ≤ maxAnswer * consumed
+  pub store-kept : length s′ ≡ length s
+  pub buffer-kept : length buffer′ ≡ length buffer
+  pub out-kept : length out′ ≡ length out
+  pub update-long : length update ≡ 996
+  pub rest-kept : drop written out′ ≡ drop written out
+  pub moves : Moves l s buffer fill (take consumed input) (take written out′) l′ s′ buffer′ fill′
+
+module _ {l : Ledger} {s buffer input out : List ℕ} {fill : ℕ} where
+  pub run-none : {update : List ℕ} → length update ≡ 996 → Running l s buffer fill input out l s buffer out update fill 0 0
+  run-none h =
+      record {
+        within-input = omega arith;
+        within-out = omega arith;
+        slow = omega arith;
+        store-kept = refl;
+        buffer-kept = refl;
+        out-kept = refl;
+        update-long = h;
+        rest-kept = refl;
+        moves = moves-none;
+      }
+
+  module _ {l₁ : Ledger} {s₁ buffer₁ out₁ update₁ : List ℕ} {fill₁ consumed written : ℕ}
+      (run : Running l s buffer fill input out l₁ s₁ buffer₁ out₁ update₁ fill₁ consumed written) where
+    -- one more turn
+    pub run-turn : {l₂ : Ledger} {s₂ buffer₂ out₂ update₂ t : List ℕ} {fill₂ k w : ℕ}
+        → Moves l₁ s₁ buffer₁ fill₁ (take k (partFrom input consumed)) t l₂ s₂ buffer₂ fill₂
+        → Extends out₁ written t out₂ w
+        → 0 < k → k ≤ length (partFrom input consumed) → length t ≤ maxAnswer
+        → length s₂ ≡ length s₁ → length buffer₂ ≡ length buffer₁ → length update₂ ≡ 996
+        → Running l s buffer fill input out l₂ s₂ buffer₂ out₂ update₂ fill₂ (consumed + k) w
+    run-turn {l₂} {s₂} {buffer₂} {out₂} {update₂} {t} {fill₂} {k} {w} m e some-taken inside short sk bk uk =
+        let xs : take consumed input ++ take k (partFrom input consumed) ≡ take (consumed + k) input =
+        ap (λ (x : List ℕ). take consumed input ++ take k x) (part-is input consumed (run .within-input)) ∙ sym (take-add consumed k input) in
+        let rest : drop w out₁ ≡ drop w out =
+        ap (λ (n : ℕ). drop n out₁) (e .past) ∙ sym (drop-drop (length t) written out₁) ∙ ap (drop (length t)) (run .rest-kept)
+        ∙ drop-drop (length t) written out ∙ ap (λ (n : ℕ). drop n out) (sym (e .past)) in
+        record {
+          within-input = omega (arith, run .within-input, part-length input consumed (run .within-input));
+          within-out = omega (arith, e .within, run .out-kept);
+          slow = omega (arith, run .slow, e .past);
+          store-kept = sk ∙ run .store-kept;
+          buffer-kept = bk ∙ run .buffer-kept;
+          out-kept = e .kept ∙ run .out-kept;
+          update-long = uk;
+          rest-kept = e .rest ∙ rest;
+          moves = subst₂ (λ (x y : List ℕ). Moves l s buffer fill x y l₂ s₂ buffer₂ fill₂) xs (sym (e .text)) (moves-then (run .moves) m);
+        }
+
+    module _ {a : Assembled} {buffer₂ : List ℕ} (t : Takes buffer₁ fill₁ (partFrom input consumed) a buffer₂) (more : consumed < length input)
+        (bk : length buffer₂ ≡ length buffer₁) where
+      left : 0 < length (partFrom input consumed)
+      left = omega (arith, part-length input consumed (run .within-input))
+
+      -- less is left of the input
+      pub run-less : length input - (consumed + a .consumed) < length input - consumed
+      run-less = omega (arith, t .some-taken left)
+
+      -- the line goes on
+      pub run-text : a .ended ≡ false → Running l s buffer fill input out l₁ s₁ buffer₂ out₁ update₁ (a .fill) (consumed + a .consumed) written
+      run-text e =
+          run-turn (turn-text t e) (extends-none out₁ written (omega (arith, run .within-out, run .out-kept))) (t .some-taken left) (t .within) (omega arith)
+          refl bk (run .update-long)
+
+      module _ (e : a .ended ≡ true) (room : maxAnswer ≤ length out₁ - written) {update₂ : List ℕ} (uk : length update₂ ≡ 996) {r : Begun} {o : List ℕ}
+          (b : Begins buffer₂ (a .fill) (partFrom out₁ written) r update₂ o) where
+        -- the line ends, and is not read
+        pub run-unread : (n : ℕ) → r ≡ Unread n
+            → Running l s buffer fill input out l₁ s₁ buffer₂ (withPart out₁ written o) update₂ 0 (consumed + a .consumed) (written + n)
+        run-unread n q =
+            let u = begun-unread n b q in
+            run-turn (turn-unread t e (u .0)) (prints out₁ written (omega arith) (u .1) (omega (arith, unread-past (u .1)))) (t .some-taken left) (t .within)
+            (omega (arith, unread-past (u .1), u .1 .past)) refl bk uk
+
+        -- the line ends, and its bytes are offered
+        pub run-offer : (n : ℕ) → r ≡ Offers n → {f : Offered} {s₂ : List ℕ} → Offering l₁ s₁ (take n update₂) f s₂ → length s₂ ≡ length s₁
+            → {o₂ : List ℕ} {k : ℕ} → Prints (partFrom (withPart out₁ written o) written) 0 (answerText (f .answer)) o₂ k → k ≤ maxAnswer
+            → Running l s buffer fill input out (f .ledger) s₂ buffer₂ (withPart (withPart out₁ written o) written o₂) update₂ 0 (consumed + a .consumed)
+            (written + k)
+        run-offer n q {f} {s₂} x sk {o₂} {k} p short =
+            let u = begun-offer n b q in
+            let inside : written ≤ length out₁ = omega arith in
+            let same : withPart out₁ written o ≡ out₁ = ap (withPart out₁ written) (u .2) ∙ with-same out₁ written inside in
+            let p₁ : Prints (partFrom out₁ written) 0 (answerText (f .answer)) o₂ k =
+            subst (λ (y : List ℕ). Prints (partFrom y written) 0 (answerText (f .answer)) o₂ k) same p in
+            subst
+            (λ (y : List ℕ).
+            Running l s buffer fill input out (f .ledger) s₂ buffer₂ (withPart y written o₂) update₂ 0 (consumed + a .consumed) (written + k))
+            (sym same)
+            (run-turn (turn-offer t e (u .0) x) (prints out₁ written inside p₁ (omega arith)) (t .some-taken left) (t .within) (omega (arith, p₁ .past)) sk bk uk)
+
+    -- all is consumed
+    pub run-ends : length input ≤ consumed
+        → Feeds l s buffer fill input out (record { ledger = l₁; fill = fill₁; consumed = consumed; written = written }) s₁ buffer₁ out₁
+    run-ends h =
+        record {
+          within-input = run .within-input;
+          within-out = run .within-out;
+          goes-on = λ g. omega (arith, run .within-input);
+          some-consumed = λ g j. omega arith;
+          rest-kept = run .rest-kept;
+          follows = run .moves .follows;
+          puts-out = run .moves .puts-out;
+        }
+
+    -- there is no room for another answer
+    pub run-full : length out < written + maxAnswer
+        → Feeds l s buffer fill input out (record { ledger = l₁; fill = fill₁; consumed = consumed; written = written }) s₁ buffer₁ out₁
+    run-full h =
+        record {
+          within-input = run .within-input;
+          within-out = run .within-out;
+          goes-on = λ g. absurd (omega arith);
+          some-consumed = λ g j. omega (arith, run .slow);
+          rest-kept = run .rest-kept;
+          follows = run .moves .follows;
+          puts-out = run .moves .puts-out;
+        }
