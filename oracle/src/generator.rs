@@ -84,15 +84,17 @@ impl Rng {
     }
 }
 
+/// An operation to be written: tag; tag and named ids; anchor and value; named id.
 #[derive(Clone)]
-enum Op {
+pub enum Op {
     Add(Tag),
     Remove(Tag, Vec<Id>),
     Insert(Id, Tag),
     Delete(Id),
 }
 
-fn encode(author: u8, predecessors: &[Id], op: &Op) -> Vec<u8> {
+/// The bytes of an update.
+pub fn encode(author: u8, predecessors: &[Id], op: &Op) -> Vec<u8> {
     let mut bytes = vec![1, author, predecessors.len() as u8];
     bytes.extend(predecessors.concat());
     match op {
@@ -677,7 +679,8 @@ fn malformed(rng: &mut Rng, base: &[u8], refusal: usize) -> Vec<u8> {
     bytes
 }
 
-fn offer(bytes: &[u8]) -> Vec<u8> {
+/// The line that offers these bytes, without newline.
+pub fn offer(bytes: &[u8]) -> Vec<u8> {
     format!("(offer {})", hex(bytes)).into_bytes()
 }
 

@@ -18,4 +18,4 @@ cargo build --release --offline --quiet \
     --manifest-path "$tests/../../oracle/Cargo.toml" --target-dir "$tests/../../oracle/target"
 program=$1
 shift
-exec "$tests/../../oracle/target/release/compare" "$program" "$tests/sessions" "$@"
+exec "$tests/../../oracle/target/release/compare" "$program" "$tests/../sessions" "$@"

@@ -1,8 +1,8 @@
 #!/usr/bin/env python3
-"""sessions.py FOLDER [check]
-Writes the stored sessions' NAME.in and the outputs worked out by hand for them, in the words of
-the paper: nothing here computes a standing, a head, a mark, the set or the list. With "check" it
-compares NAME.out in FOLDER with the outputs worked out by hand instead of writing."""
+"""derive.py FOLDER [check]
+Writes to FOLDER (../sessions) the stored sessions' NAME.in, and to NAME.out the outputs worked out by
+hand for them, in the words of the paper: nothing here computes a standing, a head, a mark, the set
+or the list. With "check" it compares the files in FOLDER with these instead of writing them."""
 import hashlib
 import os
 import sys
@@ -341,6 +341,35 @@ session("garbage",
         + [("(offer 00)", "refused 2"), (a, H1), (a, "known held"), ("(offer )", "refused 2")],
         held=[a], heads=[a], set=[T1])
 
+# Every byte but the newline: as a line, and in either place of a pair of digits. One byte is too short an
+# update, so the 16 digits give 2. Then runs of the bytes 0 and 255, the last one without newline.
+others = [chr(v) for v in range(256) if v != 10]
+as_digit = lambda v: "refused 2" if v in "0123456789abcdef" else "unread"
+session("every-byte",
+        [(v, "unread") for v in others]
+        + [("(offer " + v + "0)", as_digit(v)) for v in others]
+        + [("(offer 0" + v + ")", as_digit(v)) for v in others]
+        + [("\0" * 2000, "unread"), ("\0" * 2001, "unread"), ("\xff" * 2000, "unread"), ("\xff" * 2001, "unread"),
+           ("\0", "unread"), ("\xff", "unread"), ("\0" + text, "unread"), (text + "\xff", "unread"), ("\0", "unread")],
+        end=b"")
+
+# Last lines without newline: one of 2,000 characters; one that stops before its bracket.
+session("last-line-longest", [(a, H1), (offer(1992), "refused 2")], end=b"", held=[a], heads=[a], set=[T1])
+session("last-line-cut", [(a, H1), (line(add(1, [a], T2)).decode()[:-1], "unread")], end=b"",
+        held=[a], heads=[a], set=[T1])
+
+# An offer across byte 65,536 of the input, and one that begins at byte 131,072.
+b = add(1, [a], T2)
+blocks = [("x" * 65500, "unread"), (a, H1)]
+blocks.append(("x" * (131071 - sum(len(line(x)) + 1 for x, _ in blocks)), "unread"))
+assert [sum(len(line(x)) + 1 for x, _ in blocks[:n]) for n in (1, 2, 3)] == [65501, 65550, 131072]
+session("blocks", blocks + [(b, H1)], held=[a, b], heads=[b], set=[T1, T2])
+
+
+def read(path):
+    """A file's bytes; None if it is not there."""
+    return open(path, "rb").read() if os.path.exists(path) else None
+
 
 def main():
     folder = sys.argv[1]
@@ -348,12 +377,12 @@ def main():
     for name, (data, out) in SESSIONS.items():
         base = os.path.join(folder, name)
         if sys.argv[2:] == ["check"]:
-            same = open(base + ".in", "rb").read() == data and open(base + ".out", "rb").read() == out
-            if not same:
+            if read(base + ".in") != data or read(base + ".out") != out:
                 wrong += 1
                 print("DIFFERENT", name)
         else:
             open(base + ".in", "wb").write(data)
+            open(base + ".out", "wb").write(out)
     print(len(SESSIONS), "sessions,", wrong, "different")
     sys.exit(wrong > 0)
 

@@ -1,13 +1,19 @@
 #!/usr/bin/env bash
-# The second program: its unit tests, and the stored sessions, whose outputs were worked out by hand, against it. The last line is 'N passed, M failed'.
+# The command against the second program, and that against the stored sessions, whose outputs were worked out by hand. The last line is 'N passed, M failed'.
+# The command must have been built: rt check silkcliff.
 set -euo pipefail
 cd "$(dirname "${BASH_SOURCE[0]}")"
 PATH=$PATH:${HOME:-/root}/.cargo/bin
+
+oracle=../../oracle/target/release/oracle
+command=../../target/bin/silkcliff
+crate=../../crates/silkcliff
 
 passed=0 failed=0
 check() {
     local name=$1
     shift
+    echo "$name"
     if "$@"; then
         echo "$name: ok"
         passed=$((passed + 1))
@@ -17,8 +23,21 @@ check() {
     fi
 }
 
-cargo build --release --offline --quiet --manifest-path ../../oracle/Cargo.toml --target-dir ../../oracle/target
-check "unit tests of the second program" cargo test --release --offline --quiet --manifest-path ../../oracle/Cargo.toml --target-dir ../../oracle/target
-check "stored and random sessions" ./compare.sh ../../oracle/target/release/oracle
+cargo_oracle() { cargo "$1" --release --offline --quiet --manifest-path ../../oracle/Cargo.toml --target-dir ../../oracle/target; }
+
+# What crates/silkcliff has in its files stdin and stdout is the long session and the second program's output.
+long_session() { ./long.sh | cmp - "$crate/stdin" && "$oracle" <"$crate/stdin" | cmp - "$crate/stdout"; }
+
+# compare_command: the whole output of the command against the second program's.
+compare_command() {
+    [ -x "$command" ] || { echo "there is no target/bin/silkcliff: run rt check silkcliff first"; return 1; }
+    ./compare.sh "$command" limit
+}
+
+check "the second program is built" cargo_oracle build
+check "unit tests of the second program" cargo_oracle test
+check "the second program on the stored and random sessions" ./compare.sh "$oracle"
+check "the second program on the command's long session" long_session
+check "the command on the stored and random sessions, and past the limit of its input" compare_command
 echo "$passed passed, $failed failed"
 [ "$failed" -eq 0 ] && [ "$passed" -gt 0 ]

@@ -1,11 +1,12 @@
 //! `compare PROGRAM SESSIONS [limit]`: runs PROGRAM on the stored sessions in the folder SESSIONS
 //! and on random ones, and compares its whole output with the oracle's. `limit` adds four inputs
-//! that pass 4,294,967,296 bytes. Any difference, a crash, a missing program or too few cases
-//! make the exit status non-zero.
+//! that pass 4,294,967,296 bytes. Any difference, a crash, a missing program or another number of
+//! cases than stated make the exit status non-zero.
 
 use oracle::command;
 use oracle::generator::{session, KINDS};
-use std::collections::BTreeMap;
+use oracle::sha256::sha256;
+use std::collections::{BTreeMap, BTreeSet};
 use std::io::{Read, Write};
 use std::path::{Path, PathBuf};
 use std::process::{exit, Command, Stdio};
@@ -13,9 +14,13 @@ use std::sync::mpsc;
 use std::time::{Duration, Instant};
 
 /// Stored sessions that must be there.
-const STORED: usize = 38;
+const STORED: usize = 43;
 /// Random sets for each kind; each is offered in two orders, so gives two sessions.
 const SETS_PER_KIND: u64 = 140;
+/// Inputs that pass the limit.
+const LIMITS: usize = 4;
+/// Of the random sessions at least so many are distinct. (The two of a very small set may be the same.)
+const DISTINCT: usize = 4_000;
 /// Time for one run of PROGRAM; runs past the input limit get LIMIT_TIMEOUT.
 const TIMEOUT: Duration = Duration::from_secs(20);
 const LIMIT_TIMEOUT: Duration = Duration::from_secs(600);
@@ -129,6 +134,8 @@ fn difference(expected: &[u8], found: &[u8]) -> String {
 }
 
 struct Tally {
+    /// Outputs of PROGRAM that were compared.
+    compared: usize,
     failures: usize,
     endless: usize,
     seen: BTreeMap<&'static str, usize>,
@@ -155,6 +162,7 @@ impl Tally {
                 None
             }
             Ok(found) => {
+                self.compared += 1;
                 if found != expected {
                     self.fail(name, &difference(expected, &found));
                 }
@@ -226,7 +234,7 @@ fn stored(tally: &mut Tally, program: &Path, folder: &Path) -> usize {
 
 /// Inputs that pass the limit: what PROGRAM must answer before an empty report. The number run.
 fn limits(tally: &mut Tally, program: &Path) -> usize {
-    let cases: [(&str, &str, &str); 4] = [
+    let cases: [(&str, &str, &str); LIMITS] = [
         // The end of the input that still counts, what follows it, the answers.
         ("(offer ", ")\n(offer )\n", "(unread)\n(unread)\n"),
         ("(offer )", "0)\n(offer )\n", "(unread)\n(refused 2)\n"),
@@ -251,6 +259,7 @@ fn limits(tally: &mut Tally, program: &Path) -> usize {
         });
         let expected = [answers.as_bytes(), &empty].concat();
         let name = format!("limit {}", i + 1);
+        tally.compared += result.is_ok() as usize;
         match result {
             Ok(found) if found == expected => {}
             Ok(found) => tally.fail(&name, &difference(&expected, &found)),
@@ -275,18 +284,19 @@ fn main() {
         }
     };
     let start = Instant::now();
-    let mut tally = Tally { failures: 0, endless: 0, seen: BTreeMap::new() };
-    let mut short = false;
-    // One line for a group; true if too few were run.
+    let mut tally = Tally { compared: 0, failures: 0, endless: 0, seen: BTreeMap::new() };
+    let mut wrong = false;
+    // One line for a group; true if another number than stated were run.
     let line = |tally: &Tally, before: usize, name: &str, count: usize, stated: usize| {
         println!("{name}: {count} of {stated} run, {} different", tally.failures - before);
-        count < stated
+        count != stated
     };
 
     let count = stored(&mut tally, &program, Path::new(&args[1]));
-    short |= line(&tally, 0, "stored sessions", count, STORED);
+    wrong |= line(&tally, 0, "stored sessions", count, STORED);
 
     let mut same_report = 0;
+    let mut sessions = BTreeSet::new();
     for kind in KINDS {
         let before = tally.failures;
         let mut count = 0;
@@ -295,6 +305,7 @@ fn main() {
             for shuffled in [false, true] {
                 let name = format!("gen {seed} {kind}{}", if shuffled { " shuffled" } else { "" });
                 let input = session(seed, kind, shuffled);
+                sessions.insert(sha256(&input));
                 let expected = oracle(&input);
                 tally.cover(&expected);
                 let found = tally.check(&program, &name, input, &expected);
@@ -307,25 +318,30 @@ fn main() {
                 tally.fail(&format!("gen {seed} {kind}"), "two orders, two reports");
             }
         }
-        short |= line(&tally, before, &format!("random sessions, {kind}"), count, 2 * SETS_PER_KIND as usize);
+        wrong |= line(&tally, before, &format!("random sessions, {kind}"), count, 2 * SETS_PER_KIND as usize);
     }
     let sets = KINDS.len() * SETS_PER_KIND as usize;
     println!("two orders, one report: {same_report} of {sets} sets");
-    short |= same_report < sets;
+    wrong |= same_report != sets;
+    println!("distinct random sessions: {} of {}, at least {DISTINCT}", sessions.len(), 2 * sets);
+    wrong |= sessions.len() < DISTINCT;
 
     let covered = COVERED.iter().filter(|what| tally.seen.get(**what).is_some_and(|&n| n >= 20)).count();
     println!("answers and report parts shown by the random sessions: {covered} of {}", COVERED.len());
-    short |= covered < COVERED.len();
+    wrong |= covered != COVERED.len();
 
     if with_limit {
         let before = tally.failures;
         let count = limits(&mut tally, &program);
-        short |= line(&tally, before, "inputs past the limit", count, 4);
+        wrong |= line(&tally, before, "inputs past the limit", count, LIMITS);
     }
+    let stated = STORED + 2 * sets + if with_limit { LIMITS } else { 0 };
     let seconds = start.elapsed().as_secs_f64();
-    if tally.failures > 0 || short {
-        println!("FAILED: {} differences, {seconds:.1} s", tally.failures);
+    println!("compared: {} of {stated} sessions, in {seconds:.1} s", tally.compared);
+    wrong |= tally.compared != stated;
+    if tally.failures > 0 || wrong {
+        println!("FAILED: {} differences", tally.failures);
         exit(1);
     }
-    println!("PASSED: no difference, {seconds:.1} s");
+    println!("PASSED: no difference");
 }
