@@ -1,14 +1,9 @@
 // An offer of a well-formed update.
 ghost use mathlib.Core.Path.{_≡_};
-ghost use mathlib.Core.Bool.{true};
 ghost use mathlib.Core.Option.{none};
-ghost use Prim.Native.Nat.{_≤_, _<_};
-ghost use lib.ListN.{length};
+ghost use Prim.Native.Nat.{_<_};
 ghost use Rattle.sha256.specs.Fips180.{SHA-256};
-ghost use Rattle.format.specs.Update.{Update};
-ghost use Rattle.format.specs.Decode.{decode, update as decodesTo};
 ghost use Rattle.state.specs.State.{findIn};
-ghost use Rattle.state.specs.Row1.{sound as soundLedger};
 ghost use Rattle.ledger.specs.Offer.{Offering, left as leftAs, Formed};
 use crate::Answer;
 use crate::Ledger;

@@ -2,3 +2,4 @@ pub mod Steps
 pub mod Schedule
 pub mod Bytes
 pub mod Padding
+pub mod Words

@@ -1,6 +1,6 @@
 -- The padded message: its whole blocks are the message's, and its end is one or two blocks.
 -- Assumes nothing.
-use mathlib.Core.Path.{_≡_, refl, subst, sym, _∙_}
+use mathlib.Core.Path.{_≡_, refl, ap₂, subst, sym, _∙_}
 use mathlib.Core.Logic.{_≢_}
 use mathlib.Core.List.{List, _∷_, _++_, append-assoc}
 use Prim.Native.Nat.{ℕ, zero, suc, _+_, _-_, _*_, _/_, _%_, _^_, _≤_, _<_}
@@ -9,7 +9,7 @@ use native.Mathlib.Numerals.{add-one, one-add}
 use native.Mathlib.Omega.{arith}
 use lib.ListN.{length, take, drop, set, replicate, length-append, length-drop, length-replicate, replicate-append-replicate}
 use lib.Seq.{take-all, take-take, take-append-le, drop-append-le, drop-drop, set-at, take-at, drop-at}
-use Rattle.sha256.specs.Fips180.{bigEndian, zeroBytes, pad, block, compress, hash}
+use Rattle.sha256.specs.Fips180.{bigEndian, zeroBytes, pad, block, Working, compress, hash}
 use Rattle.sha256.specs.Code.{lastSize, tail}
 use Rattle.sha256.specs.Lengths.{length-bigEndian}
 use Rattle.sha256.proofs.Bytes.{splice, take-splice}
@@ -22,7 +22,7 @@ pub two-blocks : (n : ℕ) → 56 ≤ n % 64 → lastSize n ≡ 128
 unfolding lastSize zeroBytes
 two-blocks n h = omega arith
 
-pub else-two-blocks : (n : ℕ) → lastSize n ≢ 64 → lastSize n ≡ 128
+else-two-blocks : (n : ℕ) → lastSize n ≢ 64 → lastSize n ≡ 128
 unfolding lastSize zeroBytes
 else-two-blocks n h = omega arith
 
@@ -124,21 +124,36 @@ last-filled m d b e size small ed eb =
     let i : length m % 2 ^ 61 * 8 ≡ 8 * length m % 2 ^ 64 = omega arith in
     rw (← size, eb, ed, after-rest m, length-rest m, i) (filled m 128 e size small)
 
--- hash values of the message's own blocks
-pub hash-front : (n : ℕ) (m x : List ℕ) → 64 * n ≤ length m → hash n (m ++ x) ≡ hash n m
-unfolding hash block
-hash-front zero m x h = refl
-hash-front (suc n) m x h =
+-- the message's own blocks, and the hash values of them
+block-front : (n : ℕ) (m x : List ℕ) → 64 * suc n ≤ length m → block n (m ++ x) ≡ block n m
+unfolding block
+block-front n m x h =
     let l : 64 ≤ length (drop (64 * n) m) = simp length-drop (omega arith) in
-    rw (
-      hash-front n m x (omega arith),
-      drop-append-le (64 * n) m x (omega arith),
-      take-append-le 64 (drop (64 * n) m) x l,
-    )
+    rw (drop-append-le (64 * n) m x (omega arith), take-append-le 64 (drop (64 * n) m) x l)
+
+less : (n k : ℕ) → 64 * suc n ≤ k → 64 * n ≤ k
+less n k h = omega arith
+
+hash-front : (n : ℕ) (m x : List ℕ) → 64 * n ≤ length m → hash n (m ++ x) ≡ hash n m
+unfolding hash
+hash-front zero m x h = refl
+hash-front (suc n) m x h = ap₂ compress (hash-front n m x (less n (length m) h)) (block-front n m x h)
 
 pub hash-one : (n : ℕ) (m : List ℕ) → hash (n + 1) m ≡ compress (hash n m) (block n m)
 unfolding hash
 hash-one n m = rw add-one
+
+-- one more block, as the code takes it
+pub hash-next
+    : (n : ℕ) (m : List ℕ) {h x : Working}
+    → h ≡ hash n m
+    → x ≡ compress h (take (64 * n + 64 - 64 * n) (drop (64 * n) m))
+    → x ≡ hash (n + 1) m
+unfolding block
+hash-next n m i j = let e : 64 * n + 64 - 64 * n ≡ 64 = omega arith in rw (j, i, e, hash-one n m)
+
+pub whole : (n : ℕ) → 64 * (n / 64) ≤ n
+whole n = omega arith
 
 module _ (m : List ℕ) where
   pad-length : length (pad m) ≡ 64 * (length m / 64) + lastSize (length m)
@@ -166,20 +181,27 @@ module _ (m : List ℕ) where
         ← drop-drop 64 (64 * (length m / 64)) (pad m),
       )
 
--- the last hash value, where b begins with the last blocks
-module _ (m b : List ℕ) (size : length b ≡ 128) (e : take (lastSize (length m)) b ≡ tail m) where
-  pub last-one
-      : lastSize (length m) ≡ 64 → hash (length (pad m) / 64) (pad m) ≡ compress (hash (length m / 64) m) (take 64 b)
-  last-one h =
-      let n : length (pad m) / 64 ≡ length m / 64 + 1 = omega (arith, pad-length m) in
-      let t : tail m ≡ take 64 b = sym e ∙ rw h in
-      rw (n, pad-first m, t, take-take 64 64 b (omega arith))
+-- the last hash value, where b begins with the last blocks: x after one more block than h, y after two
+module _
+    (m b : List ℕ) (h x : Working)
+    (size : length b ≡ 128)
+    (e : take (lastSize (length m)) b ≡ tail m)
+    (i : h ≡ hash (length m / 64) m)
+    (j : x ≡ compress h (take 64 b))
+  where
+    pub last-one : lastSize (length m) ≡ 64 → x ≡ hash (length (pad m) / 64) (pad m)
+    last-one l =
+        let n : length (pad m) / 64 ≡ length m / 64 + 1 = omega (arith, pad-length m) in
+        let t : tail m ≡ take 64 b = sym e ∙ rw l in
+        rw (n, pad-first m, t, take-take 64 64 b (omega arith), j, i)
 
-  pub last-two
-      : lastSize (length m) ≡ 128
-      → hash (length (pad m) / 64) (pad m)
-      ≡ compress (compress (hash (length m / 64) m) (take 64 b)) (take 64 (drop 64 b))
-  last-two h =
-      let n : length (pad m) / 64 ≡ length m / 64 + 1 + 1 = omega (arith, pad-length m) in
-      let t : tail m ≡ b = sym e ∙ rw h (take-all 128 b (omega arith)) in
-      rw (n, pad-second m, t)
+    pub last-two
+        : {y : Working}
+        → y ≡ compress x (take 64 (drop 64 b))
+        → lastSize (length m) ≢ 64
+        → y ≡ hash (length (pad m) / 64) (pad m)
+    last-two {y} k d =
+        let l : lastSize (length m) ≡ 128 = else-two-blocks (length m) d in
+        let n : length (pad m) / 64 ≡ length m / 64 + 1 + 1 = omega (arith, pad-length m) in
+        let t : tail m ≡ b = sym e ∙ rw l (take-all 128 b (omega arith)) in
+        rw (n, pad-second m, t, k, j, i)

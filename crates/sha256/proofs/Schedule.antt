@@ -20,6 +20,18 @@ loaded w s t h e = rw (add-one, take-suc-set w t (wordAt s (4 * t)), e)
 unfoldable pub wordFrom : List ℕ → ℕ → ℕ
 wordFrom w n = σ₁ (getD w (n + 14) 0) ⊞ getD w (n + 9) 0 ⊞ σ₀ (getD w (n + 1) 0) ⊞ getD w n 0
 
+-- the same, as the code makes it
+pub wordFrom-made
+    : (w : List ℕ) (n : ℕ) {u v x y r : ℕ}
+    → u ≡ σ₁ (getD w (n + 14) 0)
+    → x ≡ u ⊞ getD w (n + 9) 0
+    → v ≡ σ₀ (getD w (n + 1) 0)
+    → y ≡ x ⊞ v
+    → r ≡ y ⊞ getD w n 0
+    → r ≡ wordFrom w n
+unfolding wordFrom
+wordFrom-made w n i j k l m = rw (m, l, k, j, i)
+
 at : (w : List ℕ) (n i j : ℕ) → i ≡ j → j < 16 + n → getD (take (16 + n) w) i 0 ≡ getD w j 0
 at w n i j e h = rw e (getD-take (16 + n) w j 0 h)
 

@@ -1,12 +1,12 @@
 -- `sha256::blocks` meets its contract: `i` blocks are hashed.
 -- Assumes nothing.
-use Prim.Native.Nat.{_+_, _-_, _*_, _≤_}
+use Prim.Native.Nat.{_-_, _≤_}
 use mathlib.Core.Path.{_≡_}
 use borrow.Author.Needs.{needs}
 use native.Mathlib.Omega.{arith}
-use Rattle.sha256.specs.Fips180.{H⁰, block, hash}
+use Rattle.sha256.specs.Fips180.{H⁰, hash}
 use Rattle.sha256.specs.Code.{working}
-use Rattle.sha256.proofs.Padding.{hash-one}
+use Rattle.sha256.proofs.Padding.{hash-next}
 use Rattle.sha256.proofs.blocks.Statement.{statement}
 use Rattle.sha256.proofs.blocks.Tie as tie
 
@@ -21,11 +21,9 @@ unfolding hash H⁰
 loop-holds c = search needs
 
 loop-again : tie.Need-loop-again Inv-loop μ-loop
-unfolding block
 loop-again c =
     let a : tie.At-loop Inv-loop μ-loop = c .before .before .before in
-    let e : 64 * a .loop .i + 64 - 64 * a .loop .i ≡ 64 = omega arith in
-    (search needs, cc (rw e at (c .compress .ensures), hash-one (a .loop .i) (a .before .before .args .s .now), a .loop .inv .1))
+    (search needs, hash-next (a .loop .i) (a .before .before .args .s .now) (a .loop .inv .1) (c .compress .ensures))
 
 returns : tie.Need-returns Inv-loop μ-loop
 returns c =

@@ -1,15 +1,20 @@
 -- `sha256::compress` meets its contract: the definition, at what the calls ensure.
 -- Assumes nothing.
 use borrow.Author.Needs.{needs}
-use Rattle.sha256.specs.Fips180.{compress}
+use Rattle.sha256.specs.Code.{working}
 use Rattle.sha256.proofs.Schedule.{complete}
+use Rattle.sha256.proofs.Words.{compressed}
 use Rattle.sha256.proofs.compress.Statement.{statement}
 use Rattle.sha256.proofs.compress.Tie as tie
 
 returns : tie.Need-returns
-unfolding compress
 returns c =
-    cc (complete (c .before .before .before .extend .ensures _ (c .before .before .before .before .before .load .ensures)))
+    let x : tie.After-extend = c .before .before .before in
+    let l : tie.After-load = x .before .before in
+    let a : tie.Start = l .before .before .before in
+    compressed (working (a .args .h)) (a .args .s .now) (complete (x .extend .ensures _ (l .load .ensures)))
+    (c .before .all-steps .ensures)
+    (c .added .ensures)
 
 pub compress-spec : {M : Type 1} → statement M
 compress-spec =

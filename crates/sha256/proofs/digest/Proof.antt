@@ -1,15 +1,15 @@
 -- `sha256::digest` meets its contract: the definition, at what the calls ensure.
 -- Assumes nothing.
-use mathlib.Core.Path.{refl}
+use mathlib.Core.Path.{refl, ap, _∙_}
 use borrow.Author.Needs.{needs}
-use native.Mathlib.Omega.{arith}
-use Rattle.sha256.specs.Fips180.{SHA-256, K}
+use Rattle.sha256.specs.Fips180.{SHA-256, K, bytesOf}
+use Rattle.sha256.proofs.Padding.{whole}
 use Rattle.sha256.proofs.digest.Statement.{statement}
 use Rattle.sha256.proofs.digest.Tie as tie
 
 blocks-requires : tie.Need-blocks-requires
 unfolding K
-blocks-requires c κs = (omega arith, refl)
+blocks-requires c κs = (whole _, refl)
 
 finish-requires : tie.Need-finish-requires
 unfolding K
@@ -17,7 +17,7 @@ finish-requires c κs = (c .before .blocks2 .ensures, refl)
 
 returns : tie.Need-returns
 unfolding SHA-256
-returns c = cc
+returns c = c .bytes-of .ensures ∙ ap bytesOf (c .before .finish .ensures)
 
 pub digest-spec : {M : Type 1} → statement M
 digest-spec =

@@ -1,7 +1,7 @@
 -- `sha256::eight_steps` meets its contract: each call makes one more step of the definition.
 -- Assumes nothing.
 use borrow.Author.Needs.{needs}
-use Rattle.sha256.proofs.Steps.{onward}
+use Rattle.sha256.proofs.Steps.{onward, index, index-fits}
 use Rattle.sha256.proofs.eight_steps.Statement.{statement}
 use Rattle.sha256.proofs.eight_steps.Tie as tie
 
@@ -21,18 +21,18 @@ eight-steps-spec =
     tie.close
     (tie.spec
     (λ c κs. search needs)
-    (λ c. search needs)
-    (λ c κs. search needs)
-    (λ c. search needs)
-    (λ c κs. search needs)
-    (λ c. search needs)
-    (λ c κs. search needs)
-    (λ c. search needs)
-    (λ c κs. search needs)
-    (λ c. search needs)
-    (λ c κs. search needs)
-    (λ c. search needs)
-    (λ c κs. search needs)
-    (λ c. search needs)
-    (λ c κs. search needs)
+    (λ c. index-fits _ 1 6 (c .before .pre .0))
+    (λ c κs. (index _ 1 6 (c .before .pre .0), c .before .pre .1))
+    (λ c. index-fits _ 2 5 (c .before .before .pre .0))
+    (λ c κs. (index _ 2 5 (c .before .before .pre .0), c .before .before .pre .1))
+    (λ c. index-fits _ 3 4 (c .before .before .before .pre .0))
+    (λ c κs. (index _ 3 4 (c .before .before .before .pre .0), c .before .before .before .pre .1))
+    (λ c. index-fits _ 4 3 (c .before .before .before .before .pre .0))
+    (λ c κs. (index _ 4 3 (c .before .before .before .before .pre .0), c .before .before .before .before .pre .1))
+    (λ c. index-fits _ 5 2 (c .before .before .before .before .before .pre .0))
+    (λ c κs. (index _ 5 2 (c .before .before .before .before .before .pre .0), c .before .before .before .before .before .pre .1))
+    (λ c. index-fits _ 6 1 (c .before .before .before .before .before .before .pre .0))
+    (λ c κs. (index _ 6 1 (c .before .before .before .before .before .before .pre .0), c .before .before .before .before .before .before .pre .1))
+    (λ c. index-fits _ 7 0 (c .before .before .before .before .before .before .before .pre .0))
+    (λ c κs. (index _ 7 0 (c .before .before .before .before .before .before .before .pre .0), c .before .before .before .before .before .before .before .pre .1))
     returns)

@@ -2,7 +2,8 @@
 -- Assumes nothing.
 use mathlib.Core.Path.{sym, _∙_}
 use borrow.Author.Needs.{needs}
-use Rattle.sha256.proofs.Padding.{else-two-blocks, last-one, last-two}
+use Rattle.sha256.specs.Code.{working}
+use Rattle.sha256.proofs.Padding.{last-one, last-two}
 use Rattle.sha256.proofs.finish.Statement.{statement}
 use Rattle.sha256.proofs.finish.Tie as tie
 
@@ -12,12 +13,16 @@ returns c =
     let k : tie.After-compress = l .before in
     let b : tie.After-last-blocks = k .before .before .before in
     let a : tie.Start = b .before .before in
-    cc (
-      last-one (a .args .s .now) (b .last-blocks .result) (b .last-blocks .ensures .0) (b .last-blocks .ensures .1)
-          (sym (l .last-size .ensures .0) ∙ c .if1 .taken),
-      k .compress .ensures,
-      a .pre .0,
-    )
+    last-one
+    (a .args .s .now)
+    (b .last-blocks .result)
+    (working (a .args .h))
+    (working (k .compress .result))
+    (b .last-blocks .ensures .0)
+    (b .last-blocks .ensures .1)
+    (a .pre .0)
+    (k .compress .ensures)
+    (sym (l .last-size .ensures .0) ∙ c .if1 .taken)
 
 returns-2 : tie.Need-returns-2
 returns-2 c =
@@ -26,13 +31,17 @@ returns-2 c =
     let k : tie.After-compress = l .before in
     let b : tie.After-last-blocks = k .before .before .before in
     let a : tie.Start = b .before .before in
-    cc (
-      last-two (a .args .s .now) (b .last-blocks .result) (b .last-blocks .ensures .0) (b .last-blocks .ensures .1)
-          (else-two-blocks _ (λ e. t .if1 .left (l .last-size .ensures .0 ∙ e))),
-      c .compress2 .ensures,
-      k .compress .ensures,
-      a .pre .0,
-    )
+    last-two
+    (a .args .s .now)
+    (b .last-blocks .result)
+    (working (a .args .h))
+    (working (k .compress .result))
+    (b .last-blocks .ensures .0)
+    (b .last-blocks .ensures .1)
+    (a .pre .0)
+    (k .compress .ensures)
+    (c .compress2 .ensures)
+    (λ e. t .if1 .left (l .last-size .ensures .0 ∙ e))
 
 pub finish-spec : {M : Type 1} → statement M
 finish-spec =
