@@ -5,7 +5,7 @@ use mathlib.Core.Path.{_≡_, sym, ap, ap₂, subst, _∙_}
 use mathlib.Core.List.{List, [], _++_, append-assoc}
 use native.Mathlib.Omega.{arith}
 use lib.ListN.{length, take, drop, length-append, length-drop, take-append-drop}
-use lib.Seq.{length-take-le, take-length, take-at, drop-at, drop-drop, paste}
+use lib.Seq.{length-take-le, take-at, drop-at, drop-drop}
 use Rattle.state.specs.State.{written}
 use Rattle.report.specs.Text.{Prints}
 
@@ -53,11 +53,3 @@ nothing p at =
 -- a text by another name
 pub same-text : {p t t′ p₁ : List ℕ} {at n : ℕ} → t ≡ t′ → Prints p at t p₁ n → Prints p at t′ p₁ n
 same-text {p} {t} {t′} {p₁} {at} {n} e a = subst (λ (x : List ℕ). Prints p at x p₁ n) e a
-
--- a text that is copied whole is written
-pub pasted : (p : List ℕ) (at : ℕ) (t : List ℕ) (n : ℕ) → n ≤ length t → length t ≤ n → paste p at t n ≡ written p at t
-pasted p at t n h g =
-    let e : n ≡ length t = omega arith in
-    ap (paste p at t) e
-    ∙ ap (λ (x : List ℕ). (take at p ++ x) ++ drop (at + length t) p) (take-length t)
-    ∙ append-assoc (take at p) t (drop (at + length t) p)

@@ -4,10 +4,9 @@ use mathlib.Core.Path.{_≡_, refl, sym, _∙_}
 use mathlib.Core.List.{List, [], _∷_, _++_, append-assoc}
 use Prim.Native.Nat.{ℕ, zero, suc, _+_, _-_, _/_, _%_, _≤_, _<_}
 use native.Mathlib.Nat.{add-zero, add-suc}
-use native.Mathlib.Numerals.{add-one}
 use native.Mathlib.Omega.{arith}
-use lib.ListN.{length, getD, take, drop, set, replicate, take-append-drop, length-append, length-set}
-use lib.Seq.{take-suc, take-all, drop-cons, take-set-le, drop-set-lt, set-at, take-at, length-take-le, getD-set-same}
+use lib.ListN.{length, take, drop, set, replicate, take-append-drop, length-append, length-set}
+use lib.Seq.{take-all, drop-cons, take-set-le, drop-set-lt, take-at, length-take-le, getD-set-same}
 use Rattle.sha256.specs.Fips180.{bigEndian, bytesOf, Working}
 use Rattle.sha256.specs.Lengths.{length-bigEndian}
 
@@ -53,21 +52,6 @@ take-splice d xs at k h l =
     rw (← append-assoc (take at d) xs (drop (at + k) d))
     (take-at (take at d ++ xs) (drop (at + k) d) (at + k)
     (rw (length-append, length-take-le at d l, h)))
-
--- one more byte copied to the front
-pub copied
-    : (d s : List ℕ) (i : ℕ)
-    → i < length s
-    → i < length d
-    → set (take i s ++ drop i d) i (getD s i 0) ≡ take (i + 1) s ++ drop (i + 1) d
-copied d s i h l =
-    rw (
-      add-one,
-      drop-cons d i 0 l,
-      set-at (take i s) (getD d i 0) (drop (suc i) d) (getD s i 0) i (length-take-le i s (omega arith)),
-      take-suc s i 0 h,
-      append-assoc (take i s) (getD s i 0 ∷ []) (drop (suc i) d),
-    )
 
 -- d has room for the eight words of a digest, and its first n bytes are p
 record Front (n : ℕ) (p d : List ℕ) : Type 0 where

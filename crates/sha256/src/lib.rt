@@ -5,6 +5,7 @@ ghost use Prim.Native.Nat.{ℕ, _+_, _-_, _*_, _/_, _%_, _^_, _≤_, _<_};
 ghost use lib.ListN.{length, take, drop};
 ghost use Rattle.sha256.specs.Fips180.{SHA-256, ROTR, Ch, Maj, Σ₀, Σ₁, σ₀, σ₁, K, bigEndian, pad, wordAt, words, Working, T₁, T₂, step, steps, added, compress, hash, bytesOf};
 ghost use Rattle.sha256.specs.Code.{working, Scheduled, tail, lastSize};
+use copying::copy;
 
 // K₀ .. K₆₃ of 4.2.2.
 const CONSTANTS: [u32; 64] = [
@@ -321,18 +322,6 @@ fn blocks(s: &[u8], k: &[u32; 64], n: usize) -> State
         i += 1;
     }
     h
-}
-
-// Copies s to the front of d.
-fn copy(d: &mut [u8], s: &[u8])
-    requires { ⌜ length (now s) ≤ length (now d) ⌝ }
-    ensures { λ r. ⌜ now (d .exit) ≡ now (s .entry) ++ drop (length (now (s .entry))) (now (d .entry)) ⌝ }
-{
-    let mut i: usize = 0;
-    while i < s.len() {
-        d[i] = s[i];
-        i += 1;
-    }
 }
 
 // Writes the k low bytes of x at `at`, the most significant first.

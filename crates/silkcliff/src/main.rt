@@ -1,7 +1,7 @@
 // The command: offers from standard input, answers and the report to standard output. Everything but reading and writing is `session`.
 ghost use Prim.Native.Nat.{_≤_};
 ghost use lib.ListN.{length};
-ghost use Rattle.session.specs.Feeding.{maxAnswer};
+ghost use Rattle.session.specs.Feeding.{maxAnswer, maxEnd};
 use input::MAX_LINE;
 use ledger::Ledger;
 use libc::STDIN_FILENO;
@@ -72,8 +72,10 @@ fn read_some(most: usize, buffer: &mut [u8]) -> usize
     io::count(got, buffer)
 }
 
-// The end of the input.
-fn end(ledger: Ledger, store: &mut [u8], line: &mut [u8], fill: usize, out: &mut [u8]) {
+// The end of the input. With room for the longest end, there always is a report.
+fn end(ledger: Ledger, store: &mut [u8], line: &mut [u8], fill: usize, out: &mut [u8])
+    requires { ⌜ maxEnd ≤ length (now out) ⌝ }
+{
     match session::finish(ledger, store, line, fill, out) {
         Finished::Written(n) => {
             io::write_all(STDOUT_FILENO, &out[..n]);
@@ -84,7 +86,7 @@ fn end(ledger: Ledger, store: &mut [u8], line: &mut [u8], fill: usize, out: &mut
 
 // Reads, feeds and writes, up to the limit.
 fn run(store: &mut [u8], line: &mut [u8], chunk: &mut [u8], out: &mut [u8])
-    requires { ⌜ maxAnswer ≤ length (now out) ⌝ }
+    requires { ⌜ maxEnd ≤ length (now out) ⌝ }
 {
     let mut ledger = ledger::fresh();
     let mut fill: usize = 0;

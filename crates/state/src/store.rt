@@ -1,24 +1,12 @@
 // The lent store: place k's update from byte 533 × k on.
 ghost use mathlib.Core.Path.{_≡_};
-ghost use mathlib.Core.List.{_++_};
 ghost use Prim.Native.Nat.{_*_, _≤_, _<_};
-ghost use lib.ListN.{length, drop};
+ghost use lib.ListN.{length};
 ghost use Rattle.format.specs.Update.{maxLength};
 ghost use Rattle.format.specs.Decode.{part};
 ghost use Rattle.state.specs.State.{storeLength, written};
+use copying::copy;
 use format::bounds::MAX_LENGTH;
-
-// Copies one update to the start of the lent tail; the bytes after it keep their values.
-fn copy_in(tail: &mut [u8], update: &[u8])
-    requires { ⌜ length (now update) ≤ length (now tail) ⌝ }
-    ensures { λ _. ⌜ now (tail .exit) ≡ now (update .entry) ++ drop (length (now (update .entry))) (now (tail .entry)) ⌝ }
-{
-    let mut i: usize = 0;
-    while i < update.len() {
-        tail[i] = update[i];
-        i += 1;
-    }
-}
 
 // Writes one update into place k.
 pub fn write_at(store: &mut [u8], k: usize, update: &[u8])
@@ -26,7 +14,7 @@ pub fn write_at(store: &mut [u8], k: usize, update: &[u8])
     ensures { λ _. ⌜ now (store .exit) ≡ written (now (store .entry)) (maxLength * k) (now (update .entry)) ⌝ }
 {
     let at = MAX_LENGTH * k;
-    copy_in(&mut store[at..], update);
+    copy(&mut store[at..], update);
 }
 
 // The bytes of place k, of this length.

@@ -1,8 +1,13 @@
 -- `put` meets its contract: a text that does not fit is not written.
 -- Assumes nothing.
 use mathlib.Core.Path.{refl}
+use Prim.Native.Nat.{_-_}
+use native.Mathlib.Nat.{le-refl}
 use native.Mathlib.Omega.{arith}
 use borrow.Author.Needs.{needs}
+use denote.Ref.{now}
+use lib.ListN.{length}
+use Rattle.state.proofs.CopyLaws.{put-back}
 use Rattle.report.proofs.page.put.Statement.{statement}
 use Rattle.report.proofs.page.put.Tie as tie
 
@@ -11,8 +16,16 @@ put-spec =
     tie.close
     (tie.spec
     (λ c. search needs)
+    (λ c. search needs)
+    (λ c. search needs)
+    (λ c. search needs)
     (λ c κs. search needs)
     (λ c. search needs)
     (λ c.
-    record { past = refl; fits = λ h. c .before .before .copy-in .ensures })
+    let a = c .before .before .before .before .before .before .before .args in
+    record {
+      past = refl;
+      fits = λ h.
+          put-back (now (a .page)) (a .at) (length (now (a .page)) - a .at) (now (a .text)) (le-refl _) (c .before .before .copy .ensures);
+    })
     (λ c. record { past = refl; fits = λ h. absurd (omega arith) }))

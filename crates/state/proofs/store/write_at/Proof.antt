@@ -23,4 +23,4 @@ write-at-spec =
     (λ c.
     let a = c .before .before .before .before .before .before .args in
     let at = maxLength * a .k in
-    put-back (now (a .store)) at (length (now (a .store)) - at) (now (a .update)) (le-refl _) (c .before .before .copy-in .ensures)))
+    put-back (now (a .store)) at (length (now (a .store)) - at) (now (a .update)) (le-refl _) (c .before .before .copy .ensures)))

@@ -1,15 +1,30 @@
--- `sha256::copy` meets its contract: `i` bytes are copied, and the others are as they were.
+-- `copying::copy` meets its contract: `i` bytes are copied, and the others are as they were.
 -- Assumes nothing.
-use Prim.Native.Nat.{_-_, _≤_}
+use Prim.Native.Nat.{ℕ, suc, _+_, _-_, _≤_, _<_}
 use mathlib.Core.Path.{_≡_}
-use mathlib.Core.List.{_++_}
-use borrow.Author.Needs.{needs}
+use mathlib.Core.List.{List, [], _∷_, _++_, append-assoc}
+use native.Mathlib.Numerals.{add-one}
 use native.Mathlib.Omega.{arith}
-use lib.ListN.{length, take, drop, length-set}
-use lib.Seq.{take-length}
-use Rattle.sha256.proofs.Bytes.{copied}
-use Rattle.sha256.proofs.copy.Statement.{statement}
-use Rattle.sha256.proofs.copy.Tie as tie
+use borrow.Author.Needs.{needs}
+use lib.ListN.{length, getD, take, drop, set, length-set}
+use lib.Seq.{take-suc, take-length, drop-cons, set-at, length-take-le}
+use Rattle.copying.proofs.copy.Statement.{statement}
+use Rattle.copying.proofs.copy.Tie as tie
+
+-- one more byte copied to the front
+copied
+    : (d s : List ℕ) (i : ℕ)
+    → i < length s
+    → i < length d
+    → set (take i s ++ drop i d) i (getD s i 0) ≡ take (i + 1) s ++ drop (i + 1) d
+copied d s i h l =
+    rw (
+      add-one,
+      drop-cons d i 0 l,
+      set-at (take i s) (getD d i 0) (drop (suc i) d) (getD s i 0) i (length-take-le i s (omega arith)),
+      take-suc s i 0 h,
+      append-assoc (take i s) (getD s i 0 ∷ []) (drop (suc i) d),
+    )
 
 abbrev Inv-loop : tie.InvT-loop
 Inv-loop d₀ s i₀ d i = (i ≤ length s) × (length d ≡ length d₀) × (d ≡ take i s ++ drop i d₀)
