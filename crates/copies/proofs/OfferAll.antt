@@ -8,8 +8,8 @@ use denote.Ref.{RefT, now}
 use lib.ListN.{length, take, getD, length-map, List·getD-map}
 use lib.Seq.{take-suc, take-all}
 use Rattle.state.specs.declared.Ledger.{Ledger}
-use Rattle.ledger.specs.declared.Offered.{Offered}
-use Rattle.ledger.specs.Offer.{Offering}
+use Rattle.offering.specs.declared.Offered.{Offered}
+use Rattle.offering.specs.Offer.{Offering}
 use Rattle.ledger.specs.Calls.{Calls, done, call}
 
 -- what a list of slices holds

@@ -17,7 +17,7 @@ use Rattle.state.specs.State.{storeLength}
 use Rattle.state.specs.Stands.{ident, Stands}
 use Rattle.ledger.specs.declared.Reported.{Reported}
 use Rattle.ledger.specs.declared.Reported.the-variants.{Written}
-use Rattle.ledger.specs.Offer.{freshLedger}
+use Rattle.ledger.specs.Ask.{freshLedger}
 use Rattle.ledger.specs.Calls.{Calls, stored, offers-stand}
 use Rattle.ledger.specs.Report.{Reporting, unfit, short, written}
 use Rattle.copies.specs.Sets.{setOf, reportFor, Fits, NoCollision}

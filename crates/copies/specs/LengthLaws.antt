@@ -9,10 +9,10 @@ use lib.Seq.{length-take-le}
 use Rattle.state.specs.declared.Ledger.{Ledger}
 use Rattle.state.specs.State.{storeLength}
 use Rattle.state.specs.Row1Laws.{sound→}
-use Rattle.ledger.specs.declared.Offered.{Offered}
+use Rattle.offering.specs.declared.Offered.{Offered}
 use Rattle.ledger.specs.declared.Reported.{Reported}
 use Rattle.ledger.specs.declared.Reported.the-variants.{Written}
-use Rattle.ledger.specs.Offer.{Offering, unfit, malformed, known, full, taken}
+use Rattle.offering.specs.Offer.{Offering, unfit, malformed, known, full, taken}
 use Rattle.ledger.specs.Calls.{Calls, done, call}
 use Rattle.ledger.specs.Report.{Reporting, unfit as not-fit, short, written}
 

@@ -1,6 +1,6 @@
 // Two copies of the ledger side by side.
 ghost use mathlib.Core.List.{map};
-ghost use Rattle.ledger.specs.Offer.{freshLedger};
+ghost use Rattle.ledger.specs.Ask.{freshLedger};
 ghost use Rattle.ledger.specs.Calls.{Calls};
 ghost use Rattle.copies.specs.Check.{Checking, SecondChecking};
 use ledger::Ledger;

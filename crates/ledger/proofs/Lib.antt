@@ -1,4 +1,2 @@
-pub mod TakeLaws
-pub mod OfferLaws
+pub mod AskLaws
 pub mod ReportLaws
-pub mod WriteEnds

@@ -10,7 +10,7 @@ use Rattle.state.specs.declared.Ledger.{Ledger}
 use Rattle.state.specs.Row1.{sound}
 use Rattle.report.specs.Text.{textOf, Prints}
 use Rattle.report.specs.TextRight.{text-right}
-use Rattle.ledger.specs.declared.Refusal.the-variants.{Short}
+use Rattle.refusals.specs.declared.Refusal.the-variants.{Short}
 use Rattle.ledger.specs.declared.Reported.the-variants.{Written, Refused}
 use Rattle.ledger.specs.Report.{ReportText, Reporting, short, written}
 

@@ -33,10 +33,10 @@ use Rattle.state.specs.Stands.{ident, noUpdate, updateAt, Stands}
 use Rattle.state.specs.FindLaws.{stored-at, find-right}
 use Rattle.state.specs.TakeLaws.{stands-sound}
 use Rattle.state.specs.CountLaws.{held-count, void-count}
-use Rattle.ledger.specs.declared.Offered.{Offered}
-use Rattle.ledger.specs.declared.Answer.the-variants.{Taken}
-use Rattle.ledger.specs.Words.{standingWord, answerText}
-use Rattle.ledger.specs.Offer.{Offering, unfit, malformed, known, full, taken}
+use Rattle.offering.specs.declared.Offered.{Offered}
+use Rattle.offering.specs.declared.Answer.the-variants.{Taken}
+use Rattle.offering.specs.Words.{standingWord, answerText}
+use Rattle.offering.specs.Offer.{Offering, unfit, malformed, known, full, taken}
 use Rattle.ledger.specs.Calls.{says, only-held, only-waiting, only-void, decoded-id, found-known, none-new}
 
 -- the standing of an id in a settled table

@@ -25,9 +25,10 @@ use Rattle.state.specs.State.{places, storeLength, placeAt, findIn}
 use Rattle.state.specs.Stands.{ident, updateAt, Stands}
 use Rattle.state.specs.FindLaws.{stored-at, place-of, find-right, find-all, find-none}
 use Rattle.state.specs.TakeLaws.{stands-sound, fresh-stands}
-use Rattle.ledger.specs.declared.Offered.{Offered}
+use Rattle.offering.specs.declared.Offered.{Offered}
 use Rattle.ledger.specs.declared.Asked.the-variants.{Is, Unknown}
-use Rattle.ledger.specs.Offer.{Offering, unfit, malformed, known, full, taken, askedAt, askedOf, freshLedger}
+use Rattle.offering.specs.Offer.{Offering, unfit, malformed, known, full, taken}
+use Rattle.ledger.specs.Ask.{askedAt, askedOf, freshLedger}
 
 -- "Each offer is handed the ledger and store that the one before left": offers of the byte strings, one after the other, each with what the entry
 -- `offer` ensures

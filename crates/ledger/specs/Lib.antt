@@ -1,7 +1,5 @@
-pub mod Words
-pub mod Offer
+pub mod Ask
 pub mod Calls
 pub mod Report
 pub mod Answers
-pub mod Write
 pub mod WriteLaws

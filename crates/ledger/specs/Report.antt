@@ -10,7 +10,7 @@ use Rattle.rules.specs.Report.{reportOf}
 use Rattle.state.specs.declared.Ledger.{Ledger}
 use Rattle.state.specs.Row1.{sound}
 use Rattle.state.specs.Stands.{ident, Stands}
-use Rattle.ledger.specs.declared.Refusal.the-variants.{Unfit, Short}
+use Rattle.refusals.specs.declared.Refusal.the-variants.{Unfit, Short}
 use Rattle.ledger.specs.declared.Reported.{Reported}
 use Rattle.ledger.specs.declared.Reported.the-variants.{Written, Refused}
 

@@ -2,25 +2,21 @@
 -- updates of an author who is not marked.
 -- Assumes nothing.
 use mathlib.Core.Path.{_≡_, refl, sym, ap, subst, _∙_}
-use Prim.Native.Nat.{ℕ, _+_, _-_, _/_, _≤_, _<_}
+use Prim.Native.Nat.{ℕ, _+_, _-_, _≤_, _<_}
 use native.Mathlib.Omega.{arith}
 use mathlib.Core.List.{List, [], _∷_, _++_}
 use mathlib.Core.Bool.{Bool, true, false, cond}
-use borrow.Author.Tests.{not-false}
 use lib.ListN.{length, take, drop, length-append}
 use lib.Seq.{take-at, getD-append-seam}
 use Rattle.keys.specs.Member.{_∈_}
 use Rattle.keys.specs.BoolLaws.{true-false}
 use Rattle.sha256.specs.Fips180.{SHA-256}
-use Rattle.sha256.specs.Lengths.{length-digest}
-use Rattle.format.specs.Update.{Id, maxAuthor, idLength, tagLength, Operation, Update, encode, Bounded, BoundedOperation, add, remove, insert, delete}
-use Rattle.format.specs.Decode.{idsAt, refused, decode, update}
-use Rattle.format.specs.Parts.{ids-length, ids-sized}
-use Rattle.format.specs.Laws.{decode-complete}
+use Rattle.format.specs.Update.{Id, maxAuthor, idLength, tagLength, Operation, Update, encode}
+use Rattle.format.specs.Decode.{refused, decode, update}
 use Rattle.rules.specs.Standing.{Ancestor, Held}
 use Rattle.rules.specs.ReadOff.{Marked}
 use Rattle.rules.specs.Writing.{writtenOf, writableOf}
-use Rattle.rules.specs.WritingLaws.{written-bounded, written-held, written-no-fork, add-writable}
+use Rattle.rules.specs.WritingLaws.{written-held, written-no-fork, add-writable}
 use Rattle.bits.specs.Below.{countBelow}
 use Rattle.bits.specs.BelowLaws.{countBelow-more, countBelow-mono}
 use Rattle.state.specs.declared.Ledger.{Ledger}
@@ -32,42 +28,18 @@ use Rattle.state.specs.Stands.{ident, noUpdate, updateAt, Stands}
 use Rattle.state.specs.FindLaws.{stored-at, find-right}
 use Rattle.state.specs.TakeLaws.{stands-sound}
 use Rattle.writer.specs.declared.Kind.{Kind}
-use Rattle.writer.specs.declared.Kind.the-variants.{Add as AnAdd, Remove as ARemove, Insert as AnInsert, Delete as ADelete}
+use Rattle.writer.specs.declared.Kind.the-variants.{Add as AnAdd}
 use Rattle.writer.specs.Operations.{operationFor, badNamed, unorderedNamed}
-use Rattle.writer.proofs.Laying.{good-remove}
-use Rattle.ledger.specs.declared.Refusal.{Refusal}
-use Rattle.ledger.specs.declared.Refusal.the-variants.{Unfit, Malformed as Bad, Full, Short, Invalid}
-use Rattle.ledger.specs.declared.Answer.the-variants.{Taken}
-use Rattle.ledger.specs.declared.Offered.{Offered}
-use Rattle.ledger.specs.declared.Wrote.{Wrote}
-use Rattle.ledger.specs.declared.Wrote.the-variants.{Written, Refused}
-use Rattle.ledger.specs.Offer.{Offering, unfit as not-fit, malformed, known, full, taken}
+use Rattle.refusals.specs.declared.Refusal.{Refusal}
+use Rattle.refusals.specs.declared.Refusal.the-variants.{Unfit, Malformed as Bad, Full, Short, Invalid}
+use Rattle.offering.specs.declared.Answer.the-variants.{Taken}
+use Rattle.offering.specs.declared.Offered.{Offered}
+use Rattle.writing.specs.declared.Wrote.{Wrote}
+use Rattle.writing.specs.declared.Wrote.the-variants.{Written, Refused}
+use Rattle.offering.specs.Offer.{Offering, unfit as not-fit, malformed, known, full, taken}
 use Rattle.ledger.specs.Calls.{says, only-held}
-use Rattle.ledger.specs.Write.{WrittenUpdate, Writing, unfit, author, layout, unordered, invalid, short, written}
-
-pub ident-length : (u : Update) → length (ident u) ≡ idLength
-unfolding ident
-ident-length u = length-digest (encode u)
-
--- what rows 8 and 9 let through is laid out
-pub operation-bounded : (k : Kind) (t : List ℕ) (i : Id) (named : List ℕ) → length t ≡ tagLength → length i ≡ idLength
-    → badNamed k named ≡ false → unorderedNamed k named ≡ false → BoundedOperation (operationFor k t i named)
-unfolding operationFor unorderedNamed
-operation-bounded AnAdd t i named x y g o = add x
-operation-bounded ARemove t i named x y g o =
-    let f = good-remove named refl g in
-    let n = length named / 32 in
-    remove {named = idsAt named 0 n} x
-    (record { few = omega (arith, ids-length named 0 n, f .1); sized = ids-sized named 0 n (omega arith); ordered = not-false _ o })
-operation-bounded AnInsert t i named x y g o = insert y x
-operation-bounded ADelete t i named x y g o = delete y
-
-module _ (l : Ledger) (s : List ℕ) (us : List Update) (stands : Stands l s us) (a : ℕ) (o : Operation) (small : a ≤ maxAuthor) (bounded : BoundedOperation o) where
-  pub rules-bounded : Bounded (writtenOf ident us a o)
-  rules-bounded = written-bounded ident us (stands .holds .distinct) a o ident-length small bounded
-
-  pub rules-decode : decode (encode (writtenOf ident us a o)) ≡ update (writtenOf ident us a o)
-  rules-decode = decode-complete (writtenOf ident us a o) rules-bounded
+use Rattle.writing.specs.BoundLaws.{operation-bounded, rules-decode}
+use Rattle.writing.specs.Write.{WrittenUpdate, Writing, unfit, author, layout, unordered, invalid, short, written}
 
 -- the writer's answers taken apart
 module _ (l : Ledger) (s : List ℕ) (a : ℕ) (k : Kind) (t : List ℕ) (i : Id) (named o : List ℕ) where

@@ -1,77 +1,26 @@
 // The hours ledger: the public library. Copies of the ledger take updates in any order; each stored update is held, waiting or void by its ancestors
 // alone. The bookkeeping goes in by value and the new one comes back; the updates' bytes lie in a store that the caller lends.
 ghost use mathlib.Core.Path.{_≡_};
-ghost use Rattle.ledger.specs.Words.{refusalNumber};
-ghost use Rattle.ledger.specs.Offer.{Offering, askedOf, freshLedger};
+ghost use Rattle.offering.specs.Offer.{Offering};
+ghost use Rattle.ledger.specs.Ask.{askedOf, freshLedger};
 ghost use Rattle.ledger.specs.Report.{Reporting};
-ghost use Rattle.ledger.specs.Write.{Writing};
-pub use state::Ledger;
-pub use state::Standing;
-pub use writer::Kind;
-
-mod taking;
-mod writing;
-
+ghost use Rattle.writing.specs.Write.{Writing};
 use format::Malformed;
 use format::Reading;
 use format::bounds::MAX_AUTHOR;
+pub use offering::Answer;
+pub use offering::Offered;
+use offering::left;
+use offering::offer_formed;
+pub use refusals::Refusal;
 use state::Found;
+pub use state::Ledger;
+pub use state::Standing;
 use state::find::find;
 use state::row1::sound;
-
-// Why a call is refused.
-pub enum Refusal {
-    // Row 1: the ledger and the store do not fit each other.
-    Unfit,
-    // Rows 2 to 9: the bytes are no update.
-    Malformed(Malformed),
-    // Row 10: all places are taken.
-    Full,
-    // Row 11: the output buffer is shorter than the result.
-    Short,
-    // Row 12: the written operation would be void.
-    Invalid,
-}
-
-impl Refusal {
-    // Document 01's number.
-    pub fn number(self) -> u8
-        ensures { λ r. ⌜ r ≡ refusalNumber self ⌝ }
-    {
-        match self {
-            Refusal::Unfit => 1,
-            Refusal::Malformed(m) => m.number(),
-            Refusal::Full => 10,
-            Refusal::Short => 11,
-            Refusal::Invalid => 12,
-        }
-    }
-}
-
-// What the writer answers: how many bytes of the output buffer the update takes.
-pub enum Wrote {
-    Written(usize),
-    Refused(Refusal),
-}
-
-// What an offer answers.
-pub enum Answer {
-    // The update took a place: how it stands, how many updates are newly held, and how many newly void.
-    Taken {
-        standing: Standing,
-        held: usize,
-        void: usize,
-    },
-    // The update was stored before, and stands so.
-    Known(Standing),
-    Refused(Refusal),
-}
-
-// An answer beside the ledger that the next call is handed.
-pub struct Offered {
-    pub answer: Answer,
-    pub ledger: Ledger,
-}
+pub use writer::Kind;
+pub use writing::Wrote;
+use writing::write_asked;
 
 // How an id stands.
 pub enum Asked {
@@ -102,11 +51,11 @@ pub fn offer(ledger: Ledger, store: &mut [u8], update: &[u8]) -> Offered
     ensures { λ r. ⌜ Offering ledger (now (store .entry)) (now (update .entry)) r (now (store .exit)) ⌝ }
 {
     if !sound(ledger, store) {
-        return taking::left(ledger, Answer::Refused(Refusal::Unfit));
+        return left(ledger, Answer::Refused(Refusal::Unfit));
     }
     match format::read(update) {
-        Reading::Refused(m) => taking::left(ledger, Answer::Refused(Refusal::Malformed(m))),
-        Reading::Update(_) => taking::offer_formed(ledger, store, update),
+        Reading::Refused(m) => left(ledger, Answer::Refused(Refusal::Malformed(m))),
+        Reading::Update(_) => offer_formed(ledger, store, update),
     }
 }
 
@@ -175,5 +124,5 @@ pub fn write(
     if writer::unordered_named(kind, named) {
         return Wrote::Refused(Refusal::Malformed(Malformed::Unordered));
     }
-    writing::write_asked(ledger, store, author, kind, tag, id, named, out)
+    write_asked(ledger, store, author, kind, tag, id, named, out)
 }

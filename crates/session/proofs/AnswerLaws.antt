@@ -11,10 +11,11 @@ use Rattle.rules.specs.Report.{codes, ascii, decimal}
 use Rattle.report.specs.Text.{Prints}
 use Rattle.state.specs.declared.Standing.{Standing}
 use Rattle.state.specs.declared.Standing.the-variants.{Held, Waiting, Void}
-use Rattle.ledger.specs.declared.Refusal.{Refusal}
-use Rattle.ledger.specs.declared.Refusal.the-variants.{Unfit, Malformed as Bad, Full, Short, Invalid}
-use Rattle.ledger.specs.declared.Answer.the-variants.{Taken, Known, Refused}
-use Rattle.ledger.specs.Words.{refusalNumber, standingWord, answerText}
+use Rattle.refusals.specs.declared.Refusal.{Refusal}
+use Rattle.refusals.specs.declared.Refusal.the-variants.{Unfit, Malformed as Bad, Full, Short, Invalid}
+use Rattle.offering.specs.declared.Answer.the-variants.{Taken, Known, Refused}
+use Rattle.offering.specs.Words.{standingWord, answerText}
+use Rattle.refusals.specs.Numbers.{refusalNumber}
 
 -- a standing's word in bytes
 abbrev pub bytesOf : Standing → List ℕ

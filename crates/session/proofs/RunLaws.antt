@@ -9,9 +9,9 @@ use lib.ListN.{length, take, drop}
 use lib.Seq.{take-add, drop-drop}
 use Rattle.state.specs.declared.Ledger.{Ledger}
 use Rattle.report.specs.Text.{Prints}
-use Rattle.ledger.specs.declared.Offered.{Offered}
-use Rattle.ledger.specs.Offer.{Offering}
-use Rattle.ledger.specs.Words.{answerText}
+use Rattle.offering.specs.declared.Offered.{Offered}
+use Rattle.offering.specs.Offer.{Offering}
+use Rattle.offering.specs.Words.{answerText}
 use Rattle.input.specs.declared.Assembled.{Assembled}
 use Rattle.input.specs.Lines.{Takes}
 use Rattle.session.specs.declared.Begun.{Begun}

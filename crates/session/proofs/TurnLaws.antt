@@ -12,9 +12,9 @@ use Rattle.rules.specs.Report.{ascii}
 use Rattle.state.specs.declared.Ledger.{Ledger}
 use Rattle.state.specs.declared.Standing.{Standing}
 use Rattle.state.specs.State.{placeAt, isHeld, isVoid, countOf}
-use Rattle.ledger.specs.declared.Offered.{Offered}
-use Rattle.ledger.specs.Offer.{Offering, unfit, malformed, known, full, taken}
-use Rattle.ledger.specs.Words.{answerText}
+use Rattle.offering.specs.declared.Offered.{Offered}
+use Rattle.offering.specs.Offer.{Offering, unfit, malformed, known, full, taken}
+use Rattle.offering.specs.Words.{answerText}
 use Rattle.ledger.specs.Calls.{offer-stands}
 use Rattle.ledger.specs.Answers.{answer-right}
 use Rattle.input.specs.declared.Assembled.{Assembled}

@@ -8,8 +8,8 @@ use lib.ListN.{length, take}
 use Rattle.rules.specs.Report.{ascii}
 use Rattle.report.specs.Text.{Prints}
 use Rattle.input.specs.Lines.{lineIn}
-use Rattle.ledger.specs.declared.Answer.{Answer}
-use Rattle.ledger.specs.declared.Answer.the-variants.{Taken, Known, Refused}
+use Rattle.offering.specs.declared.Answer.{Answer}
+use Rattle.offering.specs.declared.Answer.the-variants.{Taken, Known, Refused}
 use Rattle.session.specs.declared.Begun.{Begun}
 use Rattle.session.specs.declared.Begun.the-variants.{Unread, Offers}
 

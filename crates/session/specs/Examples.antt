@@ -1,14 +1,12 @@
 -- Document 01's own example of the command, and the ends of an input, computed from the definition.
 -- Assumes nothing.
 use mathlib.Core.Path.{_≡_, refl}
-use mathlib.Core.List.{List, []}
-use Prim.Native.Nat.{ℕ}
-use Prim.Native.String.{String}
-use Rattle.keys.specs.Order.{same, before}
+use mathlib.Core.List.{[]}
+use Rattle.keys.specs.Order.{same}
 use Rattle.keys.specs.Member.{keep, concatMap}
 use Rattle.keys.specs.Sort.{sort}
 use Rattle.format.specs.Decode.{decode, row2}
-use Rattle.rules.specs.Settle.{rounds, startAll, settled, heads, marks, tags, siblings, walk, entries, list}
+use Rattle.rules.specs.Settle.{rounds, startAll, settled, heads, marks, tags, walk, entries, list}
 use Rattle.rules.specs.Report.{codes, ascii, digit, decimalIn, decimal, part, reportText, reportOf}
 use Rattle.ledger.specs.Calls.{acceptDecoded}
 use Rattle.ledger.specs.Answers.{offerText, refusedText}

@@ -7,7 +7,7 @@ use lib.ListN.{length, take}
 use Rattle.state.specs.declared.Ledger.{Ledger}
 use Rattle.state.specs.State.{storeLength}
 use Rattle.state.specs.TakeLaws.{fresh-stands}
-use Rattle.ledger.specs.Offer.{freshLedger}
+use Rattle.ledger.specs.Ask.{freshLedger}
 use Rattle.input.specs.Reading.{maxLine}
 use Rattle.input.specs.LineLaws.{keeps-none}
 use Rattle.session.specs.declared.Fed.{Fed}

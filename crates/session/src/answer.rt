@@ -2,8 +2,8 @@
 ghost use Prim.Native.Nat.{_+_, _≤_, _<_};
 ghost use lib.ListN.{length};
 ghost use Rattle.report.specs.Text.{Prints};
-ghost use Rattle.ledger.specs.Words.{standingWord, answerText};
-ghost use Rattle.ledger.specs.declared.Answer.the-variants.{Taken, Known, Refused};
+ghost use Rattle.offering.specs.Words.{standingWord, answerText};
+ghost use Rattle.offering.specs.declared.Answer.the-variants.{Taken, Known, Refused};
 ghost use Rattle.session.specs.Answers.{Begins, Printable};
 ghost use Rattle.session.specs.Feeding.{maxAnswer};
 use crate::Begun;

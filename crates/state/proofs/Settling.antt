@@ -1,7 +1,7 @@
 -- What settling one place, a pass and pass after pass come to, by cases.
 -- Assumes nothing.
 use Prim.Native.Nat.{ℕ, suc, _+_, _≤_, _<_}
-use mathlib.Core.Path.{_≡_, refl, sym, ap, ap₂, _∙_, subst}
+use mathlib.Core.Path.{_≡_, refl, sym, ap, ap₂, _∙_}
 use mathlib.Core.List.{List}
 use mathlib.Core.Bool.{Bool, true, false, cond, _||_, true≢false, false≢true, or-false}
 use native.Mathlib.Numerals.{add-one}
@@ -11,7 +11,6 @@ use Rattle.state.specs.declared.Ledger.{Ledger}
 use Rattle.state.specs.declared.Pass.{Pass}
 use Rattle.state.specs.declared.Standing.{Standing}
 use Rattle.state.specs.declared.Standing.the-variants.{Held, Waiting, Void}
-use Rattle.state.specs.declared.Judgement.{Judgement}
 use Rattle.state.specs.declared.Judgement.the-variants.{Holds, Fails, Waits}
 use Rattle.state.specs.State.{placeAt, withStanding, isWaiting, countOf}
 use Rattle.state.specs.Judge.{judge}

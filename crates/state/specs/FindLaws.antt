@@ -11,12 +11,17 @@ use Rattle.keys.specs.OrderLaws.{same→eq, eq→same, same-false→ne}
 use Rattle.keys.specs.Member.{_∈_}
 use Rattle.keys.specs.MemberLaws.{getD-∈, ∈-getD}
 use Rattle.keys.specs.DistinctLaws.{distinct-index}
-use Rattle.format.specs.Update.{Id, Update}
+use Rattle.sha256.specs.Lengths.{length-digest}
+use Rattle.format.specs.Update.{Id, idLength, Update, encode}
 use Rattle.bits.specs.Below.{firstBelow}
 use Rattle.bits.specs.BelowLaws.{firstBelow-some→, firstBelow-one, firstBelow-none→}
 use Rattle.state.specs.declared.Ledger.{Ledger}
 use Rattle.state.specs.State.{placeAt, findIn}
 use Rattle.state.specs.Stands.{ident, noUpdate, updateAt, Holds}
+
+pub ident-length : (u : Update) → length (ident u) ≡ idLength
+unfolding ident
+ident-length u = length-digest (encode u)
 
 -- each update stands at a place
 pub stored-at : (us : List Update) (k : ℕ) → k < length us → updateAt us k ∈ us

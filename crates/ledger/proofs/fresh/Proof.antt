@@ -1,7 +1,7 @@
 -- `fresh` meets its contract.
 -- Assumes nothing.
 use mathlib.Core.Path.{refl}
-use Rattle.ledger.specs.Offer.{freshLedger}
+use Rattle.ledger.specs.Ask.{freshLedger}
 use Rattle.ledger.proofs.fresh.Statement.{statement}
 use Rattle.ledger.proofs.fresh.Tie as tie
 

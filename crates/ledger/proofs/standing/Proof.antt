@@ -9,7 +9,7 @@ use denote.Ref.{now}
 use Rattle.state.specs.State.{findIn}
 use Rattle.state.specs.Row1Laws.{sound→}
 use Rattle.state.proofs.Judging.{found-at, found-nowhere, found-inside}
-use Rattle.ledger.proofs.OfferLaws.{asked-unfit, asked-at, asked-nowhere}
+use Rattle.ledger.proofs.AskLaws.{asked-unfit, asked-at, asked-nowhere}
 use Rattle.ledger.proofs.standing.Statement.{statement}
 use Rattle.ledger.proofs.standing.Tie as tie
 

@@ -3,7 +3,7 @@
 use mathlib.Core.Path.{sym, _∙_}
 use borrow.Author.Needs.{needs}
 use borrow.Author.Tests.{not-true, not-false}
-use Rattle.ledger.specs.Write.{unfit, author, layout, unordered}
+use Rattle.writing.specs.Write.{unfit, author, layout, unordered}
 use Rattle.ledger.proofs.write.Statement.{statement}
 use Rattle.ledger.proofs.write.Tie as tie
 

@@ -1,7 +1,7 @@
 -- `print_answer` meets its contract, by the answer.
 -- Assumes nothing.
 use mathlib.Core.Path.{sym, ap, subst}
-use Rattle.ledger.specs.Words.{answerText}
+use Rattle.offering.specs.Words.{answerText}
 use Rattle.report.proofs.Printing.{same-text}
 use Rattle.session.specs.Answers.{Printable}
 use borrow.Author.Needs.{needs}

@@ -1,0 +1,28 @@
+-- What a question answers, from what the calls within it answered.
+-- Assumes nothing.
+use mathlib.Core.Path.{_≡_}
+use Prim.Native.Nat.{ℕ}
+use mathlib.Core.List.{List}
+use mathlib.Core.Option.{none, some}
+use mathlib.Core.Bool.{true, false}
+use Rattle.format.specs.Update.{Id}
+use Rattle.state.specs.declared.Ledger.{Ledger}
+use Rattle.state.specs.State.{placeAt, findIn}
+use Rattle.state.specs.Row1.{sound}
+use Rattle.refusals.specs.declared.Refusal.the-variants.{Unfit}
+use Rattle.ledger.specs.declared.Asked.the-variants.{Is, Unknown, Refused as NotAsked}
+use Rattle.ledger.specs.Ask.{askedOf}
+
+-- the standing of an id
+module _ (l : Ledger) (s : List ℕ) (i : Id) where
+  pub asked-unfit : sound l s ≡ false → NotAsked Unfit ≡ askedOf l s i
+  unfolding askedOf
+  asked-unfit h = rw h
+
+  pub asked-at : sound l s ≡ true → (k : ℕ) → findIn l i ≡ some k → Is (placeAt l k .standing) ≡ askedOf l s i
+  unfolding askedOf
+  asked-at h k f = rw (h, f)
+
+  pub asked-nowhere : sound l s ≡ true → findIn l i ≡ none → Unknown ≡ askedOf l s i
+  unfolding askedOf
+  asked-nowhere h f = rw (h, f)

@@ -1,0 +1,73 @@
+-- What the entry `offer` promises, for every ledger, store and offered bytes.
+-- Assumes nothing.
+use mathlib.Core.Path.{_≡_}
+use Prim.Native.Nat.{ℕ, _+_, _-_, _*_, _<_}
+use mathlib.Core.List.{List, [], _∷_, _++_}
+use mathlib.Core.Option.{none, some}
+use mathlib.Core.Bool.{true, false}
+use lib.ListN.{length}
+use Rattle.sha256.specs.Fips180.{SHA-256}
+use Rattle.format.specs.Update.{Update, maxLength}
+use Rattle.format.specs.Decode.{refused, update, decode}
+use Rattle.format.specs.Reading.{numberOf}
+use Rattle.format.specs.declared.Malformed.{Malformed}
+use Rattle.state.specs.declared.Ledger.{Ledger}
+use Rattle.state.specs.declared.Standing.the-variants.{Waiting}
+use Rattle.state.specs.State.{places, placeAt, findIn, written, isHeld, isVoid, countOf}
+use Rattle.state.specs.Row1.{sound}
+use Rattle.state.specs.Stands.{Stands}
+use Rattle.refusals.specs.declared.Refusal.the-variants.{Unfit, Malformed as Bad, Full}
+use Rattle.offering.specs.declared.Answer.{Answer}
+use Rattle.offering.specs.declared.Answer.the-variants.{Taken, Known, Refused}
+use Rattle.offering.specs.declared.Offered.{Offered}
+
+-- an answer that leaves the ledger as it was
+abbrev pub left : Ledger → Answer → Offered
+left l a = record { answer = a; ledger = l }
+
+-- What holds of the ledger r and the store s′ after the update u, with bytes b, took the next place of l. What the rules leave free, for a ledger or a
+-- store that is not the library's own, is which waiting places are settled, and how.
+pub record Took (l : Ledger) (s b : List ℕ) (u : Update) (r : Ledger) (s′ : List ℕ) : Type 0 where
+  -- "Every distinct well-formed update takes the next one and keeps it"
+  pub used-next : r .used ≡ l .used + 1
+  pub new-id : placeAt r (l .used) .id ≡ SHA-256 b
+  pub new-length : placeAt r (l .used) .length ≡ length b
+  pub old-id : (k : ℕ) → k < l .used → placeAt r k .id ≡ placeAt l k .id
+  pub old-length : (k : ℕ) → k < l .used → placeAt r k .length ≡ placeAt l k .length
+  -- a place that was settled stays as it was, and so does one that is not taken
+  pub old-settled : (k : ℕ) → k < l .used → (placeAt l k .standing ≡ Waiting → ⊥) → placeAt r k ≡ placeAt l k
+  pub untaken : (k : ℕ) → l .used < k → placeAt r k ≡ placeAt l k
+  -- row 1 does not come up by an offer
+  pub still-sound : sound r s′ ≡ true
+  -- "Every offer settles all stored updates."
+  pub settles : (us : List Update) → Stands l s us → Stands r s′ (us ++ (u ∷ []))
+
+-- the offered bytes are a well-formed update, and row 1 does not apply
+pub record Formed (l : Ledger) (s b : List ℕ) : Type 0 where
+  pub is-sound : sound l s ≡ true
+  pub value : Update
+  pub decodes : decode b ≡ update value
+
+-- What an offer of the bytes b to the ledger l and the store s yields: the answer beside the new ledger, and the store as it is left. A constructor for
+-- each row of the table, in its order, and for the two accepted answers.
+pub data Offering (l : Ledger) (s b : List ℕ) : Offered → List ℕ → Type 0 where
+  -- row 1
+  unfit : sound l s ≡ false → Offering l s b (left l (Refused Unfit)) s
+  -- rows 2 to 9
+  malformed : (m : Malformed) → sound l s ≡ true → decode b ≡ refused (numberOf m) → Offering l s b (left l (Refused (Bad m))) s
+  -- "a known id gets its standing before 10"; "a known update changes nothing"
+  known : (u : Update) (k : ℕ) → sound l s ≡ true → decode b ≡ update u → findIn l (SHA-256 b) ≡ some k
+      → Offering l s b (left l (Known (placeAt l k .standing))) s
+  -- row 10
+  full : (u : Update) → sound l s ≡ true → decode b ≡ update u → findIn l (SHA-256 b) ≡ none → l .used ≡ places
+      → Offering l s b (left l (Refused Full)) s
+  -- "the update's own standing, as the rules give it once the offer has settled, with the two counts": "held after less held before, and void after less
+  -- void before"
+  taken : (u : Update) (r : Ledger) → sound l s ≡ true → decode b ≡ update u → findIn l (SHA-256 b) ≡ none → l .used < places
+      → Took l s b u r (written s (maxLength * l .used) b)
+      → Offering l s b
+      (record {
+        answer = Taken (placeAt r (l .used) .standing) (countOf isHeld r - countOf isHeld l) (countOf isVoid r - countOf isVoid l);
+        ledger = r;
+      })
+      (written s (maxLength * l .used) b)

@@ -1,0 +1,45 @@
+// Writing an update that rows 1, 4, 8 and 9 let through.
+ghost use Rattle.writing.specs.Write.{Writing, WellAsked};
+use format::bounds::MAX_LENGTH;
+use refusals::Refusal;
+use report::page::put;
+use state::Judgement;
+use state::Ledger;
+use state::judge::judge_bytes;
+use writer::Kind;
+
+// What the writer answers: how many bytes of the output buffer the update takes.
+pub enum Wrote {
+    Written(usize),
+    Refused(Refusal),
+}
+
+// Composes the update, judges it as if it were offered, and copies it out.
+pub fn write_asked(
+    ledger: Ledger,
+    store: &[u8],
+    author: u8,
+    kind: Kind,
+    tag: [u8; 16],
+    id: [u8; 32],
+    named: &[u8],
+    out: &mut [u8],
+) -> Wrote
+    requires { ⌜ WellAsked ledger (now store) author kind (now named) ⌝ }
+    ensures { λ r. ⌜ Writing ledger (now (store .entry)) author kind tag id (now (named .entry)) (now (out .entry)) r (now (out .exit)) ⌝ }
+{
+    let mut bytes = [0u8; MAX_LENGTH];
+    let end = writer::compose(ledger, store, author, kind, tag, id, named, &mut bytes);
+    let update = &bytes[..end];
+    match judge_bytes(ledger, store, update) {
+        Judgement::Holds(_) => {
+            if out.len() < end {
+                return Wrote::Refused(Refusal::Short);
+            }
+            put(out, 0, update);
+            Wrote::Written(end)
+        }
+        Judgement::Fails => Wrote::Refused(Refusal::Invalid),
+        Judgement::Waits => Wrote::Refused(Refusal::Invalid),
+    }
+}
