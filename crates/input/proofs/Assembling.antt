@@ -9,7 +9,7 @@ use lib.ListN.{length, take, drop, length-append, length-drop}
 use lib.Seq.{length-take-le, take-at, take-add}
 use Rattle.state.specs.State.{written}
 use Rattle.report.specs.Text.{Prints}
-use Rattle.input.specs.Reading.{maxLine}
+use Rattle.reading.specs.Reading.{maxLine}
 use Rattle.input.specs.Lines.{Appends, FirstNewline, Takes}
 
 module _ (buffer : List ℕ) (fill : ℕ) (text : List ℕ) where

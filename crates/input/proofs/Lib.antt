@@ -1,4 +1,2 @@
 pub mod Searching
-pub mod Digits
 pub mod Assembling
-pub mod Framing

@@ -1,3 +1,2 @@
-pub mod Reading
 pub mod Lines
-pub mod LineLaws
+pub mod KeepLaws

@@ -1,17 +1,14 @@
--- Lines as a lent buffer keeps them: how they are assembled from pieces of the input, and read.
+-- Lines as a lent buffer keeps them, assembled from pieces of the input.
 -- Assumes nothing.
 use mathlib.Core.Path.{_≡_}
-use Prim.Native.Nat.{ℕ, _+_, _-_, _*_, _≤_, _<_, min}
+use Prim.Native.Nat.{ℕ, _+_, _-_, _≤_, _<_, min}
 use mathlib.Core.List.{List, [], _∷_, _++_}
-use mathlib.Core.Option.{Option, none, some}
-use mathlib.Core.Bool.{Bool, true, false, cond, _&&_}
+use mathlib.Core.Bool.{Bool, true, false}
 use lib.ListN.{length, take, drop}
-use lib.Dec.{leb, eqb}
+use lib.Dec.{eqb}
 use Rattle.keys.specs.Member.{any}
 use Rattle.input.specs.declared.Assembled.{Assembled}
-use Rattle.input.specs.declared.Line.{Line}
-use Rattle.input.specs.declared.Line.the-variants.{Offered, Unread}
-use Rattle.input.specs.Reading.{unhex, maxLine, readLine}
+use Rattle.reading.specs.Reading.{maxLine}
 
 -- is there a newline?
 unfoldable pub broken : List ℕ → Bool
@@ -47,21 +44,3 @@ pub record Takes (buffer : List ℕ) (fill : ℕ) (input : List ℕ) (r : Assemb
   pub goes-on : r .ended ≡ false → r .consumed ≡ length input
   pub some-taken : 0 < length input → 0 < r .consumed
   pub keeps : (line : List ℕ) → Keeps buffer fill line → Keeps buffer′ (r .fill) (line ++ text)
-
--- the value of a digit; 16 for any other byte
-abbrev pub digitValue : ℕ → ℕ
-digitValue c = cond (leb 48 c && leb c 57) (c - 48) (cond (leb 97 c && leb c 102) (c - 87) 16)
-
--- how the line in the buffer reads
-unfoldable pub lineIn : List ℕ → ℕ → Option (List ℕ)
-lineIn buffer fill = cond (leb fill maxLine && leb fill (length buffer)) (readLine (take fill buffer)) none
-
-abbrev pub lineFor : Option (List ℕ) → Line
-lineFor none = Unread
-lineFor (some b) = Offered (length b)
-
--- the digits from the eighth byte of the buffer on spell n bytes
-pub record Spells (buffer : List ℕ) (n : ℕ) : Type 0 where
-  pub room : 2 * n + 8 ≤ length buffer
-  pub bytes : List ℕ
-  pub digits : unhex (take (2 * n) (drop 7 buffer)) ≡ some bytes

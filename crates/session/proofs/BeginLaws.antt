@@ -8,11 +8,11 @@ use mathlib.Core.Option.{Option, none, some, Option·some-injective}
 use lib.ListN.{length, take, drop}
 use Rattle.rules.specs.Report.{ascii}
 use Rattle.report.specs.Text.{Prints}
-use Rattle.input.specs.declared.Line.{Line}
-use Rattle.input.specs.declared.Line.the-variants.{Offered, Unread as NotRead}
-use Rattle.input.specs.Reading.{unhex}
-use Rattle.input.specs.Lines.{lineIn, lineFor, Spells}
-use Rattle.input.specs.LineLaws.{lineIn-spells}
+use Rattle.reading.specs.declared.Line.{Line}
+use Rattle.reading.specs.declared.Line.the-variants.{Offered, Unread as NotRead}
+use Rattle.reading.specs.Reading.{unhex}
+use Rattle.reading.specs.Line.{lineIn, lineFor, Spells}
+use Rattle.reading.specs.LineLaws.{lineIn-spells}
 use Rattle.session.specs.declared.Begun.{Begun}
 use Rattle.session.specs.declared.Begun.the-variants.{Unread, Offers}
 use Rattle.session.specs.Answers.{Begins, unread, offers}

@@ -7,7 +7,7 @@ use mathlib.Core.Option.{none, some}
 use lib.ListN.{length, take}
 use Rattle.rules.specs.Report.{ascii}
 use Rattle.report.specs.Text.{Prints}
-use Rattle.input.specs.Lines.{lineIn}
+use Rattle.reading.specs.Line.{lineIn}
 use Rattle.offering.specs.declared.Answer.{Answer}
 use Rattle.offering.specs.declared.Answer.the-variants.{Taken, Known, Refused}
 use Rattle.session.specs.declared.Begun.{Begun}

@@ -10,7 +10,7 @@ use Rattle.rules.specs.Settle.{rounds, startAll, settled, heads, marks, tags, w
 use Rattle.rules.specs.Report.{codes, ascii, digit, decimalIn, decimal, part, reportText, reportOf}
 use Rattle.ledger.specs.Calls.{acceptDecoded}
 use Rattle.ledger.specs.Answers.{offerText, refusedText}
-use Rattle.input.specs.Reading.{digitOf, byteOf, withByte, unhex, framed, readLine}
+use Rattle.reading.specs.Reading.{digitOf, byteOf, withByte, unhex, framed, readLine}
 use Rattle.session.specs.Session.{answerLine, endLine, feedByte, feed, lastLine, finish, outputOf}
 
 -- "Given the two lines `(offer )` and `(hello)`, the whole output is:"

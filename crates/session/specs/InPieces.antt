@@ -8,8 +8,8 @@ use Rattle.state.specs.declared.Ledger.{Ledger}
 use Rattle.state.specs.State.{storeLength}
 use Rattle.state.specs.TakeLaws.{fresh-stands}
 use Rattle.ledger.specs.Ask.{freshLedger}
-use Rattle.input.specs.Reading.{maxLine}
-use Rattle.input.specs.LineLaws.{keeps-none}
+use Rattle.reading.specs.Reading.{maxLine}
+use Rattle.input.specs.KeepLaws.{keeps-none}
 use Rattle.session.specs.declared.Fed.{Fed}
 use Rattle.session.specs.declared.Finished.the-variants.{Written}
 use Rattle.session.specs.Session.{begin, feed, maxInput, outputOf}

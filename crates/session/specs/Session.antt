@@ -10,7 +10,7 @@ use Rattle.format.specs.Update.{Update}
 use Rattle.format.specs.Decode.{decode}
 use Rattle.rules.specs.Report.{ascii, reportOf}
 use Rattle.state.specs.Stands.{ident}
-use Rattle.input.specs.Reading.{readLine}
+use Rattle.reading.specs.Reading.{readLine}
 use Rattle.ledger.specs.Calls.{acceptDecoded}
 use Rattle.ledger.specs.Answers.{offerText}
 

@@ -7,7 +7,7 @@ mod answer;
 
 use answer::begin_answer;
 use answer::print_answer;
-use input::MAX_OFFERED;
+use reading::MAX_OFFERED;
 use input::take_line;
 use ledger::Ledger;
 use ledger::Reported;

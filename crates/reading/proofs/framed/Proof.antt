@@ -4,9 +4,9 @@ use mathlib.Core.Path.{sym, _∙_}
 use borrow.Author.Needs.{needs}
 use lib.Seq.{length-take-le}
 use denote.Ref.{now}
-use Rattle.input.proofs.Framing.{framed-short, framed-by}
-use Rattle.input.proofs.framed.Statement.{statement}
-use Rattle.input.proofs.framed.Tie as tie
+use Rattle.reading.proofs.Framing.{framed-short, framed-by}
+use Rattle.reading.proofs.framed.Statement.{statement}
+use Rattle.reading.proofs.framed.Tie as tie
 
 pub framed-spec : {M : Type 1} → statement M
 framed-spec =

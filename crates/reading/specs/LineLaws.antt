@@ -1,4 +1,4 @@
--- The laws of lines in the buffer: a line that is kept reads as the line, and the digits of one that reads as an offer spell its bytes.
+-- The laws of lines in a buffer: the digits of one that reads as an offer spell its bytes.
 -- Assumes nothing.
 use Prim.Native.Nat.{ℕ, _+_, _-_, _*_, _≤_}
 use native.Mathlib.Omega.{arith}
@@ -9,12 +9,12 @@ use mathlib.Core.Bool.{Bool, true, false, cond, _&&_}
 use lib.ListN.{length, take, drop, length-drop, take-append-drop}
 use lib.Seq.{length-take-le}
 use lib.Dec.{leb, ltb}
-use borrow.Author.Tests.{leb-true, leb-false, le-leb, lt-leb, lt-ltb}
+use borrow.Author.Tests.{leb-true, lt-ltb}
 use Rattle.keys.specs.Member.{all}
 use Rattle.keys.specs.BoolLaws.{and-true→, and-true}
 use Rattle.state.specs.ListFacts.{part-append}
-use Rattle.input.specs.Reading.{digitOf, byteOf, withByte, unhex, maxLine, framed, readLine}
-use Rattle.input.specs.Lines.{Keeps, digitValue, lineIn, Spells}
+use Rattle.reading.specs.Reading.{digitOf, byteOf, withByte, unhex, maxLine, framed, readLine}
+use Rattle.reading.specs.Line.{digitValue, lineIn, Spells}
 
 -- is the byte a digit?
 abbrev pub isDigit : ℕ → Bool
@@ -122,26 +122,6 @@ readLine-offers line {b} e = step (leb (length line) maxLine) (framed line) refl
     step true true p q e = record { short = leb-true _ _ p; frame = q; spelled = e }
     step true false p q e = absurd (none≢some e)
     step false q p f e = absurd (none≢some e)
-
--- at the start no bytes are kept
-pub keeps-none : {buffer : List ℕ} → length buffer ≡ maxLine → Keeps buffer 0 []
-keeps-none e = record { sized = e; counted = refl; kept = λ h. refl }
-
--- a line that is kept reads as the line
-pub keeps-read : {buffer line : List ℕ} {fill : ℕ} → Keeps buffer fill line → lineIn buffer fill ≡ readLine line
-unfolding lineIn readLine
-keeps-read {buffer} {line} {fill} k = step (leb fill maxLine) refl
-  where
-    step : (p : Bool) → leb fill maxLine ≡ p
-        → cond (p && leb fill (length buffer)) (readLine (take fill buffer)) none
-        ≡ cond (leb (length line) maxLine && framed line) (unhex (take (length line - 8) (drop 7 line))) none
-    step true p =
-        let h = leb-true fill maxLine p in
-        ap (λ (b : Bool). cond b (readLine (take fill buffer)) none) (le-leb fill (length buffer) (omega (arith, k .sized)))
-        ∙ ap readLine (k .kept h)
-    step false p =
-        let h = leb-false fill maxLine p in
-        sym (ap (λ (b : Bool). cond (b && framed line) (unhex (take (length line - 8) (drop 7 line))) none) (lt-leb (length line) maxLine (omega (arith, k .counted))))
 
 -- the digits of the line in the buffer, from its eighth byte on
 pub lineIn-offers : (buffer : List ℕ) (fill : ℕ) {b : List ℕ} → lineIn buffer fill ≡ some b → (fill ≤ length buffer) × Offers (take fill buffer) b

@@ -8,10 +8,10 @@ use lib.Seq.{take-all}
 use lib.Dec.{ltb}
 use denote.Ref.{now}
 use Rattle.keys.specs.Member.{all}
-use Rattle.input.specs.LineLaws.{isDigit}
-use Rattle.input.proofs.Digits.{digits-next}
-use Rattle.input.proofs.all_digits.Statement.{statement}
-use Rattle.input.proofs.all_digits.Tie as tie
+use Rattle.reading.specs.LineLaws.{isDigit}
+use Rattle.reading.proofs.Digits.{digits-next}
+use Rattle.reading.proofs.all_digits.Statement.{statement}
+use Rattle.reading.proofs.all_digits.Tie as tie
 
 abbrev Inv-loop : tie.InvT-loop
 Inv-loop s largest₀ i₀ largest i = (i ≤ length s) × (ltb largest 16 ≡ all isDigit (take i s))

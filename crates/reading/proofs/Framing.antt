@@ -14,10 +14,10 @@ use Rattle.keys.specs.Order.{same}
 use Rattle.keys.specs.Member.{all}
 use Rattle.keys.specs.BoolLaws.{true-false}
 use Rattle.rules.specs.Report.{codes, ascii}
-use Rattle.input.specs.declared.Line.the-variants.{Offered, Unread}
-use Rattle.input.specs.Reading.{unhex, maxLine, framed, readLine}
-use Rattle.input.specs.Lines.{lineIn, lineFor}
-use Rattle.input.specs.LineLaws.{isDigit, unhex-length, unhex-digits, unhex-whole, framed-long}
+use Rattle.reading.specs.declared.Line.the-variants.{Offered, Unread}
+use Rattle.reading.specs.Reading.{unhex, maxLine, framed, readLine}
+use Rattle.reading.specs.Line.{lineIn, lineFor}
+use Rattle.reading.specs.LineLaws.{isDigit, unhex-length, unhex-digits, unhex-whole, framed-long}
 
 -- `(offer `
 abbrev pub offerWord : List ℕ

@@ -14,9 +14,9 @@ use borrow.Author.Tests.{ltb-true, ltb-false, lt-ltb, le-ltb, le-leb, lt-leb}
 use Rattle.keys.specs.Member.{all}
 use Rattle.keys.specs.BoolLaws.{and-true}
 use Rattle.keys.specs.MemberLaws.{all→∈, getD-∈}
-use Rattle.input.specs.Reading.{unhex}
-use Rattle.input.specs.Lines.{digitValue, Spells}
-use Rattle.input.specs.LineLaws.{isDigit, none≢some, unhex-more, unhex-begins, unhex-digits}
+use Rattle.reading.specs.Reading.{unhex}
+use Rattle.reading.specs.Line.{digitValue, Spells}
+use Rattle.reading.specs.LineLaws.{isDigit, none≢some, unhex-more, unhex-begins, unhex-digits}
 
 -- a byte between two others, by its tests
 module _ (lo hi b : ℕ) where

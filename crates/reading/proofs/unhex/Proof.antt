@@ -7,10 +7,10 @@ use native.Mathlib.Omega.{arith}
 use borrow.Author.Needs.{needs}
 use lib.ListN.{length, take, drop, length-set}
 use denote.Ref.{now}
-use Rattle.input.specs.Reading.{unhex}
-use Rattle.input.proofs.Digits.{high-small, low-small, spelled-next}
-use Rattle.input.proofs.unhex.Statement.{statement}
-use Rattle.input.proofs.unhex.Tie as tie
+use Rattle.reading.specs.Reading.{unhex}
+use Rattle.reading.proofs.Digits.{high-small, low-small, spelled-next}
+use Rattle.reading.proofs.unhex.Statement.{statement}
+use Rattle.reading.proofs.unhex.Tie as tie
 
 abbrev Inv-loop : tie.InvT-loop
 Inv-loop line n update₀ i₀ update i =

@@ -2,9 +2,9 @@
 -- Assumes nothing.
 use mathlib.Core.Logic.{⊎-elim}
 use borrow.Author.Needs.{needs}
-use Rattle.input.proofs.Digits.{between, above, below, numeral, letter, no-digit}
-use Rattle.input.proofs.digit_value.Statement.{statement}
-use Rattle.input.proofs.digit_value.Tie as tie
+use Rattle.reading.proofs.Digits.{between, above, below, numeral, letter, no-digit}
+use Rattle.reading.proofs.digit_value.Statement.{statement}
+use Rattle.reading.proofs.digit_value.Tie as tie
 
 pub digit-value-spec : {M : Type 1} → statement M
 digit-value-spec =

@@ -8,11 +8,11 @@ use borrow.Author.Needs.{needs}
 use borrow.Author.Tests.{not-true, not-false}
 use lib.ListN.{length}
 use denote.Ref.{now}
-use Rattle.input.specs.Reading.{framed}
-use Rattle.input.specs.LineLaws.{framed-long}
-use Rattle.input.proofs.Framing.{unframed, odd, no-digits, offered}
-use Rattle.input.proofs.read_text.Statement.{statement}
-use Rattle.input.proofs.read_text.Tie as tie
+use Rattle.reading.specs.Reading.{framed}
+use Rattle.reading.specs.LineLaws.{framed-long}
+use Rattle.reading.proofs.Framing.{unframed, odd, no-digits, offered}
+use Rattle.reading.proofs.read_text.Statement.{statement}
+use Rattle.reading.proofs.read_text.Tie as tie
 
 -- past the first test the line has its frame, and is long enough for it
 frame : (c : tie.Else1) → framed (now (c .before .before .before .args .line)) ≡ true

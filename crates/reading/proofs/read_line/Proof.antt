@@ -5,9 +5,9 @@ use native.Mathlib.Omega.{arith}
 use borrow.Author.Needs.{needs}
 use lib.Seq.{length-take-le}
 use denote.Ref.{now}
-use Rattle.input.proofs.Framing.{too-long, not-there, there}
-use Rattle.input.proofs.read_line.Statement.{statement}
-use Rattle.input.proofs.read_line.Tie as tie
+use Rattle.reading.proofs.Framing.{too-long, not-there, there}
+use Rattle.reading.proofs.read_line.Statement.{statement}
+use Rattle.reading.proofs.read_line.Tie as tie
 
 pub read-line-spec : {M : Type 1} → statement M
 read-line-spec =
