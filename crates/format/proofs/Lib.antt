@@ -2,4 +2,3 @@ pub mod Clip
 pub mod Ascent
 pub mod BodyTests
 pub mod Chain
-pub mod HeldReader

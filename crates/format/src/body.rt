@@ -19,8 +19,8 @@ use crate::bounds::MAX_NAMED;
 use crate::bounds::REMOVE;
 use crate::bounds::TAG_LENGTH;
 use crate::ids::ascends;
-use crate::reader::byte_past;
-use crate::reader::wide;
+use reader::byte_past;
+use reader::wide;
 
 // Whether a Remove's count byte is missing or too large, or its named ids do not end with the bytes.
 fn wrong_remove(s: &[u8], at: usize) -> bool

@@ -7,7 +7,6 @@ ghost use Rattle.format.specs.Reading.{decodedOf, readingOf, numberOf};
 mod body;
 pub mod bounds;
 mod ids;
-mod reader;
 
 use bounds::MAX_AUTHOR;
 use bounds::MAX_LENGTH;

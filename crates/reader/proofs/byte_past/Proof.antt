@@ -38,26 +38,26 @@ use denote.Triple.Table.{entered, cited}
 use denote.Triple.Walked.{says, Stays, stay-none, stay-none-slice, walkOf, goes-none, goes-none-slice, Walks, ends-at, walked, walk-meets}
 use denote.Exit.{yes}
 use denote.Triple.Clauses.{ensured, lasts}
-use Rattle.format.specs.declared.reader.Reader.{Reader}
-use Rattle.format.proofs.HeldReader.{Row}
-use Rattle.format.proofs.reader.Reader as T
-use Rattle.format.proofs.reader.Reader.Laws as T′
-use Rattle.format.proofs.reader.start as start
-use Rattle.format.proofs.reader.start.Symbol as start-def
-use Rattle.format.proofs.reader.start.Symbol.{name as #start}
-use Rattle.format.proofs.reader.start.Met as start-thm
-use Rattle.format.proofs.reader.past as past
-use Rattle.format.proofs.reader.past.Symbol as past-def
-use Rattle.format.proofs.reader.past.Symbol.{name as #past}
-use Rattle.format.proofs.reader.past.Met as past-thm
-use Rattle.format.proofs.reader.byte as byte
-use Rattle.format.proofs.reader.byte.Symbol as byte-def
-use Rattle.format.proofs.reader.byte.Symbol.{name as #byte}
-use Rattle.format.proofs.reader.byte.Met as byte-thm
-use Rattle.format.proofs.reader.byte_past.Key.{name as #byte-past}
-use Rattle.format.proofs.reader.byte_past as byte-past
-use Rattle.format.proofs.reader.byte_past.Statement as stated
-use Rattle.format.proofs.reader.byte_past.Code as code
+use Rattle.reader.specs.declared.Reader.{Reader}
+use Rattle.reader.proofs.HeldReader.{Row}
+use Rattle.reader.proofs.Reader as T
+use Rattle.reader.proofs.Reader.Laws as T′
+use Rattle.reader.proofs.start as start
+use Rattle.reader.proofs.start.Symbol as start-def
+use Rattle.reader.proofs.start.Symbol.{name as #start}
+use Rattle.reader.proofs.start.Met as start-thm
+use Rattle.reader.proofs.past as past
+use Rattle.reader.proofs.past.Symbol as past-def
+use Rattle.reader.proofs.past.Symbol.{name as #past}
+use Rattle.reader.proofs.past.Met as past-thm
+use Rattle.reader.proofs.byte as byte
+use Rattle.reader.proofs.byte.Symbol as byte-def
+use Rattle.reader.proofs.byte.Symbol.{name as #byte}
+use Rattle.reader.proofs.byte.Met as byte-thm
+use Rattle.reader.proofs.byte_past.Key.{name as #byte-past}
+use Rattle.reader.proofs.byte_past as byte-past
+use Rattle.reader.proofs.byte_past.Statement as stated
+use Rattle.reader.proofs.byte_past.Code as code
 
 abbrev stayed : Stays (byte-past.ended .signature .params) (byte-past.ended .kept)
 stayed = (stay-none-slice (0 ∷ []) tt (plain (λ _. u8)) yes, (stay-none (λ _. usize) yes, tt))
@@ -202,6 +202,6 @@ byte-past-spec 𝓤 H 𝓜 𝓖 𝓡 =
     entered 𝓤 H (tripleOf 𝓤 H (𝓖 .A) byte-past.signature (byte-past.spec 𝓤 H (𝓖 .A) (𝓜 .mem) (𝓡 .run)))
     (tables 𝓤 H 𝓜 𝓡 code.env .C) (tables 𝓤 H 𝓜 𝓡 code.env .Λ) #byte-past code.function (code.unfolded 𝓤 H 𝓜 𝓡)
     (byte-past-meets 𝓤 H (𝓖 .A) (givenOf 𝓤 H 𝓜 𝓖) (𝓜 .mem) (𝓡 .run) (tablesOf 𝓤 H 𝓜 (tables 𝓤 H 𝓜 𝓡 code.env))
-    (cited 𝓤 H (Start 𝓤 H (𝓖 .A) (𝓜 .mem) (𝓡 .run)) 𝓜 𝓡 code.env #start start-def.routine code.calls-format·reader·start (start-thm.met 𝓤 H 𝓜 𝓖 𝓡))
-    (cited 𝓤 H (Past 𝓤 H (𝓖 .A) (𝓜 .mem) (𝓡 .run)) 𝓜 𝓡 code.env #past past-def.routine code.calls-format·reader·past (past-thm.met 𝓤 H 𝓜 𝓖 𝓡))
-    (cited 𝓤 H (Byte 𝓤 H (𝓖 .A) (𝓜 .mem) (𝓡 .run)) 𝓜 𝓡 code.env #byte byte-def.routine code.calls-format·reader·byte (byte-thm.met 𝓤 H 𝓜 𝓖 𝓡)))
+    (cited 𝓤 H (Start 𝓤 H (𝓖 .A) (𝓜 .mem) (𝓡 .run)) 𝓜 𝓡 code.env #start start-def.routine code.calls-reader·start (start-thm.met 𝓤 H 𝓜 𝓖 𝓡))
+    (cited 𝓤 H (Past 𝓤 H (𝓖 .A) (𝓜 .mem) (𝓡 .run)) 𝓜 𝓡 code.env #past past-def.routine code.calls-reader·past (past-thm.met 𝓤 H 𝓜 𝓖 𝓡))
+    (cited 𝓤 H (Byte 𝓤 H (𝓖 .A) (𝓜 .mem) (𝓡 .run)) 𝓜 𝓡 code.env #byte byte-def.routine code.calls-reader·byte (byte-thm.met 𝓤 H 𝓜 𝓖 𝓡)))

@@ -35,13 +35,13 @@ use denote.Triple.Spec.{Meets, tripleOf}
 use denote.Triple.Table.{entered}
 use denote.Triple.Walked.{says, Stays, stay-none-slice, walkOf, goes-none-slice, Walks, ends-at, walked, walk-meets}
 use denote.Exit.{yes}
-use Rattle.format.specs.declared.reader.Reader.{Reader}
-use Rattle.format.proofs.HeldReader.{Held, laws}
-use Rattle.format.proofs.reader.Reader.Laws as T′
-use Rattle.format.proofs.reader.start.Key.{name as #start}
-use Rattle.format.proofs.reader.start as start
-use Rattle.format.proofs.reader.start.Statement as stated
-use Rattle.format.proofs.reader.start.Code as code
+use Rattle.reader.specs.declared.Reader.{Reader}
+use Rattle.reader.proofs.HeldReader.{Held, laws}
+use Rattle.reader.proofs.Reader.Laws as T′
+use Rattle.reader.proofs.start.Key.{name as #start}
+use Rattle.reader.proofs.start as start
+use Rattle.reader.proofs.start.Statement as stated
+use Rattle.reader.proofs.start.Code as code
 
 abbrev stayed : Stays (start.ended .signature .params) (start.ended .kept)
 stayed = (stay-none-slice (0 ∷ []) tt (plain (λ _. u8)) yes, tt)

@@ -38,17 +38,17 @@ use denote.Triple.Table.{entered, cited}
 use denote.Triple.Walked.{says, Stays, stay-none, walkOf, goes-none, Walks, ends-at, walked, walk-meets}
 use denote.Exit.{yes}
 use denote.Triple.Clauses.{ensured, lasts}
-use Rattle.format.specs.declared.reader.Reader.{Reader}
-use Rattle.format.proofs.HeldReader.{Row, Held, laws, fields, Typed, typed}
-use Rattle.format.proofs.reader.Reader.Laws as T′
-use Rattle.format.proofs.reader.byte_at as byte-at
-use Rattle.format.proofs.reader.byte_at.Symbol as byte-at-def
-use Rattle.format.proofs.reader.byte_at.Symbol.{name as #byte-at}
-use Rattle.format.proofs.reader.byte_at.Met as byte-at-thm
-use Rattle.format.proofs.reader.byte.Key.{name as #byte}
-use Rattle.format.proofs.reader.byte as byte
-use Rattle.format.proofs.reader.byte.Statement as stated
-use Rattle.format.proofs.reader.byte.Code as code
+use Rattle.reader.specs.declared.Reader.{Reader}
+use Rattle.reader.proofs.HeldReader.{Row, Held, laws, fields, Typed, typed}
+use Rattle.reader.proofs.Reader.Laws as T′
+use Rattle.reader.proofs.byte_at as byte-at
+use Rattle.reader.proofs.byte_at.Symbol as byte-at-def
+use Rattle.reader.proofs.byte_at.Symbol.{name as #byte-at}
+use Rattle.reader.proofs.byte_at.Met as byte-at-thm
+use Rattle.reader.proofs.byte.Key.{name as #byte}
+use Rattle.reader.proofs.byte as byte
+use Rattle.reader.proofs.byte.Statement as stated
+use Rattle.reader.proofs.byte.Code as code
 
 abbrev stayed : Stays (byte.ended .signature .params) (byte.ended .kept)
 stayed = (stay-none Row yes, tt)
@@ -135,4 +135,4 @@ byte-spec 𝓤 H 𝓜 𝓖 𝓡 =
     entered 𝓤 H (tripleOf 𝓤 H (𝓖 .A) byte.signature (byte.spec 𝓤 H (𝓖 .A) (𝓜 .mem) (𝓡 .run)))
     (tables 𝓤 H 𝓜 𝓡 code.env .C) (tables 𝓤 H 𝓜 𝓡 code.env .Λ) #byte code.function (code.unfolded 𝓤 H 𝓜 𝓡)
     (byte-meets 𝓤 H (𝓖 .A) (givenOf 𝓤 H 𝓜 𝓖) (𝓜 .mem) (𝓡 .run) (tablesOf 𝓤 H 𝓜 (tables 𝓤 H 𝓜 𝓡 code.env))
-    (cited 𝓤 H (ByteAt 𝓤 H (𝓖 .A) (𝓜 .mem) (𝓡 .run)) 𝓜 𝓡 code.env #byte-at byte-at-def.routine code.calls-format·reader·byte-at (byte-at-thm.met 𝓤 H 𝓜 𝓖 𝓡)))
+    (cited 𝓤 H (ByteAt 𝓤 H (𝓖 .A) (𝓜 .mem) (𝓡 .run)) 𝓜 𝓡 code.env #byte-at byte-at-def.routine code.calls-reader·byte-at (byte-at-thm.met 𝓤 H 𝓜 𝓖 𝓡)))

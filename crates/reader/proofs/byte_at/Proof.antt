@@ -4,8 +4,8 @@ use mathlib.Core.Path.{sym}
 use borrow.Author.Needs.{needs}
 use lib.ListN.{List·getD-eq-default}
 use denote.Ref.{now}
-use Rattle.format.proofs.reader.byte_at.Statement.{statement}
-use Rattle.format.proofs.reader.byte_at.Tie as tie
+use Rattle.reader.proofs.byte_at.Statement.{statement}
+use Rattle.reader.proofs.byte_at.Tie as tie
 
 pub byte-at-spec : {M : Type 1} → statement M
 byte-at-spec =

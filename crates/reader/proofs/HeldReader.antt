@@ -15,9 +15,9 @@ use denote.Signature.{namedLft}
 use denote.Struct.Declared.{Declared}
 use denote.Struct.Laws as LL
 use denote.Struct.Values.{Values}
-use Rattle.format.specs.declared.reader.Reader.{Reader}
-use Rattle.format.proofs.reader.Reader as T
-use Rattle.format.proofs.reader.Reader.Laws as T′
+use Rattle.reader.specs.declared.Reader.{Reader}
+use Rattle.reader.proofs.Reader as T
+use Rattle.reader.proofs.Reader.Laws as T′
 
 abbrev pub Row : Lfts 1 → RattleType
 Row κs = T.the-row (namedLft 1 0 tt κs)

@@ -32,13 +32,13 @@ use denote.Triple.Spec.{Meets, tripleOf}
 use denote.Triple.Table.{entered}
 use denote.Triple.Walked.{says, needs, Stays, stay-none, walkOf, goes-none, Walks, ends-at, walked, walk-meets}
 use denote.Exit.{yes}
-use Rattle.format.specs.declared.reader.Reader.{Reader}
-use Rattle.format.proofs.HeldReader.{Row, Held, laws, fields, Typed, typed}
-use Rattle.format.proofs.reader.Reader.Laws as T′
-use Rattle.format.proofs.reader.past.Key.{name as #past}
-use Rattle.format.proofs.reader.past as past
-use Rattle.format.proofs.reader.past.Statement as stated
-use Rattle.format.proofs.reader.past.Code as code
+use Rattle.reader.specs.declared.Reader.{Reader}
+use Rattle.reader.proofs.HeldReader.{Row, Held, laws, fields, Typed, typed}
+use Rattle.reader.proofs.Reader.Laws as T′
+use Rattle.reader.proofs.past.Key.{name as #past}
+use Rattle.reader.proofs.past as past
+use Rattle.reader.proofs.past.Statement as stated
+use Rattle.reader.proofs.past.Code as code
 
 abbrev stayed : Stays (past.ended .signature .params) (past.ended .kept)
 stayed = (stay-none Row yes, (stay-none (λ _. usize) yes, tt))
