@@ -8,7 +8,7 @@ use Rattle.keys.specs.MemberLaws.{∈-cast, ∈-append-left, ∈-append-right, 
 use Rattle.keys.specs.Distinct.{Distinct}
 use Rattle.keys.specs.DistinctLaws.{distinct-map}
 use Rattle.keys.specs.SortLaws.{∈-sort, sort-∈, sort-ascending, sort-distinct, ascending-unique}
-use Rattle.sha256.specs.Fips180.{SHA-256}
+use Rattle.fips180.specs.Fips180.{SHA-256}
 use Rattle.format.specs.Update.{Update, encode}
 use Rattle.format.specs.Decode.{Decoded, refused, update, decode, updateOf}
 use Rattle.format.specs.Rows.{update-none}

@@ -7,7 +7,7 @@ use mathlib.Core.Bool.{Bool, true, false}
 use lib.ListN.{length}
 use Rattle.keys.specs.Member.{_∈_, keep}
 use Rattle.keys.specs.Sort.{sort}
-use Rattle.sha256.specs.Fips180.{SHA-256}
+use Rattle.fips180.specs.Fips180.{SHA-256}
 use Rattle.format.specs.Decode.{Decoded, refused, update, decode, updateOf}
 use Rattle.rules.specs.Report.{reportOf}
 use Rattle.state.specs.State.{places}

@@ -17,7 +17,7 @@ use Rattle.keys.specs.BoolLaws.{true-false, not-true→false, and-true→}
 use Rattle.keys.specs.OrderLaws.{same→eq}
 use Rattle.keys.specs.MemberLaws.{any→∈}
 use Rattle.keys.specs.DistinctLaws.{distinct-eq}
-use Rattle.sha256.specs.Fips180.{SHA-256}
+use Rattle.fips180.specs.Fips180.{SHA-256}
 use Rattle.format.specs.Update.{Id, Update}
 use Rattle.format.specs.Decode.{Decoded, refused, update, decode}
 use Rattle.keys.specs.Distinct.{Distinct}

@@ -12,7 +12,7 @@ use lib.Dec.{ltb}
 use Rattle.keys.specs.Member.{_∈_, member}
 use Rattle.keys.specs.BoolLaws.{true-false}
 use Rattle.keys.specs.MemberLaws.{∈-cast, ∈-map, map-∈, ∈→member, member-false}
-use Rattle.sha256.specs.Fips180.{SHA-256}
+use Rattle.fips180.specs.Fips180.{SHA-256}
 use Rattle.format.specs.Update.{Id, Update}
 use Rattle.format.specs.Decode.{Decoded, refused, update, decode}
 use Rattle.format.specs.Laws.{decode-sound}

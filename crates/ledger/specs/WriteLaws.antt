@@ -10,7 +10,7 @@ use lib.ListN.{length, take, drop, length-append}
 use lib.Seq.{take-at, getD-append-seam}
 use Rattle.keys.specs.Member.{_∈_}
 use Rattle.keys.specs.BoolLaws.{true-false}
-use Rattle.sha256.specs.Fips180.{SHA-256}
+use Rattle.fips180.specs.Fips180.{SHA-256}
 use Rattle.format.specs.Update.{Id, maxAuthor, idLength, tagLength, Operation, Update, encode}
 use Rattle.format.specs.Decode.{refused, decode, update}
 use Rattle.rules.specs.Standing.{Ancestor, Held}

@@ -5,7 +5,7 @@ use Prim.Native.Nat.{ℕ, _-_, _*_, _<_}
 use mathlib.Core.List.{List}
 use mathlib.Core.Option.{none, some}
 use mathlib.Core.Bool.{true, false}
-use Rattle.sha256.specs.Fips180.{SHA-256}
+use Rattle.fips180.specs.Fips180.{SHA-256}
 use Rattle.format.specs.Update.{Id, maxLength}
 use Rattle.format.specs.Decode.{decode}
 use Rattle.format.specs.Reading.{decodedOf, valueOf}

@@ -12,7 +12,7 @@ use lib.ListN.{length, length-set}
 use lib.Seq.{getD-set-same, getD-set-other}
 use Rattle.keys.specs.Member.{_∈_}
 use Rattle.keys.specs.BoolLaws.{true-false}
-use Rattle.sha256.specs.Fips180.{SHA-256}
+use Rattle.fips180.specs.Fips180.{SHA-256}
 use Rattle.format.specs.Update.{Id, Update, maxLength}
 use Rattle.format.specs.Decode.{update, decode}
 use Rattle.format.specs.Laws.{decode-sound, accepted}

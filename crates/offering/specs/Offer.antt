@@ -6,7 +6,7 @@ use mathlib.Core.List.{List, [], _∷_, _++_}
 use mathlib.Core.Option.{none, some}
 use mathlib.Core.Bool.{true, false}
 use lib.ListN.{length}
-use Rattle.sha256.specs.Fips180.{SHA-256}
+use Rattle.fips180.specs.Fips180.{SHA-256}
 use Rattle.format.specs.Update.{Update, maxLength}
 use Rattle.format.specs.Decode.{refused, update, decode}
 use Rattle.format.specs.Reading.{numberOf}

@@ -2,7 +2,7 @@
 ghost use mathlib.Core.Path.{_≡_};
 ghost use mathlib.Core.Option.{none};
 ghost use Prim.Native.Nat.{_<_};
-ghost use Rattle.sha256.specs.Fips180.{SHA-256};
+ghost use Rattle.fips180.specs.Fips180.{SHA-256};
 ghost use Rattle.state.specs.State.{findIn};
 ghost use Rattle.offering.specs.Offer.{Offering, left as leftAs, Formed};
 use refusals::Refusal;

@@ -7,12 +7,12 @@ ghost use Rattle.offering.specs.declared.Answer.the-variants.{Taken, Known, Ref
 ghost use Rattle.session.specs.Answers.{Begins, Printable};
 ghost use Rattle.session.specs.Feeding.{maxAnswer};
 use crate::Begun;
-use reading::Line;
-use reading::read_line;
-use reading::unhex;
 use ledger::Answer;
 use ledger::Refusal;
 use ledger::Standing;
+use reading::Line;
+use reading::read_line;
+use reading::unhex;
 use report::digits::decimal;
 use report::page::put;
 

@@ -7,10 +7,10 @@ mod answer;
 
 use answer::begin_answer;
 use answer::print_answer;
-use reading::MAX_OFFERED;
 use input::take_line;
 use ledger::Ledger;
 use ledger::Reported;
+use reading::MAX_OFFERED;
 
 // The longest answer is `(taken waiting 64 64)` and its newline.
 pub const MAX_ANSWER: usize = 22;

@@ -7,8 +7,8 @@ use native.Mathlib.Nat.{add-zero, add-suc}
 use native.Mathlib.Omega.{arith}
 use lib.ListN.{length, take, drop, set, replicate, take-append-drop, length-append, length-set}
 use lib.Seq.{take-all, drop-cons, take-set-le, drop-set-lt, take-at, length-take-le, getD-set-same}
-use Rattle.sha256.specs.Fips180.{bigEndian, bytesOf, Working}
-use Rattle.sha256.specs.Lengths.{length-bigEndian}
+use Rattle.fips180.specs.Fips180.{bigEndian, bytesOf, Working}
+use Rattle.fips180.specs.Lengths.{length-bigEndian}
 
 -- d with xs in the place of the k bytes from `at` on
 abbrev pub splice : List ℕ → ℕ → ℕ → List ℕ → List ℕ

@@ -1,5 +1,2 @@
-pub mod Steps
-pub mod Schedule
 pub mod Bytes
 pub mod Padding
-pub mod Words

@@ -9,9 +9,9 @@ use native.Mathlib.Numerals.{add-one, one-add}
 use native.Mathlib.Omega.{arith}
 use lib.ListN.{length, take, drop, set, replicate, length-append, length-drop, length-replicate, replicate-append-replicate}
 use lib.Seq.{take-all, take-take, take-append-le, drop-append-le, drop-drop, set-at, take-at, drop-at}
-use Rattle.sha256.specs.Fips180.{bigEndian, zeroBytes, pad, block, Working, compress, hash}
-use Rattle.sha256.specs.Code.{lastSize, tail}
-use Rattle.sha256.specs.Lengths.{length-bigEndian}
+use Rattle.fips180.specs.Fips180.{bigEndian, zeroBytes, pad, block, Working, compress, hash}
+use Rattle.sha256.specs.Tail.{lastSize, tail}
+use Rattle.fips180.specs.Lengths.{length-bigEndian}
 use Rattle.sha256.proofs.Bytes.{splice, take-splice}
 
 pub one-block : (n : ℕ) → n % 64 < 56 → lastSize n ≡ 64

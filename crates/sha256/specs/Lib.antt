@@ -1,4 +1,1 @@
-pub mod Fips180
-pub mod Examples
-pub mod Code
-pub mod Lengths
+pub mod Tail

@@ -2,10 +2,10 @@
 ghost use Prim.Native.Nat.{_≤_};
 ghost use lib.ListN.{length};
 ghost use Rattle.session.specs.Feeding.{maxAnswer, maxEnd};
-use reading::MAX_LINE;
 use ledger::Ledger;
 use libc::STDIN_FILENO;
 use libc::STDOUT_FILENO;
+use reading::MAX_LINE;
 use session::Finished;
 use state::STORE_LENGTH;
 

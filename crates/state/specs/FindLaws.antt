@@ -11,7 +11,7 @@ use Rattle.keys.specs.OrderLaws.{same→eq, eq→same, same-false→ne}
 use Rattle.keys.specs.Member.{_∈_}
 use Rattle.keys.specs.MemberLaws.{getD-∈, ∈-getD}
 use Rattle.keys.specs.DistinctLaws.{distinct-index}
-use Rattle.sha256.specs.Lengths.{length-digest}
+use Rattle.fips180.specs.Lengths.{length-digest}
 use Rattle.format.specs.Update.{Id, idLength, Update, encode}
 use Rattle.bits.specs.Below.{firstBelow}
 use Rattle.bits.specs.BelowLaws.{firstBelow-some→, firstBelow-one, firstBelow-none→}

@@ -5,7 +5,7 @@ use Prim.Native.Nat.{ℕ, _≤_, _<_}
 use mathlib.Core.List.{List, []}
 use mathlib.Core.Bool.{true}
 use lib.ListN.{length, getD}
-use Rattle.sha256.specs.Fips180.{SHA-256}
+use Rattle.fips180.specs.Fips180.{SHA-256}
 use Rattle.keys.specs.Member.{_∈_}
 use Rattle.keys.specs.Distinct.{Distinct}
 use Rattle.format.specs.Update.{Id, Add, Update, encode, Bounded}

@@ -4,8 +4,8 @@ use Prim.Native.Nat.{_-_, _≤_}
 use mathlib.Core.Path.{_≡_}
 use borrow.Author.Needs.{needs}
 use native.Mathlib.Omega.{arith}
-use Rattle.sha256.specs.Fips180.{H⁰, hash}
-use Rattle.sha256.specs.Code.{working}
+use Rattle.fips180.specs.Fips180.{H⁰, hash}
+use Rattle.compression.specs.Code.{working}
 use Rattle.sha256.proofs.Padding.{hash-next}
 use Rattle.sha256.proofs.blocks.Statement.{statement}
 use Rattle.sha256.proofs.blocks.Tie as tie

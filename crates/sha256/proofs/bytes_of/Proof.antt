@@ -3,7 +3,7 @@
 use mathlib.Core.Path.{_≡_, refl, sym, _∙_}
 use mir.Facts.{fits-widen}
 use lib.ListN.{length}
-use Rattle.sha256.specs.Code.{working}
+use Rattle.compression.specs.Code.{working}
 use Rattle.sha256.proofs.Bytes.{room, eight-written}
 use Rattle.sha256.proofs.bytes_of.Statement.{statement}
 use Rattle.sha256.proofs.bytes_of.Tie as tie

@@ -2,7 +2,7 @@
 -- Assumes nothing.
 use mathlib.Core.Path.{refl, ap, _∙_}
 use borrow.Author.Needs.{needs}
-use Rattle.sha256.specs.Fips180.{SHA-256, K, bytesOf}
+use Rattle.fips180.specs.Fips180.{SHA-256, K, bytesOf}
 use Rattle.sha256.proofs.Padding.{whole}
 use Rattle.sha256.proofs.digest.Statement.{statement}
 use Rattle.sha256.proofs.digest.Tie as tie

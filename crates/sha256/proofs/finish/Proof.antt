@@ -2,7 +2,7 @@
 -- Assumes nothing.
 use mathlib.Core.Path.{sym, _∙_}
 use borrow.Author.Needs.{needs}
-use Rattle.sha256.specs.Code.{working}
+use Rattle.compression.specs.Code.{working}
 use Rattle.sha256.proofs.Padding.{last-one, last-two}
 use Rattle.sha256.proofs.finish.Statement.{statement}
 use Rattle.sha256.proofs.finish.Tie as tie

@@ -5,7 +5,7 @@ use mathlib.Core.Path.{_≡_, sym, _∙_}
 use borrow.Author.Needs.{needs}
 use native.Mathlib.Omega.{arith}
 use lib.ListN.{length, length-set}
-use Rattle.sha256.specs.Fips180.{bigEndian}
+use Rattle.fips180.specs.Fips180.{bigEndian}
 use Rattle.sha256.proofs.Bytes.{splice, splice-one, splice-none}
 use Rattle.sha256.proofs.put.Statement.{statement}
 use Rattle.sha256.proofs.put.Tie as tie

@@ -3,7 +3,7 @@
 use mathlib.Core.Path.{refl}
 use borrow.Author.Needs.{needs}
 use native.Mathlib.Omega.{arith}
-use Rattle.sha256.specs.Lengths.{length-digest}
+use Rattle.fips180.specs.Lengths.{length-digest}
 use Rattle.sha256.proofs.silkcliff_sha256.Statement.{statement}
 use Rattle.sha256.proofs.silkcliff_sha256.Tie as tie
 

@@ -1,0 +1,3 @@
+pub mod Fips180
+pub mod Examples
+pub mod Lengths

@@ -1,0 +1,1 @@
+// Definitions and worked examples only: see specs/Fips180.antt.
