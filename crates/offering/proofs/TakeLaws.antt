@@ -9,7 +9,6 @@ use mathlib.Core.List.{List, [], _∷_, _++_}
 use mathlib.Core.Option.{none}
 use mathlib.Core.Bool.{Bool, true, false, cond}
 use lib.ListN.{length, length-set}
-use lib.Seq.{getD-set-same, getD-set-other}
 use Rattle.keys.specs.Member.{_∈_}
 use Rattle.keys.specs.BoolLaws.{true-false}
 use Rattle.fips180.specs.Fips180.{SHA-256}
@@ -23,13 +22,14 @@ use Rattle.state.specs.declared.Ledger.{Ledger}
 use Rattle.state.specs.declared.Place.{Place}
 use Rattle.state.specs.declared.Standing.{Standing}
 use Rattle.state.specs.declared.Standing.the-variants.{Waiting}
-use Rattle.state.specs.State.{places, noPlace, placeAt, withTaken, written, findIn, isHeld, isVoid, countOf}
+use Rattle.state.specs.State.{places, placeAt, withTaken, written, findIn, isHeld, isVoid, countOf}
 use Rattle.state.specs.Row1.{sound}
 use Rattle.state.specs.Row1Laws.{SoundPlace, sound→, sound←}
-use Rattle.state.specs.Settle.{SettledFrom}
+use Rattle.state.specs.Settle.{OthersWait, SettledFrom}
 use Rattle.state.specs.Stands.{ident, Holds, Truthful, Stands}
 use Rattle.state.specs.FindLaws.{find-none}
-use Rattle.state.specs.TakeLaws.{take-holds, take-truthful}
+use Rattle.state.specs.TakeLaws.{taken-new, taken-old, take-holds, take-truthful}
+use Rattle.state.specs.WaitLaws.{taken-others}
 use Rattle.state.specs.SettleLaws.{settled-kept-all, settled-sound, settled-stands}
 use Rattle.offering.specs.Offer.{Took}
 
@@ -43,10 +43,10 @@ module _ (l : Ledger) (s b : List ℕ) (u : Update) (fits : sound l s ≡ true) 
   taken = withTaken l (SHA-256 b) (length b)
 
   at-new : placeAt taken (l .used) ≡ place
-  at-new = getD-set-same (l .places) (l .used) place noPlace (omega (arith, whole))
+  at-new = taken-new l (SHA-256 b) (length b) (omega (arith, whole))
 
   at-old : (k : ℕ) → (k ≡ l .used → ⊥) → placeAt taken k ≡ placeAt l k
-  at-old k = getD-set-other (l .places) (l .used) k place noPlace
+  at-old = taken-old l (SHA-256 b) (length b)
 
   -- row 1 does not come up by taking the place
   taken-sound : (s′ : List ℕ) → length s′ ≡ length s → sound taken s′ ≡ true
@@ -92,6 +92,7 @@ module _ (l : Ledger) (s b : List ℕ) (u : Update) (fits : sound l s ≡ true) 
         (take-holds l s us u h (d .0) room new)))
         (subst (λ (x : List ℕ). Truthful (withTaken l (SHA-256 x) (length x)) (us ++ (u ∷ []))) (d .1)
         (take-truthful l s us u h (d .0) room new))
+        (subst (OthersWait taken) (sym wrote) (taken-others l s us h (SHA-256 b) b free (accepted b u decodes .short)))
         settled
 
     pub took : Took l s b u r s′

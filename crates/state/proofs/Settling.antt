@@ -3,7 +3,8 @@
 use Prim.Native.Nat.{ℕ, suc, _+_, _≤_, _<_}
 use mathlib.Core.Path.{_≡_, refl, sym, ap, ap₂, _∙_}
 use mathlib.Core.List.{List}
-use mathlib.Core.Bool.{Bool, true, false, cond, _||_, true≢false, false≢true, or-false}
+use mathlib.Core.Bool.{Bool, true, false, cond, not, _&&_, _||_, true≢false, false≢true, or-false, Bool·not-not}
+use native.Mathlib.Nat.{le-refl}
 use native.Mathlib.Numerals.{add-one}
 use native.Mathlib.Omega.{arith}
 use lib.ListN.{length}
@@ -14,9 +15,9 @@ use Rattle.state.specs.declared.Standing.the-variants.{Held, Waiting, Vo
 use Rattle.state.specs.declared.Judgement.the-variants.{Holds, Fails, Waits}
 use Rattle.state.specs.State.{placeAt, withStanding, isWaiting, countOf}
 use Rattle.state.specs.Judge.{judge}
-use Rattle.state.specs.Settle.{settleBy, settleFrom, settlePlace, settleNext, settleBelow, pass, passes, SettledFrom}
-use Rattle.state.specs.Passes.{pass-same}
-use Rattle.state.specs.SettleLaws.{below-kept, pass-kept, pass-falls}
+use Rattle.state.specs.Settle.{settleBy, settleFrom, settlePlace, settleNext, settleBelow, pass, passes, isWaits, lastWaits, newestWaits, OthersWait, SettledFrom}
+use Rattle.state.specs.Passes.{pass-same, newest-unchanged}
+use Rattle.state.specs.SettleLaws.{place-kept, pass-kept, pass-falls}
 
 -- the place k by its judgement
 module _ (l : Ledger) (s : List ℕ) (k : ℕ) where
@@ -66,39 +67,73 @@ module _ (p : Pass) (s : List ℕ) (k : ℕ) where
       ap₂ (λ (x : Ledger) (y : Bool). record { ledger = x; changed = y }) f (g ∙ sym (or-false (p .changed)))
       ∙ ap after (stays (p .ledger) s k _ w)
 
+-- a pass over l: what has been done, and the places below k, which are left
+pub record Passing (l : Ledger) (s : List ℕ) (p : Pass) (k : ℕ) : Type 0 where
+  pub below : k ≤ l .used
+  pub used-kept : p .ledger .used ≡ l .used
+  pub comes-to : settleBelow p s k ≡ pass l s
+
 module _ (l : Ledger) (s : List ℕ) where
-  pub below-none : record { ledger = l; changed = false } ≡ settleBelow l s 0
-  unfolding settleBelow
-  below-none = refl
-
-  pub below-next : (p : Pass) (k : ℕ) → p ≡ settleBelow l s k → settleNext p s k ≡ settleBelow l s (k + 1)
-  unfolding settleBelow
-  below-next p k e = rw (add-one, e)
-
-  pub below-fits : (p : Pass) (k : ℕ) → p ≡ settleBelow l s k → k ≤ l .used → l .used ≤ 64 → p .ledger .used ≤ 64
-  below-fits p k e h f = rw e (omega (arith, below-kept l s k h .used-kept))
-
-  pub below-all : (p : Pass) (k : ℕ) → p ≡ settleBelow l s k → k ≤ l .used → l .used ≤ k → p ≡ pass l s
+  pub passing-all : Passing l s (record { ledger = l; changed = false }) (l .used)
   unfolding pass
-  below-all p k e h g = let q : k ≡ l .used = omega arith in e ∙ ap (settleBelow l s) q
+  passing-all = record { below = le-refl _; used-kept = refl; comes-to = refl }
 
--- r is what passes over l come to; `changed` says whether the last of them changed a standing
+  pub passing-next : {p q : Pass} {k j : ℕ} → Passing l s p k → k ≡ j + 1 → q ≡ settleNext p s j → Passing l s q j
+  unfolding settleBelow settleNext
+  passing-next {p} {q} {k} {j} h e f =
+      record {
+        below = omega (arith, h .below);
+        used-kept =
+            ap (λ (x : Pass). x .ledger .used) f
+            ∙ place-kept (p .ledger) s j (omega (arith, h .below, h .used-kept)) .used-kept
+            ∙ h .used-kept;
+        comes-to = ap (λ (x : Pass). settleBelow x s j) f ∙ ap (settleBelow p s) (sym (e ∙ add-one j)) ∙ h .comes-to;
+      }
+
+  pub passing-none : {p : Pass} {k : ℕ} → Passing l s p k → k ≡ 0 → p ≡ pass l s
+  unfolding settleBelow
+  passing-none {p} h e = ap (settleBelow p s) (sym e) ∙ h .comes-to
+
+-- the newest place by its standing and its judgement
+module _ (l : Ledger) (s : List ℕ) where
+  pub newest-none : l .used ≡ 0 → false ≡ newestWaits l s
+  unfolding newestWaits lastWaits
+  newest-none e = ap (lastWaits l s) (sym e)
+
+  module _ (k : ℕ) (last : l .used ≡ k + 1) where
+    newest-by : {b : Bool} → isWaiting (placeAt l k .standing) ≡ b → (b && isWaits (judge l s k)) ≡ newestWaits l s
+    unfolding newestWaits lastWaits
+    newest-by w = ap (λ (b : Bool). b && isWaits (judge l s k)) (sym w) ∙ ap (lastWaits l s) (sym (last ∙ add-one k))
+
+    pub newest-stays : isWaiting (placeAt l k .standing) ≡ false → false ≡ newestWaits l s
+    newest-stays w = newest-by w
+
+    pub newest-judged : isWaiting (placeAt l k .standing) ≡ true → {j : Judgement} → judge l s k ≡ j → isWaits j ≡ newestWaits l s
+    newest-judged w e = ap isWaits (sym e) ∙ newest-by w
+
+-- r is what passes over l come to; where `changed` is false, and the others waited in l, a further pass changes nothing
 pub record Reached (l : Ledger) (s : List ℕ) (r : Ledger) (changed : Bool) : Type 0 where
   pub turns : ℕ
   pub is : r ≡ passes turns l s
   pub used-kept : r .used ≡ l .used
   pub places-kept : length (r .places) ≡ length (l .places)
-  pub done : changed ≡ false → pass r s .changed ≡ false
+  pub done : changed ≡ false → OthersWait l s → pass r s .changed ≡ false
 
 -- how many places wait, and one more while there is a pass to make
 abbrev pub left : Ledger → Bool → ℕ
 left r changed = countOf isWaiting r + cond changed 1 0
 
 module _ (l : Ledger) (s : List ℕ) where
-  pub reached-none : Reached l s l true
+  pub reached-none : {waits : Bool} → waits ≡ newestWaits l s → Reached l s l (not waits)
   unfolding passes
-  reached-none =
-      record { turns = 0; is = refl; used-kept = refl; places-kept = refl; done = λ e. absurd (true≢false e) }
+  reached-none {waits} n =
+      record {
+        turns = 0;
+        is = refl;
+        used-kept = refl;
+        places-kept = refl;
+        done = λ e others. newest-unchanged l s others (sym n ∙ sym (Bool·not-not waits) ∙ ap not e);
+      }
 
   module _ (r : Ledger) (changed : Bool) (reached : Reached l s r changed) (p : Pass) (passed : p ≡ pass r s) where
     pub reached-next : Reached l s (p .ledger) (p .changed)
@@ -111,7 +146,7 @@ module _ (l : Ledger) (s : List ℕ) where
           is = e ∙ ap (λ (m : Ledger). pass m s .ledger) (reached .is);
           used-kept = ap (λ (m : Ledger). m .used) e ∙ k .used-kept ∙ reached .used-kept;
           places-kept = ap (λ (m : Ledger). length (m .places)) e ∙ k .places-kept ∙ reached .places-kept;
-          done = λ h.
+          done = λ h _.
               let c : pass r s .changed ≡ false = ap (λ (q : Pass). q .changed) (sym passed) ∙ h in
               ap (λ (m : Ledger). pass m s .changed) (e ∙ pass-same r s c) ∙ c;
         }

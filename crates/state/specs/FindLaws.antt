@@ -30,6 +30,11 @@ stored-at us k h = getD-∈ us k noUpdate h
 pub place-of : (us : List Update) {u : Update} → u ∈ us → (k : ℕ) × (k < length us) × (updateAt us k ≡ u)
 place-of us m = ∈-getD noUpdate m
 
+-- an id is found at a taken place, whatever the ledger
+pub find-taken : (l : Ledger) (i : Id) (j : ℕ) → findIn l i ≡ some j → j < l .used
+unfolding findIn
+find-taken l i j e = firstBelow-some→ (l .used) (λ (k : ℕ). same (placeAt l k .id) i) e .0
+
 module _ (l : Ledger) (s : List ℕ) (us : List Update) (holds : Holds l s us) where
   has-id : Id → ℕ → Bool
   has-id i k = same (placeAt l k .id) i

@@ -2,20 +2,21 @@
 -- of a place that does not wait; the held places among them; and the ancestors of these.
 -- Assumes nothing.
 use mathlib.Core.Path.{_≡_, refl, sym, _∙_, ap, subst}
-use Prim.Native.Nat.{ℕ, _<_}
+use Prim.Native.Nat.{ℕ, _<_, _^_}
 use native.Mathlib.Nat.{lt-of-lt-of-le}
 use mathlib.Core.List.{List, [], _∷_}
 use mathlib.Core.Option.{Option, none, some}
 use mathlib.Core.Bool.{Bool, true, false, not, _&&_, _||_, or-false, or-true, or-assoc, Bool·not-not, true≢false, false≢true}
 use lib.ListN.{length}
 use lib.Dec.{eqb}
+use lib.Pow.{pow-mono}
 use borrow.Author.Tests.{eq-eqb, eqb-true}
 use Rattle.keys.specs.Member.{_∈_, any}
 use Rattle.keys.specs.BoolLaws.{true-false, not-true→false, and-true→, and-true}
 use Rattle.keys.specs.MemberLaws.{∈-cast, any→∈, ∈→any, any-false→, any-false}
 use Rattle.format.specs.Update.{Id, Update}
 use Rattle.bits.specs.Bits.{wordBits, has, within}
-use Rattle.bits.specs.BitsLaws.{has-none, has-including, has-join, within-none, within-including, within-join}
+use Rattle.bits.specs.BitsLaws.{has-none, has-including, has-join, within-none, within-including, within-join, within→lt}
 use Rattle.state.specs.declared.Ledger.{Ledger}
 use Rattle.state.specs.declared.Standing.{Standing}
 use Rattle.state.specs.declared.Standing.the-variants.{Held, Waiting, Void}
@@ -23,7 +24,8 @@ use Rattle.state.specs.declared.Gathered.{Gathered}
 use Rattle.state.specs.State.{placeAt, findIn, isHeld, isWaiting, isVoid}
 use Rattle.state.specs.Judge.{nothingGathered, gatherBy, gatherAt, gather}
 use Rattle.state.specs.Stands.{ident, updateAt, Holds}
-use Rattle.state.specs.FindLaws.{find-right, find-all}
+use Rattle.state.specs.Row1Laws.{holds-sound}
+use Rattle.state.specs.FindLaws.{find-taken, find-right, find-all}
 
 -- each id is that of an update at a held place
 abbrev pub AllHeld : Ledger → List Update → List Id → Type 0
@@ -137,6 +139,27 @@ module _ (l : Ledger) where
       step g none = sym (or-false (has (g .above) k))
       step g (some j) = by g j (placeAt l j .standing)
 
+-- both words are of taken places, whatever the ledger, if the words of the taken places are
+module _ (l : Ledger) (taken : (j : ℕ) → j < l .used → within (placeAt l j .ancestors) (l .used) ≡ true) where
+  abbrev Inside : Gathered → Type 0
+  Inside g = (within (g .direct) (l .used) ≡ true) × (within (g .above) (l .used) ≡ true)
+
+  pub gather-inside : (is : List Id) → Inside (gather l nothingGathered is)
+  gather-inside is =
+      gather-keeps l Inside (λ g i. step g i (findIn l i) refl) nothingGathered is (within-none (l .used), within-none (l .used))
+    where
+      by : (g : Gathered) (j : ℕ) (v : Standing) → j < l .used → Inside g → Inside (gatherBy l g j v)
+      by g j Held h p = (
+        within-including (g .direct) (l .used) j h (p .0),
+        within-join (g .above) (placeAt l j .ancestors) (l .used) (p .1) (taken j h),
+      )
+      by g j Waiting h p = p
+      by g j Void h p = p
+
+      step : (g : Gathered) (i : Id) (o : Option ℕ) → findIn l i ≡ o → Inside g → Inside (gatherAt l g o)
+      step g i none e p = p
+      step g i (some j) e p = by g j (placeAt l j .standing) (find-taken l i j e) p
+
 module _ (l : Ledger) (s : List ℕ) (us : List Update) (holds : Holds l s us) where
   below-word : (i : Id) (j : ℕ) → findIn l i ≡ some j → j < wordBits
   below-word i j e = lt-of-lt-of-le (find-right l s us holds i j e .0) (holds .room)
@@ -156,26 +179,6 @@ module _ (l : Ledger) (s : List ℕ) (us : List Update) (holds : Holds l s us) w
           → has (gatherAt l g o .direct) k ≡ (has (g .direct) k || passes (directAt l k) false o)
       step g i none e = sym (or-false (has (g .direct) k))
       step g i (some j) e = by g j (placeAt l j .standing) (below-word i j e)
-
-  -- both words are of taken places
-  abbrev Inside : Gathered → Type 0
-  Inside g = (within (g .direct) (length us) ≡ true) × (within (g .above) (length us) ≡ true)
-
-  pub gather-inside : (is : List Id) → Inside (gather l nothingGathered is)
-  gather-inside is =
-      gather-keeps l Inside (λ g i. step g i (findIn l i) refl) nothingGathered is (within-none (length us), within-none (length us))
-    where
-      by : (g : Gathered) (j : ℕ) (v : Standing) → j < length us → Inside g → Inside (gatherBy l g j v)
-      by g j Held h p = (
-        within-including (g .direct) (length us) j h (p .0),
-        within-join (g .above) (placeAt l j .ancestors) (length us) (p .1) (holds .inside j h),
-      )
-      by g j Waiting h p = p
-      by g j Void h p = p
-
-      step : (g : Gathered) (i : Id) (o : Option ℕ) → findIn l i ≡ o → Inside g → Inside (gatherAt l g o)
-      step g i none e p = p
-      step g i (some j) e p = by g j (placeAt l j .standing) (find-right l s us holds i j e .0) p
 
   -- some id is that of an update whose place passes
   any-found→ : (p : ℕ → Bool) (is : List Id) → any (found l p false) is ≡ true
@@ -223,6 +226,12 @@ module _ (l : Ledger) (s : List ℕ) (us : List Update) (holds : Holds l s us) w
         each i m =
             let r = h i m in
             ap (passes (waitingAt l) true) (ap (findIn l) (sym (r .2)) ∙ find-all l s us holds (r .0) (r .1)) ∙ ap isWaiting (r .3)
+
+    -- the word of the places is one of 64 bits
+    pub gathered-word : gathered .direct < 2 ^ 64
+    gathered-word =
+        let h = holds-sound l s us holds in
+        lt-of-lt-of-le (within→lt (gathered .direct) (l .used) (gather-inside l (λ j g. h .each j g .inside) is .0)) (pow-mono (h .few))
 
     pub gathered-direct→ : (j : ℕ) → has (gathered .direct) j ≡ true → (j < length us) × (ident (updateAt us j) ∈ is)
     unfolding directAt

@@ -4,13 +4,11 @@
 use mathlib.Core.Path.{_≡_, refl, sym, _∙_, ap, subst}
 use mathlib.Core.Logic.{inl, inr, ⊎-elim}
 use Prim.Native.Nat.{ℕ, _<_}
-use native.Mathlib.Nat.{lt-of-lt-of-le}
 use mathlib.Core.List.{List}
 use mathlib.Core.Option.{Option, none, some}
 use mathlib.Core.Bool.{Bool, true, false, cond, false≢true}
 use lib.ListN.{length}
 use lib.Dec.{eqb}
-use lib.Pow.{pow-mono}
 use borrow.Author.Tests.{eq-eqb, eqb-true}
 use Rattle.keys.specs.Order.{same}
 use Rattle.keys.specs.Member.{_∈_}
@@ -26,7 +24,7 @@ use Rattle.rules.specs.Settle.{isAdd, isInsert}
 use Rattle.rules.specs.LeastSets.{ancestor-stored, ancestor-cases}
 use Rattle.rules.specs.SettlingTable.{isAdd→, →isAdd, isInsert→, →isInsert}
 use Rattle.bits.specs.Bits.{has, join, meet}
-use Rattle.bits.specs.BitsLaws.{has-join, meet-none→, meet-none←, within→lt}
+use Rattle.bits.specs.BitsLaws.{has-join, meet-none→, meet-none←}
 use Rattle.state.specs.declared.Ledger.{Ledger}
 use Rattle.state.specs.declared.Standing.the-variants.{Held as IsHeld, Void as IsVoid}
 use Rattle.state.specs.declared.Gathered.{Gathered}
@@ -36,7 +34,7 @@ use Rattle.state.specs.State.{placeAt, storedAt, findIn}
 use Rattle.state.specs.Judge.{nothingGathered, gather, testOf, namesAt, names, valid, judgeReady, judgeGathered, judgeDecoded, judge}
 use Rattle.state.specs.Stands.{ident, noUpdate, updateAt, Holds, Truthful}
 use Rattle.state.specs.FindLaws.{stored-at, place-of}
-use Rattle.state.specs.GatherLaws.{AllHeld, gather-inside, gathered-void→, gathered-void←, gathered-ready→, gathered-ready←, gathered-direct→, gathered-direct←, gathered-above→, gathered-above←}
+use Rattle.state.specs.GatherLaws.{AllHeld, gathered-word, gathered-void→, gathered-void←, gathered-ready→, gathered-ready←, gathered-direct→, gathered-direct←, gathered-above→, gathered-above←}
 -- finding an id
 pub use Rattle.state.specs.FindLaws.{find-right, find-all, find-none}
 
@@ -189,7 +187,7 @@ module _ (l : Ledger) (s : List ℕ) (us : List Update) (holds : Holds l s us) w
         →antichain : Antichain → meet (gathered .direct) (gathered .above) ≡ 0
         →antichain n =
             meet-none← (gathered .above)
-            (lt-of-lt-of-le (within→lt (gathered .direct) (length us) (gather-inside l s us holds (u .preds) .0)) (pow-mono (holds .room)))
+            (gathered-word l s us holds (u .preds))
             (λ j g e.
             let d = gathered-direct→ l s us holds (u .preds) j e in
             not-true→false (has (gathered .above) j)

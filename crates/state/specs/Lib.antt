@@ -14,4 +14,5 @@ pub mod Verdicts
 pub mod Passes
 pub mod SettleLaws
 pub mod TakeLaws
+pub mod WaitLaws
 pub mod CountLaws

@@ -1,14 +1,14 @@
--- The passes of `Settle`, by cases and by invariants: what settling one place keeps, the passes keep; and a pass that changes nothing judged each
--- waiting place to go on waiting.
+-- The passes of `Settle`, by cases and by invariants: what settling one place keeps, the passes keep; and a pass changes nothing exactly where each
+-- waiting place is judged to go on waiting.
 -- Assumes nothing.
 use mathlib.Core.Path.{_≡_, refl, sym, _∙_, ap, subst}
-use Prim.Native.Nat.{ℕ, zero, suc, _≤_, _<_}
+use Prim.Native.Nat.{ℕ, zero, suc, _+_, _≤_, _<_}
 use native.Mathlib.Omega.{arith}
 use native.Mathlib.Nat.{eq-or-lt-of-le, le-of-suc-le-suc, not-suc-le-zero}
 use mathlib.Core.Logic.{⊎-elim}
 use mathlib.Core.List.{List}
 use mathlib.Core.Bool.{true, false, true≢false, false≢true}
-use Rattle.keys.specs.BoolLaws.{or-false→}
+use Rattle.keys.specs.BoolLaws.{or-false→, and-true→}
 use Rattle.state.specs.declared.Ledger.{Ledger}
 use Rattle.state.specs.declared.Pass.{Pass}
 use Rattle.state.specs.declared.Standing.{Standing}
@@ -17,7 +17,7 @@ use Rattle.state.specs.declared.Judgement.{Judgement}
 use Rattle.state.specs.declared.Judgement.the-variants.{Holds as Judged-holds, Fails, Waits}
 use Rattle.state.specs.State.{placeAt, withStanding, isWaiting, isVoid}
 use Rattle.state.specs.Judge.{judge}
-use Rattle.state.specs.Settle.{settleBy, settleFrom, settlePlace, settleNext, settleBelow, pass, passes, SettledFrom}
+use Rattle.state.specs.Settle.{settleBy, settleFrom, settlePlace, settleNext, settleBelow, pass, passes, isWaits, lastWaits, newestWaits, OthersWait, SettledFrom}
 
 -- the standings differ
 pub held≢waiting : IsHeld ≡ IsWaiting → ⊥
@@ -31,6 +31,12 @@ void≢waiting e = false≢true (ap isWaiting e)
 pub held≢void : IsHeld ≡ IsVoid → ⊥
 unfolding isVoid
 held≢void e = false≢true (ap isVoid e)
+
+isWaits→ : (j : Judgement) → isWaits j ≡ true → j ≡ Waits
+unfolding isWaits
+isWaits→ (Judged-holds w) e = absurd (false≢true e)
+isWaits→ Fails e = absurd (false≢true e)
+isWaits→ Waits e = refl
 
 -- the place k is judged, and gets this standing and ancestor word
 pub data Settles (l : Ledger) (s : List ℕ) (k : ℕ) : Standing → ℕ → Type 0 where
@@ -50,6 +56,11 @@ module _ {l : Ledger} {s : List ℕ} {k : ℕ} where
   pub settles-void : {v : Standing} {w : ℕ} → Settles l s k v w → v ≡ IsVoid → judge l s k ≡ Fails
   settles-void (to-held e) q = absurd (held≢void q)
   settles-void (to-void e) q = e
+
+  settles-not-waits : {v : Standing} {w : ℕ} → Settles l s k v w → judge l s k ≡ Waits → ⊥
+  unfolding isWaits
+  settles-not-waits (to-held e) q = false≢true (ap isWaits (sym e ∙ q))
+  settles-not-waits (to-void e) q = false≢true (ap isWaits (sym e ∙ q))
 
 -- settling one place: nothing changes, or a waiting place is settled
 module _ (l : Ledger) (s : List ℕ) (k : ℕ) (P : Pass → Type 0)
@@ -79,15 +90,15 @@ module _ (I : Ledger → Type 0) (s : List ℕ) (m : ℕ)
   pub place-keeps : (l : Ledger) (k : ℕ) → k < m → I l → I (settlePlace l s k .ledger)
   place-keeps l k h i = settle-cases l s k (λ p. I (p .ledger)) (λ _. i) (λ v w q j. step l k v w h q j i)
 
-  pub below-keeps : (l : Ledger) (n : ℕ) → n ≤ m → I l → I (settleBelow l s n .ledger)
+  below-keeps : (p : Pass) (n : ℕ) → n ≤ m → I (p .ledger) → I (settleBelow p s n .ledger)
   unfolding settleBelow settleNext
-  below-keeps l zero h i = i
-  below-keeps l (suc n) h i = place-keeps (settleBelow l s n .ledger) n h (below-keeps l n (omega arith) i)
+  below-keeps p zero h i = i
+  below-keeps p (suc n) h i = below-keeps (settleNext p s n) n (omega arith) (place-keeps (p .ledger) n h i)
 
   module _ (few : (l : Ledger) → I l → l .used ≤ m) where
     pub pass-keeps : (l : Ledger) → I l → I (pass l s .ledger)
     unfolding pass
-    pass-keeps l i = below-keeps l (l .used) (few l i) i
+    pass-keeps l i = below-keeps (record { ledger = l; changed = false }) (l .used) (few l i) i
 
     pub passes-keep : (n : ℕ) (l : Ledger) → I l → I (passes n l s)
     unfolding passes
@@ -104,28 +115,64 @@ place-unchanged l s k =
     settle-cases l s k (λ p. p .changed ≡ false → (p .ledger ≡ l) × (placeAt l k .standing ≡ IsWaiting → judge l s k ≡ Waits))
     (λ f e. (refl, f)) (λ v w q j e. absurd (true≢false e))
 
-below-unchanged : (l : Ledger) (s : List ℕ) (n : ℕ) → settleBelow l s n .changed ≡ false
-    → (settleBelow l s n .ledger ≡ l) × ((k : ℕ) → k < n → placeAt l k .standing ≡ IsWaiting → judge l s k ≡ Waits)
+below-unchanged : (p : Pass) (s : List ℕ) (n : ℕ) → settleBelow p s n .changed ≡ false
+    → (p .changed ≡ false)
+    × (settleBelow p s n .ledger ≡ p .ledger)
+    × ((k : ℕ) → k < n → placeAt (p .ledger) k .standing ≡ IsWaiting → judge (p .ledger) s k ≡ Waits)
 unfolding settleBelow settleNext
-below-unchanged l s zero e = (refl, λ k h. absurd (not-suc-le-zero h))
-below-unchanged l s (suc n) e =
-    let o = or-false→ (settleBelow l s n .changed) (settlePlace (settleBelow l s n .ledger) s n .changed) e in
-    let b = below-unchanged l s n (o .0) in
-    let p = place-unchanged l s n (subst (λ (x : Ledger). settlePlace x s n .changed ≡ false) (b .0) (o .1)) in (
-      ap (λ (x : Ledger). settlePlace x s n .ledger) (b .0) ∙ p .0,
-      λ k h q.
+below-unchanged p s zero e = (e, refl, λ k h. absurd (not-suc-le-zero h))
+below-unchanged p s (suc n) e =
+    let l = p .ledger in
+    let b = below-unchanged (settleNext p s n) s n e in
+    let o = or-false→ (p .changed) (settlePlace l s n .changed) (b .0) in
+    let u = place-unchanged l s n (o .1) in (
+      o .0,
+      b .1 ∙ u .0,
+      λ k h.
           ⊎-elim
-          (λ (g : k ≡ n). subst (λ (i : ℕ). judge l s i ≡ Waits) (sym g) (p .1 (subst (λ (i : ℕ). placeAt l i .standing ≡ IsWaiting) g q)))
-          (λ (g : k < n). b .1 k g q)
+          (λ (g : k ≡ n). subst (λ (i : ℕ). placeAt l i .standing ≡ IsWaiting → judge l s i ≡ Waits) (sym g) (u .1))
+          (λ (g : k < n). subst (λ (m : Ledger). placeAt m k .standing ≡ IsWaiting → judge m s k ≡ Waits) (u .0) (b .2 k g))
           (eq-or-lt-of-le (le-of-suc-le-suc h)),
     )
 
-pub pass-unchanged : (l : Ledger) (s : List ℕ) → pass l s .changed ≡ false
-    → (k : ℕ) → k < l .used → placeAt l k .standing ≡ IsWaiting → judge l s k ≡ Waits
-unfolding pass
-pass-unchanged l s e = below-unchanged l s (l .used) e .1
+module _ (l : Ledger) (s : List ℕ) where
+  abbrev none-yet : Pass
+  none-yet = record { ledger = l; changed = false }
 
--- where a pass changed nothing, the ledger is as it was
-pub pass-same : (l : Ledger) (s : List ℕ) → pass l s .changed ≡ false → pass l s .ledger ≡ l
-unfolding pass
-pass-same l s e = below-unchanged l s (l .used) e .0
+  pub pass-unchanged : pass l s .changed ≡ false → (k : ℕ) → k < l .used → placeAt l k .standing ≡ IsWaiting → judge l s k ≡ Waits
+  unfolding pass
+  pass-unchanged e = below-unchanged none-yet s (l .used) e .2
+
+  -- where a pass changed nothing, the ledger is as it was
+  pub pass-same : pass l s .changed ≡ false → pass l s .ledger ≡ l
+  unfolding pass
+  pass-same e = below-unchanged none-yet s (l .used) e .1
+
+  -- where each place that waits is judged to go on waiting, nothing changes
+  place-stays : (k : ℕ) → (placeAt l k .standing ≡ IsWaiting → judge l s k ≡ Waits) → settlePlace l s k ≡ none-yet
+  place-stays k =
+      settle-cases l s k (λ p. (placeAt l k .standing ≡ IsWaiting → judge l s k ≡ Waits) → p ≡ none-yet)
+      (λ _ f. refl) (λ v w q j f. absurd (settles-not-waits j (f q)))
+
+  below-stays : (n : ℕ) → ((k : ℕ) → k < n → placeAt l k .standing ≡ IsWaiting → judge l s k ≡ Waits) → settleBelow none-yet s n ≡ none-yet
+  unfolding settleBelow settleNext
+  below-stays zero f = refl
+  below-stays (suc n) f =
+      ap (λ (q : Pass). settleBelow (record { ledger = q .ledger; changed = q .changed }) s n) (place-stays n (f n (omega arith)))
+      ∙ below-stays n (λ k h. f k (omega arith))
+
+  last-waits : (n : ℕ) → lastWaits l s n ≡ true → (k : ℕ) → k + 1 ≡ n → judge l s k ≡ Waits
+  unfolding lastWaits
+  last-waits zero e k h = absurd (false≢true e)
+  last-waits (suc n) e k h =
+      let q : k ≡ n = omega arith in
+      subst (λ (i : ℕ). judge l s i ≡ Waits) (sym q) (isWaits→ (judge l s n) (and-true→ (isWaiting (placeAt l n .standing)) (isWaits (judge l s n)) e .1))
+
+  -- the others wait, and the newest place does
+  pub newest-unchanged : OthersWait l s → newestWaits l s ≡ true → pass l s .changed ≡ false
+  unfolding pass newestWaits
+  newest-unchanged others e =
+      ap (λ (p : Pass). p .changed)
+      (below-stays (l .used)
+      (λ k h q.
+      ⊎-elim (λ (g : k + 1 ≡ l .used). last-waits (l .used) e k g) (λ (g : k + 1 < l .used). others k g q) (eq-or-lt-of-le (omega arith))))

@@ -1,17 +1,17 @@
--- Settling as the code does it: passes over the places, each waiting one judged by the ledger that the ones before it left, until a pass changes
--- none. The laws in `SettleLaws` say that a ledger so settled stands as the rules say.
+-- Settling as the code does it: passes over the places from the last to the first, each waiting one judged by the ledger that the ones before it
+-- left, until a pass changes none. The laws in `SettleLaws` say that a ledger so settled stands as the rules say.
 -- Assumes nothing.
 use mathlib.Core.Path.{_≡_}
-use Prim.Native.Nat.{ℕ, zero, suc}
+use Prim.Native.Nat.{ℕ, zero, suc, _+_, _<_}
 use mathlib.Core.List.{List}
-use mathlib.Core.Bool.{true, false, _||_}
+use mathlib.Core.Bool.{Bool, true, false, _&&_, _||_}
 use Rattle.state.specs.declared.Ledger.{Ledger}
 use Rattle.state.specs.declared.Pass.{Pass}
 use Rattle.state.specs.declared.Standing.{Standing}
 use Rattle.state.specs.declared.Standing.the-variants.{Held, Waiting, Void}
 use Rattle.state.specs.declared.Judgement.{Judgement}
 use Rattle.state.specs.declared.Judgement.the-variants.{Holds, Fails, Waits}
-use Rattle.state.specs.State.{placeAt, withStanding}
+use Rattle.state.specs.State.{placeAt, withStanding, isWaiting}
 use Rattle.state.specs.Judge.{judge}
 
 -- the ledger with the place k as it is judged, and whether that changed it
@@ -36,20 +36,39 @@ settleNext p s k =
       changed = p .changed || settlePlace (p .ledger) s k .changed;
     }
 
--- the places below n, one after the other
-unfoldable pub settleBelow : Ledger → List ℕ → ℕ → Pass
-settleBelow l s zero = record { ledger = l; changed = false }
-settleBelow l s (suc n) = settleNext (settleBelow l s n) s n
+-- the places below n, from the last to the first, after what has been done already
+unfoldable pub settleBelow : Pass → List ℕ → ℕ → Pass
+settleBelow p s zero = p
+settleBelow p s (suc n) = settleBelow (settleNext p s n) s n
 
 unfoldable pub pass : Ledger → List ℕ → Pass
-pass l s = settleBelow l s (l .used)
+pass l s = settleBelow (record { ledger = l; changed = false }) s (l .used)
 
 unfoldable pub passes : ℕ → Ledger → List ℕ → Ledger
 passes zero l s = l
 passes (suc n) l s = pass (passes n l s) s .ledger
 
--- r is what passes over l come to, and a further one changes nothing
+-- the judgement is to go on waiting
+unfoldable pub isWaits : Judgement → Bool
+isWaits (Holds w) = false
+isWaits Fails = false
+isWaits Waits = true
+
+-- the last of the places below n waits, and is judged to go on waiting
+unfoldable pub lastWaits : Ledger → List ℕ → ℕ → Bool
+lastWaits l s zero = false
+lastWaits l s (suc n) = isWaiting (placeAt l n .standing) && isWaits (judge l s n)
+
+-- the newest place does
+unfoldable pub newestWaits : Ledger → List ℕ → Bool
+newestWaits l s = lastWaits l s (l .used)
+
+-- every place that waits, but the newest, is judged to go on waiting: so it is where the ledger was settled before the newest place was taken
+abbrev pub OthersWait : Ledger → List ℕ → Type 0
+OthersWait l s = (k : ℕ) → k + 1 < l .used → placeAt l k .standing ≡ Waiting → judge l s k ≡ Waits
+
+-- r is what passes over l come to; and where the others waited in l, a further pass changes nothing
 pub record SettledFrom (l : Ledger) (s : List ℕ) (r : Ledger) : Type 0 where
   pub turns : ℕ
   pub is : r ≡ passes turns l s
-  pub done : pass r s .changed ≡ false
+  pub done : OthersWait l s → pass r s .changed ≡ false

@@ -31,13 +31,13 @@ use Rattle.state.specs.Row1.{sound}
 use Rattle.state.specs.Row1Laws.{SoundPlace, sound→, sound←, holds-sound}
 use Rattle.state.specs.Verdicts.{verdictOf, verdict-held, verdict-waiting, verdict-void, verdict, verdict-at, Placed, placed}
 use Rattle.state.specs.Judge.{judge}
-use Rattle.state.specs.Settle.{settlePlace, settleNext, settleBelow, pass, SettledFrom}
+use Rattle.state.specs.Settle.{settlePlace, settleNext, settleBelow, pass, OthersWait, SettledFrom}
 use Rattle.state.specs.Stands.{ident, noUpdate, updateAt, Holds, Truthful, Settled, Stands}
 use Rattle.state.specs.ListFacts.{set-cases}
 use Rattle.state.specs.JudgeWithin.{judge-within}
 use Rattle.state.specs.JudgeLaws.{judged-held, judged-above, judged-above-all, judged-void, judged-no-void, judged-not-ready}
 use Rattle.state.specs.Passes.{Settles, to-held, to-void, settles-not-waiting, settles-held, settles-void}
-use Rattle.state.specs.Passes.{settle-cases, pass-keeps, settled-keeps, below-keeps, pass-unchanged}
+use Rattle.state.specs.Passes.{settle-cases, place-keeps, pass-keeps, settled-keeps, pass-unchanged}
 
 -- a place of a ledger in which the place k was settled: what it was, or the new one
 module _ (l : Ledger) (k : ℕ) (v : Standing) (w : ℕ) where
@@ -102,8 +102,8 @@ kept-on : (l : Ledger) (s : List ℕ) (r : Ledger) (k : ℕ) (v : Standing) (w :
     → Settles r s k v w → Kept l r → Kept l (withStanding r k v w)
 kept-on l s r k v w h q j i = kept-trans i (kept-step r k v w (subst (λ (u : ℕ). k < u) (sym (i .used-kept)) h) q)
 
-pub below-kept : (l : Ledger) (s : List ℕ) (n : ℕ) → n ≤ l .used → Kept l (settleBelow l s n .ledger)
-below-kept l s n h = below-keeps (Kept l) s (l .used) (kept-on l s) l n h (kept-refl l)
+pub place-kept : (l : Ledger) (s : List ℕ) (k : ℕ) → k < l .used → Kept l (settlePlace l s k .ledger)
+place-kept l s k h = place-keeps (Kept l) s (l .used) (kept-on l s) l k h (kept-refl l)
 
 pub pass-kept : (l : Ledger) (s : List ℕ) → Kept l (pass l s .ledger)
 pass-kept l s = pass-keeps (Kept l) s (l .used) (kept-on l s) (λ r i. le-of-eq (i .used-kept)) l (kept-refl l)
@@ -111,7 +111,7 @@ pass-kept l s = pass-keeps (Kept l) s (l .used) (kept-on l s) (λ r i. le-of-eq 
 pub settled-kept-all : (l : Ledger) (s : List ℕ) (r : Ledger) → SettledFrom l s r → Kept l r
 settled-kept-all l s r f = settled-keeps (Kept l) s (l .used) (kept-on l s) (λ r i. le-of-eq (i .used-kept)) l r f (kept-refl l)
 
--- settling one place leaves one waiting place less, or changes nothing
+-- fewer places wait, or nothing changed
 record Falls (l : Ledger) (p : Pass) : Type 0 where
   no-more : countOf isWaiting (p .ledger) ≤ countOf isWaiting l
   fewer : p .changed ≡ true → countOf isWaiting (p .ledger) < countOf isWaiting l
@@ -138,26 +138,29 @@ place-falls l s k h room =
     let e = settled-falls l k v w h room q (settles-not-waiting j) in
     record { no-more = omega (arith, e); fewer = λ _. omega (arith, e) })
 
-below-falls : (l : Ledger) (s : List ℕ) (n : ℕ) → n ≤ l .used → l .used ≤ length (l .places) → Falls l (settleBelow l s n)
+below-falls : (l : Ledger) (s : List ℕ) (p : Pass) (n : ℕ) → n ≤ l .used → l .used ≤ length (l .places) → Kept l (p .ledger) → Falls l p
+    → Falls l (settleBelow p s n)
 unfolding settleBelow settleNext
-below-falls l s zero h room = record { no-more = le-refl _; fewer = λ e. absurd (false≢true e) }
-below-falls l s (suc n) h room =
-    let m = settleBelow l s n .ledger in
-    let c = below-kept l s n (omega arith) in
-    let b = below-falls l s n (omega arith) room in
-    let p = place-falls m s n (omega (arith, c .used-kept)) (omega (arith, c .used-kept, c .places-kept)) in
-    record {
-      no-more = le-trans (p .no-more) (b .no-more);
+below-falls l s p zero h room c b = b
+below-falls l s p (suc n) h room c b =
+    let m = p .ledger in
+    let inside : n < m .used = omega (arith, c .used-kept) in
+    let f = place-falls m s n inside (omega (arith, c .used-kept, c .places-kept)) in
+    below-falls l s (settleNext p s n) n (omega arith) room (kept-trans c (place-kept m s n inside))
+    (record {
+      no-more = le-trans (f .no-more) (b .no-more);
       fewer = λ e.
-          ⊎-elim (λ x. lt-of-le-of-lt (p .no-more) (b .fewer x)) (λ y. lt-of-lt-of-le (p .fewer y) (b .no-more))
-          (or-true→ (settleBelow l s n .changed) (settlePlace m s n .changed) e);
-    }
+          ⊎-elim (λ x. lt-of-le-of-lt (f .no-more) (b .fewer x)) (λ y. lt-of-lt-of-le (f .fewer y) (b .no-more))
+          (or-true→ (p .changed) (settlePlace m s n .changed) e);
+    })
 
 -- a pass that changes a standing leaves fewer waiting
 pub pass-falls : (l : Ledger) (s : List ℕ) → l .used ≤ length (l .places) → pass l s .changed ≡ true
     → countOf isWaiting (pass l s .ledger) < countOf isWaiting l
 unfolding pass
-pass-falls l s room = below-falls l s (l .used) (le-refl _) room .fewer
+pass-falls l s room =
+    below-falls l s (record { ledger = l; changed = false }) (l .used) (le-refl _) room (kept-refl l)
+    (record { no-more = le-refl _; fewer = λ e. absurd (false≢true e) }) .fewer
 
 -- the word of a place that is settled names taken places only, if those of the taken places do
 settles-within : (l : Ledger) → ((j : ℕ) → j < l .used → within (placeAt l j .ancestors) (l .used) ≡ true)
@@ -285,13 +288,14 @@ module _ (l : Ledger) (s : List ℕ) (us : List Update) (h : Holds l s us) (t : 
       }
 
 -- settling ends with a ledger that stands
-pub settled-stands : (l : Ledger) (s : List ℕ) (us : List Update) (r : Ledger) → Holds l s us → Truthful l us → SettledFrom l s r → Stands r s us
-settled-stands l s us r h t f =
+pub settled-stands : (l : Ledger) (s : List ℕ) (us : List Update) (r : Ledger) → Holds l s us → Truthful l us → OthersWait l s → SettledFrom l s r
+    → Stands r s us
+settled-stands l s us r h t others f =
     let i = settled-right s us l r f (h, t) in
     record {
       holds = i .0;
       truthful = i .1;
       settled =
           ledger-settled r s us (i .0) (i .1)
-          (λ k g. pass-unchanged r s (f .done) k (subst (λ (n : ℕ). k < n) (sym (i .0 .number)) g));
+          (λ k g. pass-unchanged r s (f .done others) k (subst (λ (n : ℕ). k < n) (sym (i .0 .number)) g));
     }

@@ -7,14 +7,14 @@ use native.Mathlib.Nat.{not-suc-le-zero, le-refl, eq-or-lt-of-le}
 use mathlib.Core.Logic.{⊎-elim}
 use mathlib.Core.List.{List, [], _∷_, _++_, List·Memᴰ·not-nil}
 use mathlib.Core.Bool.{true}
-use lib.ListN.{length, getD, take, drop, length-append, length-drop, length-set, take-append-drop, List·getD-append}
+use lib.ListN.{length, take, drop, length-append, length-drop, length-set, take-append-drop, List·getD-append}
 use lib.Seq.{length-take-le, take-append-seam, drop-at, getD-at, getD-set-same, getD-set-other}
 use Rattle.keys.specs.BoolLaws.{true-false}
 use Rattle.keys.specs.Member.{_∈_}
 use Rattle.keys.specs.MemberLaws.{∈-singleton}
 use Rattle.keys.specs.Distinct.{Distinct, distinct-nil, distinct-cons}
 use Rattle.keys.specs.DistinctLaws.{distinct-append}
-use Rattle.format.specs.Update.{Update, Bounded, encode, maxLength}
+use Rattle.format.specs.Update.{Id, Update, Bounded, encode, maxLength}
 use Rattle.format.specs.Decode.{part}
 use Rattle.format.specs.Laws.{encode-within}
 use Rattle.rules.specs.Standing.{Ancestor, Held, Void}
@@ -63,6 +63,17 @@ fresh-stands l s empty whole store =
       settled = record { waiting-right = λ k g. absurd (not-suc-le-zero g) };
     }
 
+-- the place that is taken, and the others, which are as they were
+module _ (l : Ledger) (i : Id) (n : ℕ) where
+  abbrev new-place : Place
+  new-place = record { id = i; length = n; ancestors = 0; standing = IsWaiting }
+
+  pub taken-new : l .used < length (l .places) → placeAt (withTaken l i n) (l .used) ≡ record { id = i; length = n; ancestors = 0; standing = IsWaiting }
+  taken-new = getD-set-same (l .places) (l .used) new-place noPlace
+
+  pub taken-old : (k : ℕ) → (k ≡ l .used → ⊥) → placeAt (withTaken l i n) k ≡ placeAt l k
+  taken-old k = getD-set-other (l .places) (l .used) k new-place noPlace
+
 -- bytes written into a store
 module _ (s : List ℕ) (at : ℕ) (b : List ℕ) (fits : at + length b ≤ length s) where
   front : length (take at s) ≡ at
@@ -78,7 +89,7 @@ module _ (s : List ℕ) (at : ℕ) (b : List ℕ) (fits : at + length b ≤ leng
   written-back =
       let rest = drop (at + length b) s in ap (take (length b)) (drop-at (take at s) (b ++ rest) at front) ∙ take-append-seam b rest
 
-  written-before : (j n : ℕ) → j + n ≤ at → part (written s at b) j n ≡ part s j n
+  pub written-before : (j n : ℕ) → j + n ≤ at → part (written s at b) j n ≡ part s j n
   written-before j n h =
       part-append (take at s) (b ++ drop (at + length b) s) j n (omega (arith, front))
       ∙ sym (part-append (take at s) (drop at s) j n (omega (arith, front)))
@@ -109,14 +120,14 @@ module _ (l : Ledger) (s : List ℕ) (us : List Update) (u : Update) (stands : S
   taken-cases P old last k g =
       ⊎-elim
       (λ (e : k ≡ length us).
-      let a : getD (taken .places) k noPlace ≡ place =
-      ap (λ (i : ℕ). getD (taken .places) i noPlace) (e ∙ sym number)
-      ∙ getD-set-same (l .places) (l .used) place noPlace (omega (arith, number, free, stands .holds .places-whole)) in
+      let a : placeAt taken k ≡ place =
+      ap (placeAt taken) (e ∙ sym number)
+      ∙ taken-new l (ident u) (length (encode u)) (omega (arith, number, free, stands .holds .places-whole)) in
       let b : updateAt more k ≡ u = getD-at us u [] noUpdate k (sym e) in
       subst₂ (P k) (sym a) (sym b) (subst (λ (i : ℕ). P i place u) (sym e) last))
       (λ (h : k < length us).
       subst₂ (P k)
-      (sym (getD-set-other (l .places) (l .used) k place noPlace (λ (e : k ≡ l .used). omega (arith, number))))
+      (sym (taken-old l (ident u) (length (encode u)) k (λ (e : k ≡ l .used). omega (arith, number))))
       (sym (List·getD-append us (u ∷ []) noUpdate k h))
       (old k h))
       (eq-or-lt-of-le (omega (arith, one-more)))

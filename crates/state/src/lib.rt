@@ -97,12 +97,12 @@ impl Ledger {
         self
     }
 
-    // Judges what waits, pass after pass, until a pass changes nothing.
+    // Judges the newest place; where it does not go on waiting, judges what waits, pass after pass, until a pass changes nothing.
     pub fn settle(mut self, store: &[u8]) -> Ledger
         requires { ⌜ self .used ≤ 64 ⌝ }
         ensures { λ r. ⌜ SettledFrom self (now (store .entry)) r ⌝ }
     {
-        let mut changed = true;
+        let mut changed = !settle::newest_waits(self, store);
         while changed {
             let p = settle::pass(self, store);
             let next = p.ledger;

@@ -1,9 +1,9 @@
-// Settling: passes over the waiting places.
+// Settling: passes over the waiting places, and the test of the newest.
 ghost use mathlib.Core.Path.{_≡_};
 ghost use Prim.Native.Nat.{_≤_, _<_};
 ghost use Rattle.state.specs.State.{isWaiting};
 ghost use Rattle.state.specs.Judge.{judge as judgeAt};
-ghost use Rattle.state.specs.Settle.{settleBy, pass as passOver};
+ghost use Rattle.state.specs.Settle.{settleBy, pass as passOver, newestWaits};
 use crate::Judgement;
 use crate::Ledger;
 use crate::Pass;
@@ -49,23 +49,43 @@ fn settle_waiting(l: Ledger, store: &[u8], k: usize) -> Pass
     }
 }
 
-// One pass over the taken places.
+// The newest place waits, and is judged to go on waiting.
+pub fn newest_waits(l: Ledger, store: &[u8]) -> bool
+    requires { ⌜ l .used ≤ 64 ⌝ }
+    ensures { λ r. ⌜ r ≡ newestWaits l (now (store .entry)) ⌝ }
+{
+    let used = l.used;
+    if used == 0 {
+        return false;
+    }
+    let k = used - 1;
+    if waits(l.places[k]) {
+        match judge(l, store, k) {
+            Judgement::Holds(_) => false,
+            Judgement::Fails => false,
+            Judgement::Waits => true,
+        }
+    } else {
+        false
+    }
+}
+
+// One pass over the taken places, from the last to the first.
 pub fn pass(l: Ledger, store: &[u8]) -> Pass
     requires { ⌜ l .used ≤ 64 ⌝ }
     ensures { λ r. ⌜ r ≡ passOver l (now (store .entry)) ⌝ }
 {
-    let used = l.used;
+    let mut k = l.used;
     let mut current = l;
     let mut changed = false;
-    let mut k: usize = 0;
-    while k < used {
+    while 0 < k {
+        k -= 1;
         if waits(current.places[k]) {
             let q = settle_waiting(current, store, k);
             let next = q.ledger;
             current = next;
             changed = changed | q.changed;
         }
-        k += 1;
     }
     Pass {
         ledger: current,

@@ -1,13 +1,11 @@
 -- The judgement of an update that names heads only: it holds exactly when its operation is valid by the settled table.
 -- Assumes nothing.
 use Prim.Native.Nat.{ℕ, _<_}
-use native.Mathlib.Nat.{lt-of-lt-of-le}
 use mathlib.Core.Path.{_≡_, refl, sym, _∙_, ap, ap₂, subst}
 use mathlib.Core.List.{List}
 use mathlib.Core.Option.{Option, none, some}
 use mathlib.Core.Bool.{Bool, true, false, cond, _&&_, _||_}
 use lib.ListN.{length}
-use lib.Pow.{pow-mono}
 use borrow.Author.Tests.{eq-eqb}
 use Rattle.keys.specs.Order.{same}
 use Rattle.keys.specs.Member.{_∈_, member, keep, any}
@@ -24,7 +22,7 @@ use Rattle.rules.specs.LeastSets.{held-stored, held-not-void}
 use Rattle.rules.specs.TableLaws.{row-eq}
 use Rattle.rules.specs.ChoiceLaws.{rowId}
 use Rattle.bits.specs.Bits.{has, join, meet}
-use Rattle.bits.specs.BitsLaws.{has-join, meet-none←, within→lt}
+use Rattle.bits.specs.BitsLaws.{has-join, meet-none←}
 use Rattle.state.specs.declared.Ledger.{Ledger}
 use Rattle.state.specs.declared.Standing.{Standing}
 use Rattle.state.specs.declared.Standing.the-variants.{Held as IsHeld, Waiting as IsWaiting, Void as IsVoid}
@@ -34,7 +32,7 @@ use Rattle.state.specs.State.{placeAt, findIn, isHeld}
 use Rattle.state.specs.Judge.{nothingGathered, gather, namesAt, names, valid, judgeReady, judgeGathered, judgeDecoded}
 use Rattle.state.specs.Stands.{ident, updateAt, Stands}
 use Rattle.state.specs.FindLaws.{find-right, find-none}
-use Rattle.state.specs.GatherLaws.{AllHeld, gather-inside, gathered-void→, gathered-ready←, gathered-direct→, gathered-direct←, gathered-above→, gathered-above←}
+use Rattle.state.specs.GatherLaws.{AllHeld, gathered-word, gathered-void→, gathered-ready←, gathered-direct→, gathered-direct←, gathered-above→, gathered-above←}
 use Rattle.report.specs.Board.{heldAt}
 use Rattle.report.specs.PlaceLaws.{place-in, place-of, place-id, place-test}
 use Rattle.report.specs.RowLaws.{rowAt, row-id, above-agrees, op-agrees}
@@ -113,7 +111,7 @@ module _ {l : Ledger} {s : List ℕ} {us : List Update} (stands : Stands l s us)
     apart : meet (gathered .direct) (gathered .above) ≡ 0
     apart =
         meet-none← (gathered .above)
-        (lt-of-lt-of-le (within→lt (gathered .direct) (length us) (gather-inside l s us (stands .holds) (w .preds) .0)) (pow-mono (stands .holds .room)))
+        (gathered-word l s us (stands .holds) (w .preds))
         (λ j g e. not-true→false (has (gathered .above) j)
         (λ t.
         let d = gathered-direct→ l s us (stands .holds) (w .preds) j e in

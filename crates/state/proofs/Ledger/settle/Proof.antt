@@ -1,4 +1,5 @@
--- `settle` meets its contract. The loop's invariant: the ledger is what passes come to, and where the last one changed nothing, none is left to make.
+-- `settle` meets its contract. The loop's invariant: the ledger is what passes come to, and where the last one changed nothing, or the newest place
+-- goes on waiting, none is left to make.
 -- The measure: how many places wait, and one more while there is a pass to make.
 -- Assumes nothing.
 use Prim.Native.Nat.{_<_}
@@ -6,6 +7,7 @@ use mathlib.Core.Path.{_≡_, sym, subst}
 use mathlib.Core.Bool.{Bool}
 use lib.ListN.{length}
 use native.Mathlib.Omega.{arith}
+use borrow.Author.Needs.{needs}
 use denote.Ref.{now}
 use Rattle.state.proofs.Owning.{places-length}
 use Rattle.state.proofs.Settling.{Reached, left, reached-none, reached-next, left-falls, reached-settled}
@@ -24,22 +26,23 @@ settle-spec =
     (tie.spec
     Inv-loop
     μ-loop
-    (λ c. let a = c .before .args in reached-none (a .self) (now (a .store)))
+    (λ c κs. search needs)
+    (λ c. let a = c .before .before .args in reached-none (a .self) (now (a .store)) (c .newest-waits .ensures))
     (λ c κs. omega (arith, c .before .loop .inv .used-kept))
     (λ c.
     let h = c .before .before .before in
-    let a = h .before .before .args in
-    let whole : length (a .self .places) ≡ 64 = places-length (a .self) _ (h .before .before .good .0) in
+    let a = h .before .before .before .args in
+    let whole : length (a .self .places) ≡ 64 = places-length (a .self) _ (h .before .before .before .good .0) in
     let p = c .before .pass .result in
     subst (λ (b : Bool). left (p .ledger) (p .changed) < left (h .loop .self) b) (sym (c .before .before .loop-test .taken))
     (left-falls (a .self) (now (a .store)) (h .loop .self) (h .loop .changed) (h .loop .inv) p (c .before .pass .ensures)
     (omega (arith, h .loop .inv .used-kept, h .loop .inv .places-kept, whole))))
     (λ c.
     let h = c .before .before .before in
-    let a = h .before .before .args in
+    let a = h .before .before .before .args in
     reached-next (a .self) (now (a .store)) _ _ (h .loop .inv) _ (c .before .pass .ensures))
     (λ c.
     let h = c .before in
-    let a = h .before .before .args in
+    let a = h .before .before .before .args in
     reached-settled (a .self) (now (a .store)) (h .loop .self)
     (subst (Reached (a .self) (now (a .store)) (h .loop .self)) (c .loop-test .left) (h .loop .inv))))
