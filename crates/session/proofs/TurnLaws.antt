@@ -20,8 +20,8 @@ use Rattle.ledger.specs.Answers.{answer-right}
 use Rattle.input.specs.declared.Assembled.{Assembled}
 use Rattle.input.specs.Lines.{Keeps, Takes, ending, lineIn}
 use Rattle.input.specs.LineLaws.{keeps-none, keeps-read}
+use Rattle.answers.specs.Answers.{Printable}
 use Rattle.session.specs.Session.{Machine, answerLine, endLine, feed}
-use Rattle.session.specs.Answers.{Printable}
 use Rattle.session.specs.Feeding.{Follows}
 use Rattle.session.specs.FeedLaws.{withText, feed-text, feed-line, Moves}
 

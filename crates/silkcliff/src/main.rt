@@ -1,7 +1,7 @@
 // The command: offers from standard input, answers and the report to standard output. Everything but reading and writing is `session`.
 ghost use Prim.Native.Nat.{_≤_};
 ghost use lib.ListN.{length};
-ghost use Rattle.session.specs.Feeding.{maxAnswer};
+ghost use Rattle.answers.specs.Answers.{maxAnswer};
 use input::MAX_LINE;
 use ledger::Ledger;
 use libc::STDIN_FILENO;
