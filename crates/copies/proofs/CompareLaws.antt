@@ -1,43 +1,50 @@
--- What the second copy's answers come to.
+-- What the answers of a copy's report come to.
 -- Assumes nothing.
-use mathlib.Core.Path.{_≡_, ap, subst}
-use Prim.Native.Nat.{ℕ}
+use mathlib.Core.Path.{_≡_, sym, ap, subst}
+use Prim.Native.Nat.{ℕ, _≤_}
 use mathlib.Core.List.{List}
 use mathlib.Core.Bool.{true, false}
 use lib.ListN.{length, take}
 use Rattle.keys.specs.Order.{same}
-use Rattle.state.specs.declared.Ledger.{Ledger}
 use Rattle.refusals.specs.declared.Refusal.{Refusal}
 use Rattle.ledger.specs.declared.Reported.{Reported}
 use Rattle.ledger.specs.declared.Reported.the-variants.{Written, Refused as NotReported}
-use Rattle.ledger.specs.Ask.{freshLedger}
-use Rattle.ledger.specs.Calls.{Calls}
 use Rattle.ledger.specs.Report.{Reporting}
 use Rattle.copies.specs.declared.Compared.{Compared}
 use Rattle.copies.specs.declared.Compared.the-variants.{Same, Different, Refused}
-use Rattle.copies.specs.LengthLaws.{written-length}
-use Rattle.copies.specs.Check.{comparedOf, SecondChecking, refused, compared, Checking, first-refused, checking}
+use Rattle.copies.specs.LengthLaws.{report-within, written-length}
+use Rattle.copies.specs.Check.{OneCopy, comparedOf, SecondChecking, refused, compared, Checking, first-refused, checking}
 
-module _ {l : Ledger} {s s′ o o′ : List ℕ} {bs : List (List ℕ)} {r : Reported} (c : Calls freshLedger s bs l s′) (h : Reporting l s′ o r o′) where
-  pub first-not : (ys : List (List ℕ)) (t p : List ℕ) (e : Refusal) → r ≡ NotReported e → Checking bs ys s t o p (Refused e) s′ t o′ p
-  first-not ys t p e q = first-refused e c (subst (λ (x : Reported). Reporting l s′ o x o′) q h)
+module _ {s s′ o o′ : List ℕ} {bs : List (List ℕ)} {r : Reported} (c : OneCopy bs s o r s′ o′) where
+  answered : {x : Reported} → r ≡ x → Reporting (c .ledger) s′ o x o′
+  answered q = subst (λ (x : Reported). Reporting (c .ledger) s′ o x o′) q (c .reports)
 
-  pub both : (ys : List (List ℕ)) (t p : List ℕ) (n : ℕ) → r ≡ Written n → {a : Compared} {t′ p′ : List ℕ}
+  -- a report that is written lies within the buffer
+  pub copy-within : {n : ℕ} → r ≡ Written n → n ≤ length o′
+  copy-within {n} q = report-within (c .reports) n q
+
+  pub copy-length : {n : ℕ} → r ≡ Written n → n ≡ length (take n o′)
+  copy-length {n} q = sym (written-length (c .reports) n q)
+
+  pub first-not : {ys : List (List ℕ)} {t p : List ℕ} {e : Refusal} → r ≡ NotReported e → Checking bs ys s t o p (Refused e) s′ t o′ p
+  first-not {e = e} q = first-refused e (c .calls) (answered q)
+
+  pub both : {ys : List (List ℕ)} {t p : List ℕ} {n : ℕ} → r ≡ Written n → {a : Compared} {t′ p′ : List ℕ}
       → SecondChecking (take n o′) ys t p a t′ p′ → Checking bs ys s t o p a s′ t′ o′ p′
-  both ys t p n q k = checking n c (subst (λ (x : Reported). Reporting l s′ o x o′) q h) k
+  both {n = n} q k = checking n (c .calls) (answered q) k
 
-  module _ (first : List ℕ) where
-    pub second-not : (e : Refusal) → r ≡ NotReported e → SecondChecking first bs s o (Refused e) s′ o′
-    second-not e q = refused e c (subst (λ (x : Reported). Reporting l s′ o x o′) q h)
+  module _ {first : List ℕ} where
+    pub second-not : {e : Refusal} → r ≡ NotReported e → SecondChecking first bs s o (Refused e) s′ o′
+    second-not {e} q = refused e (c .calls) (answered q)
 
-    module _ (n : ℕ) (q : r ≡ Written n) where
+    module _ {n : ℕ} (q : r ≡ Written n) where
       second-is : (a : Compared) → comparedOf first (take n o′) ≡ a → SecondChecking first bs s o a s′ o′
-      second-is a e = subst (λ (x : Compared). SecondChecking first bs s o x s′ o′) e (compared n c (subst (λ (x : Reported). Reporting l s′ o x o′) q h))
+      second-is a e = subst (λ (x : Compared). SecondChecking first bs s o x s′ o′) e (compared n (c .calls) (answered q))
 
       pub second-same : same first (take n o′) ≡ true → SecondChecking first bs s o (Same n) s′ o′
       unfolding comparedOf
-      second-same e = second-is (Same n) (rw e (ap Same (written-length h n q)))
+      second-same e = second-is (Same n) (rw e (ap Same (sym (copy-length q))))
 
       pub second-different : same first (take n o′) ≡ false → SecondChecking first bs s o (Different (length first) n) s′ o′
       unfolding comparedOf
-      second-different e = second-is (Different (length first) n) (rw e (ap (Different (length first)) (written-length h n q)))
+      second-different e = second-is (Different (length first) n) (rw e (ap (Different (length first)) (sym (copy-length q))))

@@ -7,12 +7,19 @@ use lib.ListN.{length, take}
 use Rattle.keys.specs.Order.{same}
 use Rattle.state.specs.declared.Ledger.{Ledger}
 use Rattle.refusals.specs.declared.Refusal.{Refusal}
+use Rattle.ledger.specs.declared.Reported.{Reported}
 use Rattle.ledger.specs.declared.Reported.the-variants.{Written, Refused as NotReported}
 use Rattle.ledger.specs.Ask.{freshLedger}
 use Rattle.ledger.specs.Calls.{Calls}
 use Rattle.ledger.specs.Report.{Reporting}
 use Rattle.copies.specs.declared.Compared.{Compared}
 use Rattle.copies.specs.declared.Compared.the-variants.{Same, Different, Refused}
+
+-- One copy: offers of the list xs to a fresh ledger with the store s, and a report into the buffer o.
+pub record OneCopy (xs : List (List ℕ)) (s o : List ℕ) (r : Reported) (s′ o′ : List ℕ) : Type 0 where
+  pub ledger : Ledger
+  pub calls : Calls freshLedger s xs ledger s′
+  pub reports : Reporting ledger s′ o r o′
 
 -- the answer for two full reports
 unfoldable pub comparedOf : List ℕ → List ℕ → Compared

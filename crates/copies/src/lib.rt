@@ -2,7 +2,7 @@
 ghost use mathlib.Core.List.{map};
 ghost use Rattle.ledger.specs.Ask.{freshLedger};
 ghost use Rattle.ledger.specs.Calls.{Calls};
-ghost use Rattle.copies.specs.Check.{Checking, SecondChecking};
+ghost use Rattle.copies.specs.Check.{OneCopy, Checking, SecondChecking};
 use ledger::Ledger;
 use ledger::Refusal;
 use ledger::Reported;
@@ -33,12 +33,19 @@ fn offer_all(xs: &[&[u8]], store: &mut [u8]) -> Ledger
     l
 }
 
+// One copy: offers all of xs to a fresh ledger, and reports.
+fn report_all(xs: &[&[u8]], store: &mut [u8], out: &mut [u8]) -> Reported
+    ensures { λ r. ⌜ OneCopy (map (λ x. now x) (now (xs .entry))) (now (store .entry)) (now (out .entry)) r (now (store .exit)) (now (out .exit)) ⌝ }
+{
+    let l = offer_all(xs, store);
+    ledger::report(l, store, out)
+}
+
 // The second copy, beside the full report of the first.
 fn compare_second(report: &[u8], ys: &[&[u8]], other: &mut [u8], other_out: &mut [u8]) -> Compared
     ensures { λ r. ⌜ SecondChecking (now (report .entry)) (map (λ x. now x) (now (ys .entry))) (now (other .entry)) (now («other_out» .entry)) r (now (other .exit)) (now («other_out» .exit)) ⌝ }
 {
-    let l = offer_all(ys, other);
-    match ledger::report(l, other, other_out) {
+    match report_all(ys, other, other_out) {
         Reported::Refused(e) => Compared::Refused(e),
         Reported::Written(k) => {
             if keys::same(report, &other_out[..k]) {
@@ -65,8 +72,7 @@ pub fn compare(
 ) -> Compared
     ensures { λ r. ⌜ Checking (map (λ x. now x) (now (xs .entry))) (map (λ x. now x) (now (ys .entry))) (now (store .entry)) (now (other .entry)) (now (out .entry)) (now («other_out» .entry)) r (now (store .exit)) (now (other .exit)) (now (out .exit)) (now («other_out» .exit)) ⌝ }
 {
-    let l = offer_all(xs, store);
-    match ledger::report(l, store, out) {
+    match report_all(xs, store, out) {
         Reported::Refused(e) => Compared::Refused(e),
         Reported::Written(n) => compare_second(&out[..n], ys, other, other_out),
     }

@@ -9,10 +9,11 @@ use lib.Seq.{length-take-le, take-append-le}
 use Rattle.rules.specs.Report.{reportOf}
 use Rattle.state.specs.declared.Ledger.{Ledger}
 use Rattle.state.specs.Stands.{ident}
+use Rattle.answers.specs.Answers.{maxAnswer}
 use Rattle.session.specs.declared.Fed.{Fed}
 use Rattle.session.specs.declared.Finished.the-variants.{Written}
 use Rattle.session.specs.Session.{Machine, endLine, feedByte, feed, lastLine, finish}
-use Rattle.session.specs.Feeding.{maxAnswer, maxEnd, Follows, Feeds, Reports, Finishes, written}
+use Rattle.session.specs.Feeding.{maxEnd, Follows, Feeds, Reports, Finishes, written}
 
 abbrev pub newline : List ℕ
 newline = 10 ∷ []

@@ -14,13 +14,13 @@ use Rattle.offering.specs.Offer.{Offering}
 use Rattle.offering.specs.Words.{answerText}
 use Rattle.input.specs.declared.Assembled.{Assembled}
 use Rattle.input.specs.Lines.{Takes}
-use Rattle.session.specs.declared.Begun.{Begun}
-use Rattle.session.specs.declared.Begun.the-variants.{Unread, Offers}
-use Rattle.session.specs.Answers.{Begins}
-use Rattle.session.specs.Feeding.{maxAnswer, Feeds}
+use Rattle.answers.specs.declared.Begun.{Begun}
+use Rattle.answers.specs.declared.Begun.the-variants.{Unread, Offers}
+use Rattle.answers.specs.Answers.{maxAnswer, Begins}
+use Rattle.answers.proofs.AnswerLaws.{unread-past}
+use Rattle.answers.proofs.BeginLaws.{begun-unread, begun-offer}
+use Rattle.session.specs.Feeding.{Feeds}
 use Rattle.session.specs.FeedLaws.{Moves, moves-none, moves-then}
-use Rattle.session.proofs.AnswerLaws.{unread-past}
-use Rattle.session.proofs.BeginLaws.{begun-unread, begun-offer}
 use Rattle.session.proofs.OutLaws.{Extends, extends-none, partFrom, withPart, part-is, part-length, with-same, prints}
 use Rattle.session.proofs.TurnLaws.{turn-text, turn-unread, turn-offer}
 

@@ -18,11 +18,11 @@ use Rattle.offering.specs.Words.{answerText}
 use Rattle.ledger.specs.Calls.{offer-stands}
 use Rattle.ledger.specs.Answers.{answer-right}
 use Rattle.input.specs.declared.Assembled.{Assembled}
-use Rattle.input.specs.Lines.{Keeps, Takes, ending}
 use Rattle.reading.specs.Line.{lineIn}
+use Rattle.input.specs.Lines.{Keeps, Takes, ending}
 use Rattle.input.specs.KeepLaws.{keeps-none, keeps-read}
+use Rattle.answers.specs.Answers.{Printable}
 use Rattle.session.specs.Session.{Machine, answerLine, endLine, feed}
-use Rattle.session.specs.Answers.{Printable}
 use Rattle.session.specs.Feeding.{Follows}
 use Rattle.session.specs.FeedLaws.{withText, feed-text, feed-line, Moves}
 

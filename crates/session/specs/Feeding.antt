@@ -10,15 +10,13 @@ use Rattle.rules.specs.Report.{reportOf}
 use Rattle.state.specs.declared.Ledger.{Ledger}
 use Rattle.state.specs.Stands.{ident, Stands}
 use Rattle.input.specs.Lines.{Keeps}
+use Rattle.answers.specs.Answers.{maxAnswer}
 use Rattle.session.specs.declared.Fed.{Fed}
 use Rattle.session.specs.declared.Finished.{Finished}
 use Rattle.session.specs.declared.Finished.the-variants.{Written, Short}
 use Rattle.session.specs.Session.{Machine, feed, finish}
 
--- the longest answer, `(taken waiting 64 64)` and its newline; and the longest end of an output, an answer and a report
-abbrev pub maxAnswer : ℕ
-maxAnswer = 22
-
+-- the longest end of an output: an answer and a report
 abbrev pub maxEnd : ℕ
 maxEnd = maxAnswer + 12000
 

@@ -1,6 +1,5 @@
 pub mod Session
 pub mod Examples
-pub mod Answers
 pub mod Feeding
 pub mod FeedLaws
 pub mod InPieces

@@ -2,11 +2,9 @@
 ghost use Prim.Native.Nat.{_+_, _≤_};
 ghost use lib.ListN.{length};
 ghost use Rattle.session.specs.Feeding.{Feeds, Reports, Finishes};
-
-mod answer;
-
-use answer::begin_answer;
-use answer::print_answer;
+use answers::Begun;
+use answers::begin_answer;
+use answers::print_answer;
 use input::take_line;
 use ledger::Ledger;
 use ledger::Reported;
@@ -17,12 +15,6 @@ pub const MAX_ANSWER: usize = 22;
 
 // The longest end of an output: an answer and a report.
 pub const MAX_END: usize = 12022;
-
-// What a line comes to before any offer: it is not read, and its answer takes so many bytes; or it offers so many bytes.
-pub enum Begun {
-    Unread(usize),
-    Offers(usize),
-}
 
 // What a piece of input comes to: the ledger; how long the line so far is, as `input::take_line` counts; how many bytes of the piece were consumed; and how many
 // bytes of output were put at the start of the output buffer.

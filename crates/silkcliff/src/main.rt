@@ -1,7 +1,8 @@
 // The command: offers from standard input, answers and the report to standard output. Everything but reading and writing is `session`.
 ghost use Prim.Native.Nat.{_≤_};
 ghost use lib.ListN.{length};
-ghost use Rattle.session.specs.Feeding.{maxAnswer, maxEnd};
+ghost use Rattle.answers.specs.Answers.{maxAnswer};
+ghost use Rattle.session.specs.Feeding.{maxEnd};
 use ledger::Ledger;
 use libc::STDIN_FILENO;
 use libc::STDOUT_FILENO;

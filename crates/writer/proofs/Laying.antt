@@ -20,10 +20,11 @@ use Rattle.report.specs.declared.Places.{Places}
 use Rattle.report.specs.Board.{idAt}
 use Rattle.report.specs.Pieces.{placesIn, Lists}
 use Rattle.report.proofs.Inserting.{length-is}
+use Rattle.predecessors.specs.Choose.{chosenPlaces}
 use Rattle.writer.specs.declared.Kind.{Kind}
 use Rattle.writer.specs.declared.Kind.the-variants.{Add as AnAdd, Remove as ARemove, Insert as AnInsert, Delete as ADelete}
 use Rattle.writer.specs.Operations.{operationFor, badNamed, unorderedNamed}
-use Rattle.writer.specs.Choose.{chosenPlaces, writtenAt}
+use Rattle.writer.specs.Written.{writtenAt}
 
 -- ids
 
@@ -41,20 +42,8 @@ module _ (l : Ledger) (xs : List ℕ) (i : ℕ) where
 
 -- operations
 
-pub add-bytes : (t : List ℕ) → (1 ∷ []) ++ t ≡ encodeOperation (Add t)
-unfolding encodeOperation
-add-bytes t = refl
-
-pub insert-bytes : (a v : List ℕ) → (3 ∷ []) ++ (a ++ v) ≡ encodeOperation (Insert a v)
-unfolding encodeOperation
-insert-bytes a v = refl
-
-pub delete-bytes : (i : List ℕ) → (4 ∷ []) ++ i ≡ encodeOperation (Delete i)
-unfolding encodeOperation
-delete-bytes i = refl
-
 pub remove-bytes : (t named : List ℕ) → length named % 32 ≡ 0
-    → (2 ∷ []) ++ (t ++ ((length named / 32 ∷ []) ++ named)) ≡ encodeOperation (Remove t (idsAt named 0 (length named / 32)))
+    → (2 ∷ t) ++ ((length named / 32 ∷ []) ++ named) ≡ encodeOperation (Remove t (idsAt named 0 (length named / 32)))
 unfolding encodeOperation
 remove-bytes t named h =
     ap₂ (λ (n : ℕ) (b : List ℕ). 2 ∷ (t ++ (n ∷ b)))

@@ -12,8 +12,8 @@ use Rattle.state.specs.declared.Ledger.{Ledger}
 use Rattle.state.specs.declared.Judgement.the-variants.{Holds, Fails}
 use Rattle.state.specs.Judge.{judgeDecoded}
 use Rattle.state.specs.Stands.{ident, Stands}
-use Rattle.writer.specs.Choose.{writtenAt}
-use Rattle.writer.specs.ChosenLaws.{chosen-ids}
+use Rattle.predecessors.specs.ChosenLaws.{chosen-ids}
+use Rattle.writer.specs.Written.{writtenAt}
 use Rattle.writer.specs.JudgedLaws.{wordOf, judged}
 
 module _ (l : Ledger) (s : List ℕ) (us : List Update) (stands : Stands l s us) (a : ℕ) (o : Operation) where

@@ -1,7 +1,4 @@
 pub mod Operations
-pub mod Choose
-pub mod FrontLaws
-pub mod TopLaws
-pub mod ChosenLaws
+pub mod Written
 pub mod JudgedLaws
 pub mod ChooseRight

@@ -62,15 +62,23 @@ pub fn put_ids(l: Ledger, places: Places, page: &mut [u8], at: usize) -> usize
     end
 }
 
+// The byte of a kind and the bytes after it.
+fn put_part(kind: u8, part: &[u8], page: &mut [u8], at: usize) -> usize
+    requires { ⌜ at ≤ 3000 ⌝ }
+    ensures { λ r. ⌜ Prints (now (page .entry)) at (kind ∷ now (part .entry)) (now (page .exit)) r ⌝ }
+{
+    let byte = [kind];
+    let body = put(page, at, &byte);
+    put(page, body, part)
+}
+
 // The bytes of an Add.
 fn put_add(tag: [u8; 16], page: &mut [u8], at: usize) -> usize
     requires { ⌜ at ≤ 3000 ⌝ }
     ensures prints { λ r. ⌜ Prints (now (page .entry)) at (encodeOperation (Add tag)) (now (page .exit)) r ⌝ }
     ensures small { λ r. ⌜ r ≡ at + 17 ⌝ }
 {
-    let kind = [ADD];
-    let body = put(page, at, &kind);
-    put(page, body, &tag)
+    put_part(ADD, &tag, page, at)
 }
 
 // The bytes of a Remove.
@@ -79,9 +87,7 @@ fn put_remove(tag: [u8; 16], named: &[u8], page: &mut [u8], at: usize) -> usize
     ensures prints { λ r. ⌜ Prints (now (page .entry)) at (encodeOperation (Remove tag (idsAt (now (named .entry)) 0 (length (now (named .entry)) / idLength)))) (now (page .exit)) r ⌝ }
     ensures small { λ r. ⌜ r ≤ at + 274 ⌝ }
 {
-    let kind = [REMOVE];
-    let body = put(page, at, &kind);
-    let tagged = put(page, body, &tag);
+    let tagged = put_part(REMOVE, &tag, page, at);
     let count = [(named.len() / ID_LENGTH) as u8];
     let counted = put(page, tagged, &count);
     put(page, counted, named)
@@ -93,9 +99,7 @@ fn put_insert(anchor: [u8; 32], value: [u8; 16], page: &mut [u8], at: usize) -> 
     ensures prints { λ r. ⌜ Prints (now (page .entry)) at (encodeOperation (Insert anchor value)) (now (page .exit)) r ⌝ }
     ensures small { λ r. ⌜ r ≡ at + 49 ⌝ }
 {
-    let kind = [INSERT];
-    let body = put(page, at, &kind);
-    let anchored = put(page, body, &anchor);
+    let anchored = put_part(INSERT, &anchor, page, at);
     put(page, anchored, &value)
 }
 
@@ -105,9 +109,7 @@ fn put_delete(deleted: [u8; 32], page: &mut [u8], at: usize) -> usize
     ensures prints { λ r. ⌜ Prints (now (page .entry)) at (encodeOperation (Delete deleted)) (now (page .exit)) r ⌝ }
     ensures small { λ r. ⌜ r ≡ at + 33 ⌝ }
 {
-    let kind = [DELETE];
-    let body = put(page, at, &kind);
-    put(page, body, &deleted)
+    put_part(DELETE, &deleted, page, at)
 }
 
 // The kind byte and the bytes of an operation.

@@ -1,16 +1,16 @@
-// Writing a new update: the predecessors that it names, and its bytes.
+// Writing a new update: its bytes, with the chosen predecessors.
 ghost use mathlib.Core.Path.{_≡_};
 ghost use mathlib.Core.Bool.{false};
 ghost use Prim.Native.Nat.{_≤_};
 ghost use Rattle.format.specs.Update.{encode};
 ghost use Rattle.report.specs.Text.{Prints};
-ghost use Rattle.writer.specs.Choose.{writtenAt};
+ghost use Rattle.writer.specs.Written.{writtenAt};
 ghost use Rattle.writer.specs.Operations.{operationFor, badNamed, unorderedNamed};
 
-mod choice;
 mod layout;
 
 use format::bounds::ID_LENGTH;
+use predecessors::chosen;
 use state::Ledger;
 
 // The kind of a written operation.
@@ -66,7 +66,7 @@ pub fn compose(
     ensures prints { λ r. ⌜ Prints (now (page .entry)) 0 (encode (writtenAt l (now (store .entry)) author (operationFor kind tag id (now (named .entry))))) (now (page .exit)) r ⌝ }
     ensures small { λ r. ⌜ r ≤ 533 ⌝ }
 {
-    let places = choice::chosen(l, store, author);
+    let places = chosen(l, store, author);
     let start = layout::put_header(author, places.count, page);
     let end = layout::put_ids(l, places, page, start);
     layout::put_operation(kind, tag, id, named, page, end)

@@ -19,7 +19,7 @@ use Rattle.state.specs.Stands.{ident, Stands}
 use Rattle.report.specs.Text.{Prints}
 use Rattle.writer.specs.declared.Kind.{Kind}
 use Rattle.writer.specs.Operations.{operationFor}
-use Rattle.writer.specs.Choose.{writtenAt}
+use Rattle.writer.specs.Written.{writtenAt}
 use Rattle.writer.specs.ChooseRight.{chosen-right, writable-holds, unwritable-fails}
 use Rattle.refusals.specs.declared.Refusal.the-variants.{Short, Invalid}
 use Rattle.writing.specs.declared.Wrote.the-variants.{Written, Refused}

@@ -6,9 +6,9 @@ use native.Mathlib.Omega.{arith}
 use borrow.Author.Tests.{leb-true, leb-false}
 use lib.ListN.{length}
 use lib.Seq.{length-take-le}
-use Rattle.session.specs.Feeding.{maxAnswer}
-use Rattle.session.proofs.AnswerLaws.{unread-past}
-use Rattle.session.proofs.BeginLaws.{begun-unread, begun-offer}
+use Rattle.answers.specs.Answers.{maxAnswer}
+use Rattle.answers.proofs.AnswerLaws.{unread-past}
+use Rattle.answers.proofs.BeginLaws.{begun-unread, begun-offer}
 use Rattle.session.proofs.OutLaws.{with-inside}
 use Rattle.session.proofs.TurnLaws.{offering-printable}
 use Rattle.session.proofs.RunLaws.{Running, run-none, run-less, run-text, run-unread, run-offer, run-ends, run-full}

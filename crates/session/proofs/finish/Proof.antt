@@ -4,7 +4,8 @@ use mathlib.Core.Path.{sym}
 use lib.Seq.{length-take-le}
 use native.Mathlib.Omega.{arith}
 use denote.Ref.{now}
-use Rattle.session.specs.Feeding.{maxAnswer, short}
+use Rattle.answers.specs.Answers.{maxAnswer}
+use Rattle.session.specs.Feeding.{short}
 use Rattle.session.proofs.EndLaws.{end-begun, end-room, end-line}
 use borrow.Author.Needs.{needs}
 use Rattle.session.proofs.finish.Statement.{statement}

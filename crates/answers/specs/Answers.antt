@@ -1,0 +1,30 @@
+-- What is printed for a line.
+-- Assumes nothing.
+use mathlib.Core.Path.{_≡_}
+use Prim.Native.Nat.{ℕ, _≤_, _<_}
+use mathlib.Core.List.{List}
+use mathlib.Core.Option.{none, some}
+use lib.ListN.{length, take}
+use Rattle.rules.specs.Report.{ascii}
+use Rattle.report.specs.Text.{Prints}
+use Rattle.reading.specs.Line.{lineIn}
+use Rattle.offering.specs.declared.Answer.{Answer}
+use Rattle.offering.specs.declared.Answer.the-variants.{Taken, Known, Refused}
+use Rattle.answers.specs.declared.Begun.{Begun}
+use Rattle.answers.specs.declared.Begun.the-variants.{Unread, Offers}
+
+-- the longest answer, `(taken waiting 64 64)` and its newline
+abbrev pub maxAnswer : ℕ
+maxAnswer = 22
+
+-- the counts have at most two digits
+abbrev pub Printable : Answer → Type 0
+Printable (Taken v h w) = (h < 100) × (w < 100)
+Printable (Known v) = Unit {0}
+Printable (Refused r) = Unit {0}
+
+-- a line that is not read has its answer printed; the bytes of an offer are put into the update buffer
+pub data Begins (buffer : List ℕ) (fill : ℕ) (out : List ℕ) : Begun → List ℕ → List ℕ → Type 0 where
+  unread : (n : ℕ) (update out′ : List ℕ) → lineIn buffer fill ≡ none → Prints out 0 (ascii "(unread)\n") out′ n → Begins buffer fill out (Unread n) update out′
+  offers : (b update′ : List ℕ) → lineIn buffer fill ≡ some b → length b ≤ length update′ → take (length b) update′ ≡ b
+      → Begins buffer fill out (Offers (length b)) update′ out

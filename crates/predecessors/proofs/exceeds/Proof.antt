@@ -1,0 +1,32 @@
+-- `exceeds` meets its contract, by the author's highest so far.
+-- Assumes nothing.
+use mathlib.Core.Path.{sym, _∙_}
+use native.Mathlib.Omega.{arith}
+use borrow.Author.Needs.{needs}
+use denote.Ref.{now}
+use Rattle.state.proofs.Judging.{found-at, found-nowhere}
+use Rattle.predecessors.specs.Choose.{topBelow}
+use Rattle.predecessors.proofs.Choosing.{top-inside, better-top, better-none}
+use Rattle.predecessors.proofs.exceeds.Statement.{statement}
+use Rattle.predecessors.proofs.exceeds.Tie as tie
+
+pub exceeds-spec : {M : Type 1} → statement M
+exceeds-spec =
+    tie.close
+    (tie.spec
+    (λ c. search needs)
+    (λ c κs.
+    let args = c .before .before .before .before .args in
+    let pre = c .before .before .before .before .pre in
+    let e = found-at (topBelow (args .l) (now (args .store)) (args .author) (args .k)) _ (sym (pre .2) ∙ c .before .top .given .1) in
+    (omega (arith, pre .0, pre .1), omega (arith, top-inside (args .l) (now (args .store)) (args .author) (args .k) _ e, pre .0, pre .1)))
+    (λ c. search needs)
+    (λ c.
+    let args = c .before .before .before .before .before .args in
+    let pre = c .before .before .before .before .before .pre in
+    let top = c .before .before .top in
+    better-top (args .l) (now (args .store)) (args .author) (args .k) _ (found-at (topBelow (args .l) (now (args .store)) (args .author) (args .k)) _ (sym (pre .2) ∙ top .given .1)) (c .is-higher .ensures))
+    (λ c.
+    let args = c .before .before .before .args in
+    let pre = c .before .before .before .pre in
+    better-none (args .l) (now (args .store)) (args .author) (args .k) (found-nowhere (topBelow (args .l) (now (args .store)) (args .author) (args .k)) (sym (pre .2) ∙ c .enum-told .given .1))))

@@ -1,0 +1,21 @@
+-- `is_above` meets its contract.
+-- Assumes nothing.
+use borrow.Author.Needs.{needs}
+use Rattle.predecessors.proofs.Choosing.{above-same, above-other}
+use Rattle.predecessors.proofs.is_above.Statement.{statement}
+use Rattle.predecessors.proofs.is_above.Tie as tie
+
+pub is-above-spec : {M : Type 1} → statement M
+is-above-spec =
+    tie.close
+    (tie.spec
+    (λ c.
+    let args = c .before .args in
+    above-same (args .t1) (args .t) (args .h) (c .if1 .taken))
+    (λ c. search needs)
+    (λ c. search needs)
+    (λ c κs. search needs)
+    (λ c.
+    let args = c .before .before .before .args in
+    let if1 = c .before .before .if1 in
+    above-other (args .t1) (args .t) (args .h) (if1 .left) (c .has .ensures)))

@@ -1,0 +1,33 @@
+-- `with_head` meets its contract.
+-- Assumes nothing.
+use mathlib.Core.Path.{_∙_}
+use native.Mathlib.Omega.{arith}
+use borrow.Author.Needs.{needs}
+use denote.Ref.{now}
+use Rattle.report.specs.Board.{headAt}
+use Rattle.report.specs.Pieces.{placesIn}
+use Rattle.report.proofs.Inserting.{renamed, ins-end}
+use Rattle.report.proofs.Testing.{keep-yes, keep-nothing}
+use Rattle.predecessors.proofs.with_head.Statement.{statement}
+use Rattle.predecessors.proofs.with_head.Tie as tie
+
+pub with-head-spec : {M : Type 1} → statement M
+with-head-spec =
+    tie.close
+    (tie.spec
+    (λ c κs.
+    let pre = c .before .pre in
+    (pre .0, pre .3))
+    (λ c κs.
+    let pre = c .before .before .before .pre in
+    (pre .1, pre .2, search needs, pre .3))
+    (λ c.
+    let args = c .before .before .before .before .args in
+    let pre = c .before .before .before .before .pre in
+    let is-head = c .before .before .is-head in
+    let insert = c .insert in
+    (renamed (ins-end (args .places) (pre .1) (args .k) ∙ keep-yes (headAt (args .l) (now (args .store))) (placesIn (args .places)) (args .k) (is-head .ensures) (c .before .if1 .taken)) (insert .ensures .0), omega (arith, insert .ensures .1)))
+    (λ c.
+    let pre = c .before .before .before .pre in
+    let args = c .before .before .before .args in
+    (record { sound = pre .1; are = keep-nothing (headAt (args .l) (now (args .store))) (placesIn (args .places)) (args .k) (c .before .is-head .ensures) (c .if1 .left) }, search needs)))

@@ -1,0 +1,4 @@
+pub mod Choose
+pub mod FrontLaws
+pub mod TopLaws
+pub mod ChosenLaws

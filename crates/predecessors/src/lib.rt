@@ -1,0 +1,216 @@
+// The predecessors of a new update, as places.
+ghost use mathlib.Core.Path.{_≡_};
+ghost use mathlib.Core.Bool.{_||_};
+ghost use mathlib.Core.Option.{some};
+ghost use mathlib.Core.List.{[], _∷_, _++_};
+ghost use Prim.Native.Nat.{_+_, _≤_, _<_};
+ghost use lib.Dec.{eqb};
+ghost use lib.ListN.{length, take};
+ghost use Rattle.keys.specs.Order.{before};
+ghost use Rattle.keys.specs.Member.{keep};
+ghost use Rattle.bits.specs.Below.{firstBelow};
+ghost use Rattle.bits.specs.Bits.{has};
+ghost use Rattle.state.specs.State.{placeAt, foundOf};
+ghost use Rattle.report.specs.Board.{headAt};
+ghost use Rattle.report.specs.Pieces.{placesIn, Sound, Lists};
+ghost use Rattle.predecessors.specs.Choose.{headsOf, ownAt, higher, betterThan, topBelow, aboveAt, eightFor, chosenPlaces};
+use keys::Order;
+use report::Key;
+use report::Places;
+use report::read;
+use report::sorted;
+use report::tests;
+use state::Found;
+use state::Ledger;
+use state::Standing;
+use state::store::stored;
+
+// How many predecessors an update has at most: format::bounds::MAX_PREDECESSORS.
+const NAMED_HEADS: usize = 8;
+
+// The list with place k at its end, if it is a head.
+fn with_head(l: Ledger, store: &[u8], places: Places, k: usize) -> Places
+    requires { ⌜ (l .used ≤ 64) × Sound places × (places .count < 64) × (k < 64) ⌝ }
+    ensures { λ r. ⌜ Lists r (placesIn places ++ keep (headAt l (now (store .entry))) (k ∷ [])) × (r .count ≤ places .count + 1) ⌝ }
+{
+    if tests::is_head(l, store, k) {
+        let count = places.count;
+        places.insert(count, k)
+    } else {
+        places
+    }
+}
+
+// The heads, ascending by id.
+fn heads(l: Ledger, store: &[u8]) -> Places
+    requires { ⌜ l .used ≤ 64 ⌝ }
+    ensures { λ r. ⌜ Lists r (headsOf l (now (store .entry))) ⌝ }
+{
+    let order = sorted::sorted(l, store, Key::Id);
+    let count = order.count;
+    let mut places = Places::none();
+    let mut i: usize = 0;
+    while i < count {
+        let k = order.items[i];
+        places = with_head(l, store, places, k);
+        i += 1;
+    }
+    places
+}
+
+// Whether place k is held and the author's.
+fn is_own(l: Ledger, store: &[u8], author: u8, k: usize) -> bool
+    requires { ⌜ k < 64 ⌝ }
+    ensures { λ r. ⌜ r ≡ ownAt l (now (store .entry)) author k ⌝ }
+{
+    let p = l.places[k];
+    let standing = p.standing;
+    match standing {
+        Standing::Held => read::author_of(stored(store, k, p.length)) == author,
+        Standing::Waiting => false,
+        Standing::Void => false,
+    }
+}
+
+// Whether the id of place j comes before that of place k.
+fn comes_before(l: Ledger, j: usize, k: usize) -> bool
+    requires { ⌜ (j < 64) × (k < 64) ⌝ }
+    ensures { λ r. ⌜ r ≡ before (placeAt l j .id) (placeAt l k .id) ⌝ }
+{
+    match sorted::compare_ids(l.places[j], l.places[k]) {
+        Order::Less => true,
+        Order::Equal => false,
+        Order::Greater => false,
+    }
+}
+
+// Whether place k is of higher rank than place j, or of the same and of larger id.
+fn is_higher(l: Ledger, store: &[u8], k: usize, j: usize) -> bool
+    requires { ⌜ (k < 64) × (j < 64) ⌝ }
+    ensures { λ r. ⌜ r ≡ higher l (now (store .entry)) k j ⌝ }
+{
+    let p = l.places[k];
+    let q = l.places[j];
+    let rank = bits::count(p.ancestors);
+    let other = bits::count(q.ancestors);
+    if other < rank {
+        return true;
+    }
+    if other == rank {
+        comes_before(l, j, k)
+    } else {
+        false
+    }
+}
+
+// Whether place k is higher than the author's highest below it.
+fn exceeds(l: Ledger, store: &[u8], author: u8, top: Found, k: usize) -> bool
+    requires { ⌜ (l .used ≤ 64) × (k < l .used) × (top ≡ foundOf (topBelow l (now store) author k)) ⌝ }
+    ensures { λ r. ⌜ r ≡ betterThan l (now (store .entry)) (topBelow l (now (store .entry)) author k) k ⌝ }
+{
+    match top {
+        Found::At(j) => is_higher(l, store, k, j),
+        Found::Nowhere => true,
+    }
+}
+
+// The author's highest with place k.
+fn top_with(l: Ledger, store: &[u8], author: u8, top: Found, k: usize) -> Found
+    requires { ⌜ (l .used ≤ 64) × (k < l .used) × (top ≡ foundOf (topBelow l (now store) author k)) ⌝ }
+    ensures { λ r. ⌜ r ≡ foundOf (topBelow l (now (store .entry)) author (k + 1)) ⌝ }
+{
+    if !is_own(l, store, author, k) {
+        return top;
+    }
+    if exceeds(l, store, author, top, k) {
+        Found::At(k)
+    } else {
+        top
+    }
+}
+
+// The author's held place of highest rank (on a tie, larger id).
+fn top(l: Ledger, store: &[u8], author: u8) -> Found
+    requires { ⌜ l .used ≤ 64 ⌝ }
+    ensures { λ r. ⌜ r ≡ foundOf (topBelow l (now (store .entry)) author (l .used)) ⌝ }
+{
+    let used = l.used;
+    let mut highest = Found::Nowhere;
+    let mut k: usize = 0;
+    while k < used {
+        highest = top_with(l, store, author, highest, k);
+        k += 1;
+    }
+    highest
+}
+
+// Whether place h is place t or above it.
+fn is_above(l: Ledger, t: usize, h: usize) -> bool
+    requires { ⌜ h < 64 ⌝ }
+    ensures { λ r. ⌜ r ≡ eqb h t || has (placeAt l h .ancestors) t ⌝ }
+{
+    if h == t {
+        return true;
+    }
+    let p = l.places[h];
+    bits::has(p.ancestors, t)
+}
+
+// The index of the first head at or above place t.
+fn first_above(l: Ledger, store: &[u8], heads: Places, t: usize) -> Found
+    requires { ⌜ Lists heads (headsOf l (now store)) ⌝ }
+    ensures { λ r. ⌜ r ≡ foundOf (firstBelow (length (headsOf l (now (store .entry)))) (aboveAt l (now (store .entry)) t)) ⌝ }
+{
+    let count = heads.count;
+    let mut i: usize = 0;
+    while i < count {
+        let h = heads.items[i];
+        if is_above(l, t, h) {
+            return Found::At(i);
+        }
+        i += 1;
+    }
+    Found::Nowhere
+}
+
+// The first n places of the list.
+fn first(places: Places, n: usize) -> Places
+    requires { ⌜ Sound places × (n ≤ places .count) ⌝ }
+    ensures { λ r. ⌜ Lists r (take n (placesIn places)) × (r .count ≡ n) ⌝ }
+{
+    let items = places.items;
+    Places { count: n, items }
+}
+
+// Eight of more than eight heads, with the first at or above place t among them.
+fn eight_above(l: Ledger, store: &[u8], heads: Places, t: usize) -> Places
+    requires { ⌜ Lists heads (headsOf l (now store)) × (8 < heads .count) ⌝ }
+    ensures { λ r. ⌜ Lists r (eightFor l (now (store .entry)) (some t)) × (r .count ≤ 8) ⌝ }
+{
+    match first_above(l, store, heads, t) {
+        Found::At(j) => {
+            if j < NAMED_HEADS {
+                first(heads, NAMED_HEADS)
+            } else {
+                let h = heads.items[j];
+                first(heads, NAMED_HEADS - 1).insert(NAMED_HEADS - 1, h)
+            }
+        }
+        Found::Nowhere => first(heads, NAMED_HEADS),
+    }
+}
+
+// The heads that a new update of the author names.
+pub fn chosen(l: Ledger, store: &[u8], author: u8) -> Places
+    requires { ⌜ l .used ≤ 64 ⌝ }
+    ensures { λ r. ⌜ Lists r (chosenPlaces l (now (store .entry)) author) × (r .count ≤ 8) ⌝ }
+{
+    let all = heads(l, store);
+    if all.count <= NAMED_HEADS {
+        return all;
+    }
+    match top(l, store, author) {
+        Found::At(t) => eight_above(l, store, all, t),
+        Found::Nowhere => first(all, NAMED_HEADS),
+    }
+}

@@ -1,0 +1,16 @@
+-- `put_part` meets its contract.
+-- Assumes nothing.
+use borrow.Author.Needs.{needs}
+use Rattle.report.proofs.Printing.{both}
+use Rattle.writer.proofs.layout.put_part.Statement.{statement}
+use Rattle.writer.proofs.layout.put_part.Tie as tie
+
+pub put-part-spec : {M : Type 1} → statement M
+put-part-spec =
+    tie.close
+    (tie.spec
+    (λ c. search needs)
+    (λ c κs. search needs)
+    (λ c κs. search needs)
+    (λ c. search needs)
+    (λ c. both (c .before .before .before .before .before .before .put .ensures) (c .before .before .put2 .ensures)))
