@@ -4,7 +4,7 @@ ghost use Prim.Native.Nat.{_+_, _≤_};
 ghost use lib.ListN.{length};
 ghost use Rattle.state.specs.State.{written};
 ghost use Rattle.report.specs.Text.{Prints};
-ghost use Rattle.report.specs.Pieces.{farthest};
+ghost use Rattle.report.specs.Parts.{farthest};
 
 // Copies the text to byte `at` of the page.
 fn copy_in(page: &mut [u8], at: usize, text: &[u8])
