@@ -25,10 +25,11 @@ use Rattle.state.specs.declared.Standing.{Standing}
 use Rattle.state.specs.declared.Standing.the-variants.{Held, Waiting, Void}
 use Rattle.state.specs.State.{placeAt, foundOf, isHeld}
 use Rattle.state.proofs.Judging.{found-at}
-use Rattle.report.specs.declared.Places.{Places}
-use Rattle.report.specs.Board.{authorIn, idAt, decodedAt, heldAt, authorAt, rankAt, headAt, order}
-use Rattle.report.specs.Pieces.{placesIn, ins, small, Sound, Lists}
-use Rattle.report.proofs.Inserting.{length-is, passed, ins-end}
+use Rattle.views.specs.declared.Places.{Places}
+use Rattle.fields.specs.Fields.{authorIn}
+use Rattle.views.specs.Board.{idAt, decodedAt, heldAt, authorAt, rankAt, headAt, order}
+use Rattle.views.specs.Pieces.{placesIn, ins, small, Sound, Lists}
+use Rattle.views.proofs.Inserting.{length-is, passed, ins-end}
 use Rattle.predecessors.specs.Choose.{headsOf, ownAt, higher, betterThan, topBelow, aboveAt, eightWith, eightFor, chosenPlaces}
 
 -- heads

@@ -32,10 +32,10 @@ use Rattle.bits.specs.BitsLaws.{count-within}
 use Rattle.state.specs.declared.Ledger.{Ledger}
 use Rattle.state.specs.State.{placeAt}
 use Rattle.state.specs.Stands.{ident, Stands}
-use Rattle.report.specs.Board.{idAt, heldAt, authorAt, rankAt, order}
-use Rattle.report.specs.ListFacts.{and-agrees}
-use Rattle.report.specs.PlaceLaws.{from-used, to-used, places-distinct}
-use Rattle.report.specs.RowLaws.{rowAt, row-id, order-∈, ∈-order, table-rows, held-agrees, author-agrees, above-agrees}
+use Rattle.views.specs.Board.{idAt, heldAt, authorAt, rankAt, order}
+use Rattle.views.specs.ListFacts.{and-agrees}
+use Rattle.views.specs.PlaceLaws.{from-used, to-used, places-distinct}
+use Rattle.views.specs.RowLaws.{rowAt, row-id, order-∈, ∈-order, table-rows, held-agrees, author-agrees, above-agrees}
 use Rattle.predecessors.specs.Choose.{ownAt, higher, betterThan, topBelow}
 
 module _ (l : Ledger) (s : List ℕ) where

@@ -11,19 +11,18 @@ ghost use Rattle.keys.specs.Member.{keep};
 ghost use Rattle.bits.specs.Below.{firstBelow};
 ghost use Rattle.bits.specs.Bits.{has};
 ghost use Rattle.state.specs.State.{placeAt, foundOf};
-ghost use Rattle.report.specs.Board.{headAt};
-ghost use Rattle.report.specs.Pieces.{placesIn, Sound, Lists};
+ghost use Rattle.views.specs.Board.{headAt};
+ghost use Rattle.views.specs.Pieces.{placesIn, Sound, Lists};
 ghost use Rattle.predecessors.specs.Choose.{headsOf, ownAt, higher, betterThan, topBelow, aboveAt, eightFor, chosenPlaces};
 use keys::Order;
-use report::Key;
-use report::Places;
-use report::read;
-use report::sorted;
-use report::tests;
 use state::Found;
 use state::Ledger;
 use state::Standing;
 use state::store::stored;
+use views::Key;
+use views::Places;
+use views::sorted;
+use views::tests;
 
 // How many predecessors an update has at most: format::bounds::MAX_PREDECESSORS.
 const NAMED_HEADS: usize = 8;
@@ -66,7 +65,7 @@ fn is_own(l: Ledger, store: &[u8], author: u8, k: usize) -> bool
     let p = l.places[k];
     let standing = p.standing;
     match standing {
-        Standing::Held => read::author_of(stored(store, k, p.length)) == author,
+        Standing::Held => fields::author_of(stored(store, k, p.length)) == author,
         Standing::Waiting => false,
         Standing::Void => false,
     }

@@ -4,22 +4,13 @@ use Prim.Native.Nat.{ℕ, _+_, _≤_}
 use mathlib.Core.Path.{_≡_, sym, ap, ap₂, subst, _∙_}
 use mathlib.Core.List.{List, [], _++_, append-assoc}
 use native.Mathlib.Omega.{arith}
-use lib.ListN.{length, take, drop, length-append, length-drop, take-append-drop}
+use lib.ListN.{length, take, drop, length-append, take-append-drop}
 use lib.Seq.{length-take-le, take-at, drop-at, drop-drop}
 use Rattle.state.specs.State.{written}
+use Rattle.state.specs.TakeLaws.{written-length}
 use Rattle.report.specs.Text.{Prints}
 
--- a text that is written inside leaves the length
-written-length : (p : List ℕ) (at : ℕ) (t : List ℕ) → at + length t ≤ length p → length (written p at t) ≡ length p
-written-length p at t h =
-    omega (
-      arith,
-      length-append (take at p) (t ++ drop (at + length t) p),
-      length-append t (drop (at + length t) p),
-      length-take-le at p (omega arith),
-      length-drop (at + length t) p,
-    )
-
+-- a text after a text that is written inside
 written-both : (p : List ℕ) (at : ℕ) (t t′ : List ℕ) → at + length t ≤ length p → written (written p at t) (at + length t) t′ ≡ written p at (t ++ t′)
 written-both p at t t′ h =
     let n = at + length t in

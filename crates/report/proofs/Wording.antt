@@ -11,17 +11,16 @@ use lib.ListN.{length, getD, drop, drop-of-length-le}
 use lib.Seq.{drop-cons}
 use Rattle.keys.specs.Member.{keep, concatMap}
 use Rattle.keys.specs.MemberLaws.{keep-all}
-use Rattle.keys.specs.Sort.{sort}
+use Rattle.format.specs.Update.{Id}
+use Rattle.format.specs.Decode.{Decoded}
 use Rattle.rules.specs.Report.{codes, ascii, digit, hexByte, hex, decimalIn, decimal, bytesLine, markLine, part}
-use Rattle.bits.specs.Below.{upTo}
 use Rattle.state.specs.declared.Ledger.{Ledger}
-use Rattle.state.specs.State.{placeAt}
 use Rattle.report.specs.declared.Part.{Part}
 use Rattle.report.specs.declared.Part.the-variants.{Held, Heads, Waiting, Void, Marks, Set, List as Entries}
-use Rattle.report.specs.declared.Key.the-variants.{Id, Tag}
-use Rattle.report.specs.Board.{authorIn, tagIn, valueIn, idAt, decodedAt, authorAt, order, marksOf, tagAt, tagOrder, entriesOf, valueAt}
+use Rattle.fields.specs.Fields.{authorIn}
+use Rattle.views.specs.Board.{idAt, decodedAt, authorAt, order, marksOf, tagAt, tagOrder, entriesOf, valueAt}
 use Rattle.report.specs.Text.{updateLineAt, textOf}
-use Rattle.report.specs.Pieces.{sortedBy, candidate, wordOf, passes, lineOf, linesOf, partOf, standings, readOffs}
+use Rattle.report.specs.Parts.{updateLineBy, wordOf, passes, lineBy, lineOf, linesOf, partOf, standings, readOffs}
 
 -- digits
 
@@ -59,30 +58,23 @@ pub mark-line : (a : ℕ) → (40 ∷ []) ++ (decimal a ++ (41 ∷ 10 ∷ [])) �
 unfolding markLine ascii codes
 mark-line a = refl
 
-pub update-line : (l : Ledger) (s : List ℕ) (k a : ℕ) → a ≡ authorIn (decodedAt l s k) →
-    (ascii "(" ++ hex (placeAt l k .id)) ++ ((32 ∷ []) ++ (decimal a ++ (41 ∷ 10 ∷ []))) ≡ updateLineAt l s k
-unfolding updateLineAt authorAt ascii codes
-update-line l s k a e =
-    append-assoc (40 ∷ []) (hex (placeAt l k .id)) ((32 ∷ []) ++ (decimal a ++ (41 ∷ 10 ∷ [])))
-    ∙ ap (λ (x : ℕ). 40 ∷ (hex (placeAt l k .id) ++ (32 ∷ (decimal x ++ (41 ∷ 10 ∷ []))))) e
-
-pub tag-line : (l : Ledger) (s : List ℕ) (k : ℕ) {t : List ℕ} → t ≡ tagIn (decodedAt l s k) → bytesLine t ≡ lineOf l s Set k
-unfolding tagAt
-tag-line l s k e = ap bytesLine e
-
-pub value-line : (l : Ledger) (s : List ℕ) (k : ℕ) {v : List ℕ} → v ≡ valueIn (decodedAt l s k) → bytesLine v ≡ lineOf l s Entries k
-unfolding valueAt
-value-line l s k e = ap bytesLine e
-
--- words
-
-pub ledger-word : 40 ∷ 108 ∷ 101 ∷ 100 ∷ 103 ∷ 101 ∷ 114 ∷ 32 ∷ 49 ∷ 10 ∷ [] ≡ ascii "(ledger 1\n"
+pub update-line : (i : Id) (d : Decoded) (a : ℕ) → a ≡ authorIn d →
+    (ascii "(" ++ hex i) ++ ((32 ∷ []) ++ (decimal a ++ (41 ∷ 10 ∷ []))) ≡ updateLineBy i d
 unfolding ascii codes
-ledger-word = refl
+update-line i d a e =
+    append-assoc (40 ∷ []) (hex i) ((32 ∷ []) ++ (decimal a ++ (41 ∷ 10 ∷ [])))
+    ∙ ap (λ (x : ℕ). 40 ∷ (hex i ++ (32 ∷ (decimal x ++ (41 ∷ 10 ∷ []))))) e
 
-pub close-word : 41 ∷ 10 ∷ [] ≡ ascii ")\n"
-unfolding ascii codes
-close-word = refl
+-- the line of a place
+pub line-of : (l : Ledger) (s : List ℕ) (k : ℕ) (p : Part) → lineBy p (idAt l s k) (decodedAt l s k) k ≡ lineOf l s p k
+unfolding updateLineAt authorAt tagAt valueAt
+line-of l s k Held = refl
+line-of l s k Heads = refl
+line-of l s k Waiting = refl
+line-of l s k Void = refl
+line-of l s k Marks = refl
+line-of l s k Set = refl
+line-of l s k Entries = refl
 
 -- a part's word in bytes
 abbrev pub bytesOf : Part → List ℕ
@@ -172,11 +164,3 @@ module _ (l : Ledger) (s : List ℕ) where
       (follow Marks (marksOf l s) (all-marks (marksOf l s))
       (follow Set (tagOrder l s) (all-tags (tagOrder l s))
       (follow Entries (entriesOf l s) refl refl)))))))
-
-  pub sorted-ids : sortedBy l s Id ≡ order l s
-  unfolding sortedBy order
-  sorted-ids = ap (sort (idAt l s)) (keep-all (candidate l s Id) (upTo (l .used)) (λ x m. refl))
-
-  pub sorted-tags : sortedBy l s Tag ≡ tagOrder l s
-  unfolding sortedBy tagOrder tagAt
-  sorted-tags = refl

@@ -1,10 +1,4 @@
-pub mod Board
 pub mod Text
-pub mod Pieces
-pub mod ListFacts
-pub mod PlaceLaws
-pub mod RowLaws
+pub mod Parts
 pub mod PartLaws
-pub mod EntryLaws
-pub mod ListedLaws
 pub mod TextRight

@@ -8,7 +8,7 @@ use Rattle.keys.specs.Member.{keep}
 use Rattle.rules.specs.Report.{ascii, hex, decimal, bytesLine, markLine, part}
 use Rattle.state.specs.declared.Ledger.{Ledger}
 use Rattle.state.specs.State.{written}
-use Rattle.report.specs.Board.{idAt, authorAt, heldAt, waitingAt, voidAt, order, headAt, marksOf, tagOrder, tagAt, entriesOf, shownAt, valueAt}
+use Rattle.views.specs.Board.{idAt, authorAt, heldAt, waitingAt, voidAt, order, headAt, marksOf, tagOrder, tagAt, entriesOf, shownAt, valueAt}
 
 module _ (l : Ledger) (s : List ℕ) where
   unfoldable pub updateLineAt : ℕ → List ℕ

@@ -10,8 +10,8 @@ use Rattle.rules.specs.Report.{ascii, markLine, part, reportText, reportOf}
 use Rattle.state.specs.declared.Ledger.{Ledger}
 use Rattle.state.specs.Stands.{ident, Stands}
 use Rattle.report.specs.Text.{textOf}
-use Rattle.report.specs.PartLaws.{held-part, heads-part, waiting-part, void-part, marks-part, set-part}
-use Rattle.report.specs.ListedLaws.{list-part}
+use Rattle.views.specs.BoardLaws.{marks-part}
+use Rattle.report.specs.PartLaws.{held-part, heads-part, waiting-part, void-part, set-part, list-part}
 
 -- one part, by its lines
 abbrev partOf : String → List ℕ → List ℕ → List ℕ

@@ -4,7 +4,7 @@ ghost use Prim.Native.Nat.{_+_, _≤_, _<_};
 ghost use lib.ListN.{length};
 ghost use Rattle.rules.specs.Report.{digit as digitOf, hexByte, hex as hexOf, decimal as decimalOf};
 ghost use Rattle.report.specs.Text.{Prints};
-ghost use Rattle.report.specs.Pieces.{farthest};
+ghost use Rattle.report.specs.Parts.{farthest};
 use crate::page::put;
 
 // One digit, lowercase.

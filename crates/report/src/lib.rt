@@ -1,28 +1,21 @@
 // The report of a ledger and its store, printed on a page that the caller lends.
 ghost use Prim.Native.Nat.{_≤_};
 ghost use Rattle.report.specs.Text.{textOf, Prints};
-ghost use Rattle.report.specs.Pieces.{Lists, standings, readOffs};
-ghost use Rattle.report.specs.Board.{order as orderOf};
+ghost use Rattle.views.specs.Pieces.{Lists};
+ghost use Rattle.report.specs.Parts.{standings, readOffs};
+ghost use Rattle.views.specs.Board.{order as orderOf};
 
 pub mod digits;
 mod lines;
-mod list;
-mod listed;
-mod marks;
 pub mod page;
 mod parts;
-pub mod read;
-pub mod sorted;
-pub mod tests;
 
 use state::Ledger;
-use state::PLACES;
-
-// A list of places, the first `count` of the items.
-pub struct Places {
-    pub count: usize,
-    pub items: [usize; PLACES],
-}
+use views::Key;
+use views::Places;
+use views::list;
+use views::marks;
+use views::sorted;
 
 // The parts of the report.
 pub enum Part {
@@ -33,20 +26,6 @@ pub enum Part {
     Marks,
     Set,
     List,
-}
-
-// What an ascending list of places goes by.
-pub enum Key {
-    Id,
-    Tag,
-}
-
-// How a held place can stand to another place.
-pub enum Relation {
-    Covers,
-    Forks,
-    Removes,
-    Deletes,
 }
 
 // The parts that go by standing.

@@ -2,15 +2,15 @@
 ghost use Prim.Native.Nat.{_+_, _≤_, _<_};
 ghost use lib.ListN.{length};
 ghost use mathlib.Core.List.{_++_};
+ghost use Rattle.format.specs.Decode.{decode};
 ghost use Rattle.rules.specs.Report.{ascii, hex, bytesLine, markLine};
-ghost use Rattle.state.specs.State.{placeAt};
-ghost use Rattle.report.specs.Text.{updateLineAt, Prints};
-ghost use Rattle.report.specs.Pieces.{farthest, lineOf};
+ghost use Rattle.views.specs.Pieces.{decodedIn};
+ghost use Rattle.report.specs.Text.{Prints};
+ghost use Rattle.report.specs.Parts.{farthest, updateLineBy, lineBy};
 use crate::Part;
 use crate::digits;
 use crate::page::put;
-use crate::read;
-use state::Ledger;
+use state::Place;
 use state::store::stored;
 
 // A line of bytes.
@@ -24,38 +24,24 @@ fn bytes_line(bytes: &[u8], page: &mut [u8], at: usize) -> usize
     put(page, shown, b")\n")
 }
 
-// The id of place k.
-fn id_line(l: Ledger, k: usize, page: &mut [u8], at: usize) -> usize
-    requires { ⌜ (at + 100 ≤ farthest) × (k < 64) ⌝ }
-    ensures prints { λ r. ⌜ Prints (now (page .entry)) at (bytesLine (placeAt l k .id)) (now (page .exit)) r ⌝ }
-    ensures small { λ r. ⌜ r ≤ at + 100 ⌝ }
-{
-    let p = l.places[k];
-    let id = p.id;
-    bytes_line(&id, page, at)
-}
-
-// The opening bracket and the id of place k.
-fn open_id(l: Ledger, k: usize, page: &mut [u8], at: usize) -> usize
-    requires { ⌜ (at + 100 ≤ farthest) × (k < 64) ⌝ }
-    ensures prints { λ r. ⌜ Prints (now (page .entry)) at (ascii "(" ++ hex (placeAt l k .id)) (now (page .exit)) r ⌝ }
+// The opening bracket and the id.
+fn open_id(id: &[u8], page: &mut [u8], at: usize) -> usize
+    requires { ⌜ (at + 100 ≤ farthest) × (length (now id) ≤ 32) ⌝ }
+    ensures prints { λ r. ⌜ Prints (now (page .entry)) at (ascii "(" ++ hex (now (id .entry))) (now (page .exit)) r ⌝ }
     ensures small { λ r. ⌜ r ≤ at + 65 ⌝ }
 {
-    let p = l.places[k];
-    let id = p.id;
     let opened = put(page, at, b"(");
-    digits::hex(page, opened, &id)
+    digits::hex(page, opened, id)
 }
 
-// The id and the author of place k.
-fn update_line(l: Ledger, store: &[u8], k: usize, page: &mut [u8], at: usize) -> usize
-    requires { ⌜ (at + 100 ≤ farthest) × (k < 64) ⌝ }
-    ensures prints { λ r. ⌜ Prints (now (page .entry)) at (updateLineAt l (now (store .entry)) k) (now (page .exit)) r ⌝ }
+// The id and the author of an update's bytes.
+fn update_line(id: &[u8], b: &[u8], page: &mut [u8], at: usize) -> usize
+    requires { ⌜ (at + 100 ≤ farthest) × (length (now id) ≤ 32) ⌝ }
+    ensures prints { λ r. ⌜ Prints (now (page .entry)) at (updateLineBy (now (id .entry)) (decode (now (b .entry)))) (now (page .exit)) r ⌝ }
     ensures small { λ r. ⌜ r ≤ at + 100 ⌝ }
 {
-    let p = l.places[k];
-    let author = read::author_of(stored(store, k, p.length));
-    let identified = open_id(l, k, page, at);
+    let author = fields::author_of(b);
+    let identified = open_id(id, page, at);
     let spaced = put(page, identified, b" ");
     let named = digits::decimal(page, spaced, author);
     put(page, named, b")\n")
@@ -72,21 +58,29 @@ fn mark_line(author: usize, page: &mut [u8], at: usize) -> usize
     put(page, named, b")\n")
 }
 
-// The line of place k, or of author k, in a part.
-pub fn line(l: Ledger, store: &[u8], part: Part, k: usize, page: &mut [u8], at: usize) -> usize
-    requires { ⌜ (at + 100 ≤ farthest) × (k < 64) ⌝ }
-    ensures prints { λ r. ⌜ Prints (now (page .entry)) at (lineOf l (now (store .entry)) part k) (now (page .exit)) r ⌝ }
+// The line in a part of an update with this id and these bytes, or of author k.
+fn line_by(id: &[u8], b: &[u8], part: Part, k: usize, page: &mut [u8], at: usize) -> usize
+    requires { ⌜ (at + 100 ≤ farthest) × (length (now id) ≤ 32) × (k < 64) ⌝ }
+    ensures prints { λ r. ⌜ Prints (now (page .entry)) at (lineBy part (now (id .entry)) (decode (now (b .entry))) k) (now (page .exit)) r ⌝ }
     ensures small { λ r. ⌜ r ≤ at + 100 ⌝ }
 {
-    let p = l.places[k];
-    let b = stored(store, k, p.length);
     match part {
-        Part::Held => update_line(l, store, k, page, at),
-        Part::Waiting => update_line(l, store, k, page, at),
-        Part::Void => update_line(l, store, k, page, at),
-        Part::Heads => id_line(l, k, page, at),
+        Part::Held => update_line(id, b, page, at),
+        Part::Waiting => update_line(id, b, page, at),
+        Part::Void => update_line(id, b, page, at),
+        Part::Heads => bytes_line(id, page, at),
         Part::Marks => mark_line(k, page, at),
-        Part::Set => bytes_line(read::tag_of(b), page, at),
-        Part::List => bytes_line(read::value_of(b), page, at),
+        Part::Set => bytes_line(fields::tag_of(b), page, at),
+        Part::List => bytes_line(fields::value_of(b), page, at),
     }
+}
+
+// The line in a part of the place, k, or of author k.
+pub fn line(p: Place, store: &[u8], part: Part, k: usize, page: &mut [u8], at: usize) -> usize
+    requires { ⌜ (at + 100 ≤ farthest) × (k < 64) ⌝ }
+    ensures prints { λ r. ⌜ Prints (now (page .entry)) at (lineBy part (p .id) (decodedIn (now (store .entry)) p k) k) (now (page .exit)) r ⌝ }
+    ensures small { λ r. ⌜ r ≤ at + 100 ⌝ }
+{
+    let id = p.id;
+    line_by(&id, stored(store, k, p.length), part, k, page, at)
 }

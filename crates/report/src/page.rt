@@ -1,7 +1,7 @@
 // Writing on the page.
 ghost use Prim.Native.Nat.{_≤_};
 ghost use Rattle.report.specs.Text.{Prints};
-ghost use Rattle.report.specs.Pieces.{farthest};
+ghost use Rattle.report.specs.Parts.{farthest};
 use copying::copy;
 
 // Prints the text at byte `at` where it fits whole; the byte past it.

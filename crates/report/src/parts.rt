@@ -4,14 +4,16 @@ ghost use mathlib.Core.Bool.{cond};
 ghost use mathlib.Core.List.{[]};
 ghost use Prim.Native.Nat.{_+_, _≤_, _<_};
 ghost use Rattle.report.specs.Text.{Prints};
-ghost use Rattle.report.specs.Pieces.{farthest, placesIn, Sound, passes, wordOf, lineOf, linesOf, partOf};
+ghost use Rattle.report.specs.Parts.{farthest, passes, wordOf, lineOf, linesOf, partOf};
+ghost use Rattle.views.specs.Pieces.{placesIn, Sound};
 use crate::Part;
-use crate::Places;
 use crate::lines::line;
 use crate::page::put;
-use crate::tests;
 use state::Ledger;
 use state::Standing;
+use state::find::has_standing;
+use views::Places;
+use views::tests;
 
 // The first line of a part.
 fn word(part: Part, page: &mut [u8], at: usize) -> usize
@@ -36,10 +38,10 @@ fn shows(l: Ledger, store: &[u8], part: Part, k: usize) -> bool
     ensures { λ r. ⌜ r ≡ passes l (now (store .entry)) part k ⌝ }
 {
     match part {
-        Part::Held => tests::stands(l.places[k], Standing::Held),
+        Part::Held => has_standing(l.places[k], Standing::Held),
         Part::Heads => tests::is_head(l, store, k),
-        Part::Waiting => tests::stands(l.places[k], Standing::Waiting),
-        Part::Void => tests::stands(l.places[k], Standing::Void),
+        Part::Waiting => has_standing(l.places[k], Standing::Waiting),
+        Part::Void => has_standing(l.places[k], Standing::Void),
         Part::Marks => true,
         Part::Set => true,
         Part::List => tests::is_shown(l, store, k),
@@ -53,7 +55,7 @@ fn shown_line(l: Ledger, store: &[u8], part: Part, k: usize, page: &mut [u8], at
     ensures small { λ r. ⌜ r ≤ at + 100 ⌝ }
 {
     if shows(l, store, part, k) {
-        line(l, store, part, k, page, at)
+        line(l.places[k], store, part, k, page, at)
     } else {
         at
     }

@@ -5,11 +5,10 @@ use mathlib.Core.Path.{_≡_, refl, ap, _∙_}
 use mathlib.Core.Bool.{Bool, true, false}
 use Rattle.bits.specs.Below.{countBelow}
 use Rattle.bits.specs.BelowLaws.{countBelow-more, countBelow-cong}
-use Rattle.state.specs.State.{placeAt, isHeld, isVoid, countOf}
+use Rattle.state.specs.State.{placeAt, countOf}
 use Rattle.state.specs.Number.{hasStanding}
 use Rattle.state.specs.declared.Ledger.{Ledger}
 use Rattle.state.specs.declared.Standing.{Standing}
-use Rattle.state.specs.declared.Standing.the-variants.{Held, Waiting, Void}
 
 -- place k has the standing s
 abbrev standsAt : Ledger → Standing → ℕ → Bool
@@ -37,18 +36,6 @@ module _ (l : Ledger) (s : Standing) where
     pub counted-none : r ≡ false → {n : ℕ} → n ≡ counted l s k → n ≡ counted l s (k + 1)
     unfolding counted
     counted-none b h = rw (countBelow-more, ← t, b, h)
-
-pub is-held : (v : Standing) → hasStanding Held v ≡ isHeld v
-unfolding hasStanding isHeld
-is-held Held = refl
-is-held Waiting = refl
-is-held Void = refl
-
-pub is-void : (v : Standing) → hasStanding Void v ≡ isVoid v
-unfolding hasStanding isVoid
-is-void Held = refl
-is-void Waiting = refl
-is-void Void = refl
 
 pub countOf-cong : (p q : Standing → Bool) → ((v : Standing) → p v ≡ q v) → (l : Ledger) → countOf p l ≡ countOf q l
 unfolding countOf

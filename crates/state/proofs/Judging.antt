@@ -21,6 +21,7 @@ use Rattle.format.specs.declared.Reading.{Reading}
 use Rattle.format.specs.declared.Reading.the-variants.{Update as Accepted, Refused}
 use Rattle.rules.specs.Standing.{beginning}
 use Rattle.rules.specs.Settle.{isAdd, isInsert}
+use Rattle.fields.specs.Fields.{testOf}
 use Rattle.bits.specs.Bits.{has, including, join, meet}
 use Rattle.bits.specs.BelowLaws.{firstBelow-some→}
 use Rattle.state.specs.declared.Ledger.{Ledger}
@@ -31,7 +32,7 @@ use Rattle.state.specs.declared.Standing.the-variants.{Held, Waiting, Vo
 use Rattle.state.specs.declared.Found.the-variants.{At, Nowhere}
 use Rattle.state.specs.declared.Judgement.the-variants.{Holds, Fails, Waits}
 use Rattle.state.specs.State.{placeAt, storedAt, findIn, foundOf}
-use Rattle.state.specs.Judge.{gatherBy, gatherAt, testOf, namesAt, names, valid, nothingGathered, gather, judgeReady, judgeGathered, judgeDecoded, judge}
+use Rattle.state.specs.Judge.{gatherBy, gatherAt, namesAt, names, valid, nothingGathered, gather, judgeReady, judgeGathered, judgeDecoded, judge}
 
 -- where an id was found
 pub found-at : (o : Option ℕ) (j : ℕ) → foundOf o ≡ At j → o ≡ some j
@@ -68,16 +69,6 @@ module _ (p : Place) (g : Gathered) (j : ℕ) (l : Ledger) (at : placeAt l j ≡
   pub by-void : p .standing ≡ Void
       → record { ready = g .ready; void = true; direct = g .direct; above = g .above } ≡ gatherAt l g (some j)
   by-void = by-standing Void
-
--- a test of the operation of the update that the bytes b are, by what reading them answered
-module _ (b : List ℕ) (r : Reading) (read : decodedOf b r ≡ decode b) (p : U.Operation → Bool) where
-  pub test-update : (u : Parsed) → r ≡ Accepted u → p (operationAt b (u .operation)) ≡ testOf p (decode b)
-  unfolding testOf
-  test-update u e = ap (testOf p) (ap (decodedOf b) (sym e) ∙ read)
-
-  pub test-refused : (m : Malformed) → r ≡ Refused m → false ≡ testOf p (decode b)
-  unfolding testOf
-  test-refused m e = ap (testOf p) (ap (decodedOf b) (sym e) ∙ read)
 
 -- the judgement of bytes, by what reading them answered
 module _ (l : Ledger) (s b : List ℕ) (r : Reading) (read : decodedOf b r ≡ decode b) where

@@ -12,6 +12,7 @@ use Rattle.format.specs.Update.{Id, Operation, Add, Remove, Insert, Delete}
 use Rattle.format.specs.Decode.{Decoded, refused, update, decode}
 use Rattle.rules.specs.Standing.{beginning}
 use Rattle.rules.specs.Settle.{isAdd, isInsert}
+use Rattle.fields.specs.Fields.{testOf}
 use Rattle.bits.specs.Bits.{has, including, join, meet}
 use Rattle.state.specs.declared.Ledger.{Ledger}
 use Rattle.state.specs.declared.Standing.{Standing}
@@ -39,11 +40,7 @@ unfoldable pub gather : Ledger → Gathered → List Id → Gathered
 gather l g [] = g
 gather l g (i ∷ is) = gather l (gatherAt l g (findIn l i)) is
 
--- the place j holds an update whose operation passes a test
-unfoldable pub testOf : (Operation → Bool) → Decoded → Bool
-testOf p (refused n) = false
-testOf p (update u) = p (u .op)
-
+-- the place j is in the set `up`, and the operation of its update passes a test
 unfoldable pub namesAt : Ledger → List ℕ → (Operation → Bool) → ℕ → Option ℕ → Bool
 namesAt l s p up none = false
 namesAt l s p up (some j) = has up j && testOf p (decode (storedAt l s j))

@@ -21,6 +21,7 @@ use Rattle.format.specs.Decode.{Decoded, update, decode}
 use Rattle.format.specs.Laws.{decode-complete}
 use Rattle.rules.specs.Standing.{beginning, Ancestor, InsertAncestor, Valid, Known, Held, Void}
 use Rattle.rules.specs.Settle.{isAdd, isInsert}
+use Rattle.fields.specs.Fields.{testOf}
 use Rattle.rules.specs.LeastSets.{ancestor-stored, ancestor-cases}
 use Rattle.rules.specs.SettlingTable.{isAdd→, →isAdd, isInsert→, →isInsert}
 use Rattle.bits.specs.Bits.{has, join, meet}
@@ -31,7 +32,7 @@ use Rattle.state.specs.declared.Gathered.{Gathered}
 use Rattle.state.specs.declared.Judgement.{Judgement}
 use Rattle.state.specs.declared.Judgement.the-variants.{Holds as Judged-holds, Fails, Waits}
 use Rattle.state.specs.State.{placeAt, storedAt, findIn}
-use Rattle.state.specs.Judge.{nothingGathered, gather, testOf, namesAt, names, valid, judgeReady, judgeGathered, judgeDecoded, judge}
+use Rattle.state.specs.Judge.{nothingGathered, gather, namesAt, names, valid, judgeReady, judgeGathered, judgeDecoded, judge}
 use Rattle.state.specs.Stands.{ident, noUpdate, updateAt, Holds, Truthful}
 use Rattle.state.specs.FindLaws.{stored-at, place-of}
 use Rattle.state.specs.GatherLaws.{AllHeld, gathered-word, gathered-void→, gathered-void←, gathered-ready→, gathered-ready←, gathered-direct→, gathered-direct←, gathered-above→, gathered-above←}

@@ -1,5 +1,6 @@
 pub mod State
 pub mod Number
+pub mod NumberLaws
 pub mod Row1
 pub mod Judge
 pub mod Settle

@@ -79,7 +79,7 @@ module _ (s : List ℕ) (at : ℕ) (b : List ℕ) (fits : at + length b ≤ leng
   front : length (take at s) ≡ at
   front = length-take-le at s (omega arith)
 
-  written-length : length (written s at b) ≡ length s
+  pub written-length : length (written s at b) ≡ length s
   written-length =
       let rest = drop (at + length b) s in
       omega (arith, length-append (take at s) (b ++ rest), length-append b rest, length-drop (at + length b) s, front)

@@ -9,7 +9,8 @@ use crate::Ledger;
 use crate::Place;
 use crate::Standing;
 
-fn has_id(p: Place, id: &[u8]) -> bool
+// Whether the place has this id.
+pub fn has_id(p: Place, id: &[u8]) -> bool
     ensures { λ r. ⌜ r ≡ same (p .id) (now (id .entry)) ⌝ }
 {
     let own = p.id;
@@ -43,7 +44,8 @@ fn number_of(standing: Standing) -> u8
     }
 }
 
-fn has_standing(p: Place, standing: Standing) -> bool
+// Whether the place has this standing.
+pub fn has_standing(p: Place, standing: Standing) -> bool
     ensures { λ r. ⌜ r ≡ hasStanding standing (p .standing) ⌝ }
 {
     let own = p.standing;

@@ -1,15 +1,14 @@
 // Judging a waiting update: by its predecessors, its ancestors and its operation.
 ghost use mathlib.Core.Path.{_≡_};
 ghost use mathlib.Core.Option.{some};
-ghost use Prim.Native.Nat.{ℕ, _≤_, _<_};
-ghost use mathlib.Core.List.{List};
+ghost use Prim.Native.Nat.{_≤_, _<_};
 ghost use Rattle.keys.specs.Member.{all};
 ghost use Rattle.format.specs.Decode.{idsAt, firstPredecessor, decode};
 ghost use Rattle.format.specs.Reading.{operationAt, valueOf};
 ghost use Rattle.rules.specs.Settle.{isAdd, isInsert};
 ghost use Rattle.state.specs.declared.Ledger.{Ledger};
 ghost use Rattle.state.specs.State.{placeAt};
-ghost use Rattle.state.specs.Judge.{nothingGathered, gatherAt, gather as gatherAll, testOf, names, valid as validOperation, judgeReady, judgeGathered, judgeDecoded, judge as judgeAt};
+ghost use Rattle.state.specs.Judge.{nothingGathered, gatherAt, gather as gatherAll, names, valid as validOperation, judgeReady, judgeGathered, judgeDecoded, judge as judgeAt};
 use crate::Found;
 use crate::Gathered;
 use crate::Judgement;
@@ -76,70 +75,6 @@ fn gather(l: Ledger, b: &[u8], count: usize) -> Gathered
     g
 }
 
-// Whether an operation is an Add of the tag.
-fn is_add(b: &[u8], operation: Operation, tag: &[u8]) -> bool
-    ensures { λ r. ⌜ r ≡ isAdd (now (tag .entry)) (operationAt (now (b .entry)) operation) ⌝ }
-{
-    match operation {
-        Operation::Add { tag: at } => keys::same(tag, format::part_of(b, at, 16)),
-        Operation::Remove {
-            tag: _,
-            named: _,
-            count: _,
-        } => false,
-        Operation::Insert {
-            anchor: _,
-            value: _,
-        } => false,
-        Operation::Delete { deleted: _ } => false,
-    }
-}
-
-// Whether the bytes b are an update whose operation is an Add of the tag.
-fn holds_add(b: &[u8], tag: &[u8]) -> bool
-    ensures { λ r. ⌜ r ≡ testOf (isAdd (now (tag .entry))) (decode (now (b .entry))) ⌝ }
-{
-    match format::read(b) {
-        Reading::Update(u) => {
-            let operation = u.operation;
-            is_add(b, operation, tag)
-        }
-        Reading::Refused(_) => false,
-    }
-}
-
-// Whether an operation is an Insert, of whatever bytes.
-fn is_insert(operation: Operation) -> bool
-    ensures { λ r. ⌜ ((b : List ℕ) → r ≡ isInsert (operationAt b operation)) ⌝ }
-{
-    match operation {
-        Operation::Insert {
-            anchor: _,
-            value: _,
-        } => true,
-        Operation::Add { tag: _ } => false,
-        Operation::Remove {
-            tag: _,
-            named: _,
-            count: _,
-        } => false,
-        Operation::Delete { deleted: _ } => false,
-    }
-}
-
-// Whether the bytes b are an update whose operation is an Insert.
-fn holds_insert(b: &[u8]) -> bool
-    ensures { λ r. ⌜ r ≡ testOf isInsert (decode (now (b .entry))) ⌝ }
-{
-    match format::read(b) {
-        Reading::Update(u) => {
-            let operation = u.operation;
-            is_insert(operation)
-        }
-        Reading::Refused(_) => false,
-    }
-}
-
 // Whether an id is that of an Add of the tag in the set `up`.
 fn names_add(l: Ledger, store: &[u8], up: u64, id: &[u8], tag: &[u8]) -> bool
     requires { ⌜ l .used ≤ 64 ⌝ }
@@ -149,7 +84,7 @@ fn names_add(l: Ledger, store: &[u8], up: u64, id: &[u8], tag: &[u8]) -> bool
         Found::At(j) => {
             if bits::has(up, j) {
                 let p = l.places[j];
-                holds_add(stored(store, j, p.length), tag)
+                fields::adds(stored(store, j, p.length), tag)
             } else {
                 false
             }
@@ -167,7 +102,7 @@ fn names_insert(l: Ledger, store: &[u8], up: u64, id: &[u8]) -> bool
         Found::At(j) => {
             if bits::has(up, j) {
                 let p = l.places[j];
-                holds_insert(stored(store, j, p.length))
+                fields::is_insert(stored(store, j, p.length))
             } else {
                 false
             }

@@ -16,10 +16,10 @@ use Rattle.format.specs.Decode.{idsAt}
 use Rattle.format.specs.Parts.{joined, ids-length, ids-joined}
 use Rattle.state.specs.declared.Ledger.{Ledger}
 use Rattle.state.specs.State.{placeAt}
-use Rattle.report.specs.declared.Places.{Places}
-use Rattle.report.specs.Board.{idAt}
-use Rattle.report.specs.Pieces.{placesIn, Lists}
-use Rattle.report.proofs.Inserting.{length-is}
+use Rattle.views.specs.declared.Places.{Places}
+use Rattle.views.specs.Board.{idAt}
+use Rattle.views.specs.Pieces.{placesIn, Lists}
+use Rattle.views.proofs.Inserting.{length-is}
 use Rattle.predecessors.specs.Choose.{chosenPlaces}
 use Rattle.writer.specs.declared.Kind.{Kind}
 use Rattle.writer.specs.declared.Kind.the-variants.{Add as AnAdd, Remove as ARemove, Insert as AnInsert, Delete as ADelete}

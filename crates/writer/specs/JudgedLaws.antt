@@ -33,9 +33,9 @@ use Rattle.state.specs.Judge.{nothingGathered, gather, namesAt, names, valid, j
 use Rattle.state.specs.Stands.{ident, updateAt, Stands}
 use Rattle.state.specs.FindLaws.{find-right, find-none}
 use Rattle.state.specs.GatherLaws.{AllHeld, gathered-word, gathered-void→, gathered-ready←, gathered-direct→, gathered-direct←, gathered-above→, gathered-above←}
-use Rattle.report.specs.Board.{heldAt}
-use Rattle.report.specs.PlaceLaws.{place-in, place-of, place-id, place-test}
-use Rattle.report.specs.RowLaws.{rowAt, row-id, above-agrees, op-agrees}
+use Rattle.views.specs.Board.{heldAt}
+use Rattle.views.specs.PlaceLaws.{place-in, place-of, place-id, place-test}
+use Rattle.views.specs.RowLaws.{rowAt, row-id, above-agrees, op-agrees}
 use Rattle.predecessors.specs.TopLaws.{decides, row-at, at-row}
 
 module _ {l : Ledger} {s : List ℕ} {us : List Update} (stands : Stands l s us) where

@@ -9,7 +9,7 @@ ghost use Rattle.format.specs.Decode.{idsAt};
 ghost use Rattle.format.specs.Parts.{joined};
 ghost use Rattle.state.specs.State.{placeAt};
 ghost use Rattle.report.specs.Text.{Prints};
-ghost use Rattle.report.specs.Pieces.{placesIn, Sound};
+ghost use Rattle.views.specs.Pieces.{placesIn, Sound};
 ghost use Rattle.writer.specs.Operations.{operationFor, badNamed};
 use crate::Kind;
 use format::bounds::ADD;
@@ -18,9 +18,9 @@ use format::bounds::ID_LENGTH;
 use format::bounds::INSERT;
 use format::bounds::REMOVE;
 use format::bounds::VERSION;
-use report::Places;
 use report::page::put;
 use state::Ledger;
+use views::Places;
 
 // How many bytes of named ids there are at most.
 pub const MAX_NAMED_LENGTH: usize = 256;

@@ -7,10 +7,10 @@ use native.Mathlib.Omega.{arith}
 use borrow.Author.Needs.{needs}
 use denote.Ref.{now}
 use Rattle.keys.specs.Member.{keep}
-use Rattle.report.specs.Board.{headAt}
-use Rattle.report.specs.Pieces.{placesIn, Lists}
-use Rattle.report.proofs.Inserting.{renamed, below}
-use Rattle.report.proofs.Wording.{sorted-ids}
+use Rattle.views.specs.Board.{headAt}
+use Rattle.views.specs.Pieces.{placesIn, Lists}
+use Rattle.views.proofs.Inserting.{renamed, below}
+use Rattle.views.proofs.Sorting.{sorted-ids}
 use Rattle.predecessors.proofs.Choosing.{heads-start, heads-more, heads-end}
 use Rattle.predecessors.proofs.heads.Statement.{statement}
 use Rattle.predecessors.proofs.heads.Tie as tie

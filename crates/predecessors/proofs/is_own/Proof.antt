@@ -6,7 +6,7 @@ use mathlib.Core.List.{List}
 use borrow.Author.Needs.{needs}
 use denote.Ref.{now}
 use Rattle.format.specs.Decode.{decode}
-use Rattle.report.specs.Board.{authorIn}
+use Rattle.fields.specs.Fields.{authorIn}
 use Rattle.predecessors.proofs.Choosing.{own-held, own-waiting, own-void}
 use Rattle.predecessors.proofs.is_own.Statement.{statement}
 use Rattle.predecessors.proofs.is_own.Tie as tie

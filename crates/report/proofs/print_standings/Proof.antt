@@ -4,7 +4,7 @@ use mathlib.Core.Path.{ap}
 use native.Mathlib.Omega.{arith}
 use borrow.Author.Needs.{needs}
 use denote.Ref.{now}
-use Rattle.report.specs.Pieces.{partOf}
+use Rattle.report.specs.Parts.{partOf}
 use Rattle.report.proofs.Printing.{both, same-text}
 use Rattle.report.proofs.Wording.{standings-is}
 use Rattle.report.specs.declared.Part.the-variants.{Held, Heads, Waiting, Void}

@@ -1,31 +1,21 @@
 -- `open_id` meets its contract.
 -- Assumes nothing.
-use mathlib.Core.Path.{_≡_, sym}
 use native.Mathlib.Omega.{arith}
 use borrow.Author.Needs.{needs}
-use lib.ListN.{length}
-use Rattle.state.specs.State.{placeAt}
-use Rattle.state.proofs.Owning.{id-length}
 use Rattle.report.proofs.Printing.{both, same-text}
 use Rattle.report.proofs.Wording.{open-bytes}
 use Rattle.report.proofs.lines.open_id.Statement.{statement}
 use Rattle.report.proofs.lines.open_id.Tie as tie
-
-whole : (z : tie.Start) → length (placeAt (z .args .t1) (z .args .k) .id) ≡ 32
-whole z = id-length (z .args .t1) _ (z .good .0) (z .args .k) (z .pre .1)
 
 pub open-id-spec : {M : Type 1} → statement M
 open-id-spec =
     tie.close
     (tie.spec
     (λ c. search needs)
-    (λ c. search needs)
-    (λ c. search needs)
     (λ c κs. search needs)
-    (λ c. sym (whole (c .before .before .before .before .before .before .before .before .before .before)))
-    (λ c κs. (search needs, omega (arith, whole (c .before .before .before .before .before .before .before .before .before .before))))
+    (λ c κs. search needs)
     (λ c. search needs)
     (λ c.
-    let put′ = c .before .before .before .before .before .before .before .put in
+    let put′ = c .before .before .before .before .before .before .put in
     let hex′ = c .before .before .hex in
     (same-text (open-bytes _) (both (put′ .ensures) (hex′ .ensures .0)), omega (arith, put′ .ensures .past, hex′ .ensures .1))))

@@ -3,7 +3,7 @@
 use native.Mathlib.Omega.{arith}
 use borrow.Author.Needs.{needs}
 use denote.Ref.{now}
-use Rattle.report.specs.Pieces.{placesIn}
+use Rattle.views.specs.Pieces.{placesIn}
 use Rattle.report.proofs.Printing.{both, same-text}
 use Rattle.report.proofs.Wording.{part-is}
 use Rattle.report.proofs.parts.print.Statement.{statement}

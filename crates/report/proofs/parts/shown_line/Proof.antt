@@ -5,8 +5,9 @@ use mathlib.Core.List.{[]}
 use mathlib.Core.Bool.{Bool, cond}
 use borrow.Author.Needs.{needs}
 use denote.Ref.{now}
-use Rattle.report.specs.Pieces.{lineOf}
+use Rattle.report.specs.Parts.{lineOf}
 use Rattle.report.proofs.Printing.{nothing, same-text}
+use Rattle.report.proofs.Wording.{line-of}
 use Rattle.report.proofs.parts.shown_line.Statement.{statement}
 use Rattle.report.proofs.parts.shown_line.Tie as tie
 
@@ -15,17 +16,22 @@ shown-line-spec =
     tie.close
     (tie.spec
     (λ c κs. search needs)
+    (λ c. search needs)
+    (λ c. search needs)
     (λ c κs. search needs)
     (λ c. search needs)
     (λ c.
-    let args = c .before .before .before .before .before .before .before .before .args in
-    let shows = c .before .before .before .before .before .shows in
-    let line = c .before .before .line in (
-      same-text (ap (λ (b : Bool). cond b (lineOf (args .l) (now (args .store)) (args .part) (args .k)) []) (sym (sym (shows .ensures) ∙ c .before .before .before .before .if1 .taken))) (line .ensures .0),
+    let line = c .before .before .line in
+    let taken = c .before .before .before .before .before in
+    let args = taken .before .before .before .before .args in (
+      same-text
+          (line-of (args .t1) (now (args .store)) (args .k) (args .part)
+          ∙ ap (λ (b : Bool). cond b (lineOf (args .t1) (now (args .store)) (args .part) (args .k)) []) (sym (sym (taken .before .shows .ensures) ∙ taken .if1 .taken)))
+          (line .ensures .0),
       line .ensures .1,
     ))
     (λ c.
     let args = c .before .before .before .before .args in (
-      same-text (ap (λ (b : Bool). cond b (lineOf (args .l) (now (args .store)) (args .part) (args .k)) []) (sym (sym (c .before .shows .ensures) ∙ c .if1 .left))) (nothing (now (args .page)) (args .at)),
+      same-text (ap (λ (b : Bool). cond b (lineOf (args .t1) (now (args .store)) (args .part) (args .k)) []) (sym (sym (c .before .shows .ensures) ∙ c .if1 .left))) (nothing (now (args .page)) (args .at)),
       search needs,
     )))

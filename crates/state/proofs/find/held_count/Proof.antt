@@ -2,7 +2,8 @@
 -- Assumes nothing.
 use mathlib.Core.Path.{_∙_}
 use borrow.Author.Needs.{needs}
-use Rattle.state.proofs.CountLaws.{countOf-cong, is-held}
+use Rattle.state.specs.NumberLaws.{is-held}
+use Rattle.state.proofs.CountLaws.{countOf-cong}
 use Rattle.state.proofs.find.held_count.Statement.{statement}
 use Rattle.state.proofs.find.held_count.Tie as tie
 

@@ -2,7 +2,8 @@
 -- Assumes nothing.
 use mathlib.Core.Path.{_∙_}
 use borrow.Author.Needs.{needs}
-use Rattle.state.proofs.CountLaws.{countOf-cong, is-void}
+use Rattle.state.specs.NumberLaws.{is-void}
+use Rattle.state.proofs.CountLaws.{countOf-cong}
 use Rattle.state.proofs.find.void_count.Statement.{statement}
 use Rattle.state.proofs.find.void_count.Tie as tie
 

@@ -44,7 +44,7 @@ names-add-spec =
     let d = j .before .before in
     let a = d .before .before .before .before .args in
     let e = found-at (findIn (a .t1) (now (a .id))) _ (sym (d .find .ensures) ∙ j .j .given .1) in
-    c .holds-add .ensures
+    c .adds .ensures
     ∙ names-in (a .t1) (now (a .store)) (isAdd (now (a .tag))) (a .up) (now (a .id)) _ e (sym (h .has .ensures) ∙ t .if1 .taken) _ (b .stored .ensures))
     (λ c.
     let h = c .before in

@@ -44,7 +44,7 @@ names-insert-spec =
     let d = j .before .before in
     let a = d .before .before .before .args in
     let e = found-at (findIn (a .t1) (now (a .id))) _ (sym (d .find .ensures) ∙ j .j .given .1) in
-    c .holds-insert .ensures
+    c .is-insert .ensures
     ∙ names-in (a .t1) (now (a .store)) isInsert (a .up) (now (a .id)) _ e (sym (h .has .ensures) ∙ t .if1 .taken) _ (b .stored .ensures))
     (λ c.
     let h = c .before in

@@ -1,0 +1,4 @@
+pub mod Inserting
+pub mod Sorting
+pub mod Testing
+pub mod Ranking

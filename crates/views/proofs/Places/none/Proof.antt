@@ -1,0 +1,18 @@
+-- `none` meets its contract.
+-- Assumes nothing.
+use mathlib.Core.Path.{refl}
+use native.Mathlib.Omega.{arith}
+use Rattle.keys.specs.Member.{all}
+use Rattle.views.proofs.Places.none.Statement.{statement}
+use Rattle.views.proofs.Places.none.Tie as tie
+
+returns : tie.Need-returns
+unfolding all
+returns c =
+    (record { sound = record { whole = refl; room = omega arith; inside = refl }; are = refl }, refl)
+
+pub none-spec : {M : Type 1} → statement M
+none-spec =
+    tie.close
+    (tie.spec
+    returns)

@@ -1,0 +1,59 @@
+-- `entries` meets its contract. The loop's invariant: those of rank below n are put.
+-- Assumes nothing.
+use Prim.Native.Nat.{ℕ, _+_, _-_, _≤_}
+use mathlib.Core.Path.{_≡_, sym, ap, _∙_}
+use mathlib.Core.List.{[]}
+use native.Mathlib.Omega.{arith}
+use borrow.Author.Needs.{needs}
+use lib.ListN.{length}
+use denote.Ref.{now}
+use Rattle.keys.specs.Member.{keep}
+use Rattle.views.specs.Board.{putAll, byRank}
+use Rattle.views.specs.Pieces.{placesIn, Lists, ranked}
+use Rattle.views.proofs.Inserting.{length-is, renamed}
+use Rattle.views.proofs.Ranking.{rank-room, rank-start, rank-next, rank-end, rank-zero, rank-count}
+use Rattle.views.proofs.list.entries.Statement.{statement}
+use Rattle.views.proofs.list.entries.Tie as tie
+
+abbrev Inv-loop : tie.InvT-loop
+Inv-loop l store os es₀ n₀ es n = (n ≤ 64) × (es .count ≡ length (byRank l store n)) × Lists es (putAll l store [] (byRank l store n))
+
+abbrev μ-loop : tie.MeasureT-loop
+μ-loop l store os es₀ n₀ es n = 64 - n
+
+pub entries-spec : {M : Type 1} → statement M
+entries-spec =
+    tie.close
+    (tie.spec
+    Inv-loop
+    μ-loop
+    (λ c κs. search needs)
+    (λ c.
+    let args = c .before .before .args in (
+      search needs,
+      c .none .ensures .1 ∙ sym (rank-zero (args .l) (now (args .store))),
+      renamed (rank-start (args .l) (now (args .store))) (c .none .ensures .0),
+    ))
+    (λ c κs.
+    let args = c .before .before .before .before .args in
+    let loop = c .before .loop in
+    let pre = c .before .before .before .before .pre in (
+      pre .1 .sound,
+      loop .inv .2 .sound,
+      omega (arith, loop .inv .1, rank-room (args .l) (now (args .store)) (loop .n) (placesIn (args .order)) (pre .1 .are) (omega (arith, length-is (args .order) (pre .1 .sound), pre .1 .sound .room))),
+    ))
+    (λ c. search needs)
+    (λ c. search needs)
+    (λ c.
+    let args = c .before .before .before .before .before .args in
+    let loop = c .before .before .loop in
+    let pre = c .before .before .before .before .before .pre in (
+      search needs,
+      c .put-rank .ensures .1 ∙ ap (λ (m : ℕ). m + length (keep (ranked (args .l) (now (args .store)) (loop .n)) (placesIn (args .order)))) (loop .inv .1)
+          ∙ rank-count (args .l) (now (args .store)) (loop .n) (placesIn (args .order)) (pre .1 .are),
+      renamed (rank-next (args .l) (now (args .store)) (loop .n) (placesIn (args .order)) (placesIn (loop .all)) (pre .1 .are) (loop .inv .2 .are)) (c .put-rank .ensures .0),
+    ))
+    (λ c.
+    let args = c .before .before .before .before .args in
+    let loop = c .before .loop in
+    renamed (rank-end (args .l) (now (args .store)) (loop .n) (search needs) (search needs)) (loop .inv .2)))

@@ -1,0 +1,18 @@
+-- `put` meets its contract.
+-- Assumes nothing.
+use Rattle.views.proofs.Inserting.{renamed}
+use Rattle.views.proofs.list.put.Statement.{statement}
+use Rattle.views.proofs.list.put.Tie as tie
+
+pub put-spec : {M : Type 1} → statement M
+put-spec =
+    tie.close
+    (tie.spec
+    (λ c κs.
+    let pre = c .before .pre in
+    (pre .0, pre .2))
+    (λ c κs.
+    let pre = c .before .before .pre in
+    (pre .0, pre .1, c .index-of .ensures .0, pre .2))
+    (λ c.
+    (renamed (c .before .index-of .ensures .1) (c .insert .ensures .0), c .insert .ensures .1)))

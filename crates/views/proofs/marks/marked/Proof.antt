@@ -1,0 +1,43 @@
+-- `marked` meets its contract. The loop's invariant: the set has the authors that the places below k mark.
+-- Assumes nothing.
+use Prim.Native.Nat.{ℕ, _-_, _≤_}
+use mathlib.Core.Path.{_≡_}
+use mathlib.Core.Bool.{_&&_}
+use borrow.Author.Needs.{needs}
+use lib.Dec.{eqb}
+use denote.Ref.{now}
+use Rattle.bits.specs.Below.{anyBelow}
+use Rattle.bits.specs.Bits.{has}
+use Rattle.views.specs.Board.{authorAt, forkedAt}
+use Rattle.views.proofs.Testing.{marked-start, marked-more, marked-end}
+use Rattle.views.proofs.marks.marked.Statement.{statement}
+use Rattle.views.proofs.marks.marked.Tie as tie
+
+abbrev Inv-loop : tie.InvT-loop
+Inv-loop l store used authors₀ k₀ authors k = (k ≤ used) × ((a : ℕ) → has authors a ≡ anyBelow k (λ (j : ℕ). eqb (authorAt l store j) a && forkedAt l store j))
+
+abbrev μ-loop : tie.MeasureT-loop
+μ-loop l store used authors₀ k₀ authors k = used - k
+
+pub marked-spec : {M : Type 1} → statement M
+marked-spec =
+    tie.close
+    (tie.spec
+    Inv-loop
+    μ-loop
+    (λ c.
+    let args = c .before .args in
+    (search needs, marked-start (args .l) (now (args .store))))
+    (λ c κs. search needs)
+    (λ c. search needs)
+    (λ c. search needs)
+    (λ c.
+    let args = c .before .before .before .before .args in
+    let loop = c .before .before .loop in (
+      search needs,
+      marked-more (args .l) (now (args .store)) (loop .authors) (c .with-author .result) (loop .k) (loop .inv .1) (c .with-author .ensures),
+    ))
+    (λ c.
+    let args = c .before .before .before .args in
+    let loop = c .before .loop in
+    marked-end (args .l) (now (args .store)) (loop .authors) (loop .k) (search needs) (search needs) (loop .inv .1)))

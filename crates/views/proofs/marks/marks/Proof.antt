@@ -1,0 +1,51 @@
+-- `marks` meets its contract. The loop's invariant: the list has the authors below a that are in the set.
+-- Assumes nothing.
+use Prim.Native.Nat.{ℕ, _-_, _≤_}
+use mathlib.Core.Path.{ap, _∙_}
+use mathlib.Core.List.{List, [], _∷_, _++_}
+use native.Mathlib.Omega.{arith}
+use borrow.Author.Needs.{needs}
+use denote.Ref.{now}
+use Rattle.keys.specs.Member.{keep}
+use Rattle.bits.specs.Below.{upTo}
+use Rattle.bits.specs.Bits.{has}
+use Rattle.views.specs.Pieces.{Lists}
+use Rattle.views.proofs.Inserting.{renamed}
+use Rattle.views.proofs.Testing.{marks-end, upTo-more, upTo-start}
+use Rattle.views.proofs.marks.marks.Statement.{statement}
+use Rattle.views.proofs.marks.marks.Tie as tie
+
+abbrev Inv-loop : tie.InvT-loop
+Inv-loop store authors places₀ a₀ places a = (a ≤ 16) × (places .count ≤ a) × Lists places (keep (has authors) (upTo a))
+
+abbrev μ-loop : tie.MeasureT-loop
+μ-loop store authors places₀ a₀ places a = 16 - a
+
+pub marks-spec : {M : Type 1} → statement M
+marks-spec =
+    tie.close
+    (tie.spec
+    Inv-loop
+    μ-loop
+    (λ c κs. search needs)
+    (λ c κs. search needs)
+    (λ c. (
+      search needs,
+      omega (arith, c .none .ensures .1),
+      renamed (upTo-start (has (c .before .marked .result))) (c .none .ensures .0),
+    ))
+    (λ c κs. (c .before .loop .inv .2 .sound, omega arith, omega arith))
+    (λ c. search needs)
+    (λ c. search needs)
+    (λ c.
+    let loop = c .before .before .loop in
+    let marked = c .before .before .before .before .marked in (
+      search needs,
+      omega (arith, c .with-mark .ensures .1),
+      renamed (ap (λ (x : List ℕ). x ++ keep (has (marked .result)) (loop .a ∷ [])) (loop .inv .2 .are) ∙ upTo-more (has (marked .result)) (loop .a)) (c .with-mark .ensures .0),
+    ))
+    (λ c.
+    let args = c .before .before .before .before .before .args in
+    let loop = c .before .loop in
+    let marked = c .before .before .before .marked in
+    renamed (marks-end (args .l) (now (args .store)) (marked .result) (loop .a) (search needs) (search needs) (marked .ensures)) (loop .inv .2)))

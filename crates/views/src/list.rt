@@ -1,0 +1,87 @@
+// The entries of the list in their order.
+ghost use mathlib.Core.Path.{_≡_};
+ghost use Prim.Native.Nat.{_+_, _≤_, _<_};
+ghost use lib.ListN.{length};
+ghost use Rattle.keys.specs.Member.{keep};
+ghost use Rattle.views.specs.Board.{order as orderOf, after, put as putPlace, putAll, entriesOf};
+ghost use Rattle.views.specs.Pieces.{placesIn, ins, Sound, Lists, ranked as rankedAt};
+use crate::Places;
+use crate::tests;
+use format::bounds::ID_LENGTH;
+use state::Ledger;
+use state::find::has_id;
+use state::store::stored;
+
+// Ranks are below the count of bits of an ancestor word.
+const RANKS: usize = 64;
+
+// The index after the first entry with this id; past the end where there is none.
+fn index_after(l: Ledger, store: &[u8], entries: Places, id: &[u8], k: usize) -> usize
+    requires { ⌜ Sound entries ⌝ }
+    ensures { λ r. ⌜ (r ≤ entries .count) × (ins r k (placesIn entries) ≡ after l (now (store .entry)) (now (id .entry)) k (placesIn entries)) ⌝ }
+{
+    let count = entries.count;
+    let mut i: usize = 0;
+    while i < count {
+        let e = entries.items[i];
+        if has_id(l.places[e], id) {
+            return i + 1;
+        }
+        i += 1;
+    }
+    i
+}
+
+// The index where place k is put.
+fn index_of(l: Ledger, store: &[u8], entries: Places, k: usize) -> usize
+    requires { ⌜ Sound entries × (k < 64) ⌝ }
+    ensures { λ r. ⌜ (r ≤ entries .count) × (ins r k (placesIn entries) ≡ putPlace l (now (store .entry)) k (placesIn entries)) ⌝ }
+{
+    let p = l.places[k];
+    let anchor = fields::anchor_of(stored(store, k, p.length));
+    let zero = [0u8; ID_LENGTH];
+    if keys::same(anchor, &zero) {
+        return 0;
+    }
+    index_after(l, store, entries, anchor, k)
+}
+
+// The entries with place k put among them.
+fn put(l: Ledger, store: &[u8], entries: Places, k: usize) -> Places
+    requires { ⌜ Sound entries × (entries .count < 64) × (k < 64) ⌝ }
+    ensures { λ r. ⌜ Lists r (putPlace l (now (store .entry)) k (placesIn entries)) × (r .count ≡ entries .count + 1) ⌝ }
+{
+    entries.insert(index_of(l, store, entries, k), k)
+}
+
+// The entries with those of rank n put among them, in order.
+fn put_rank(l: Ledger, store: &[u8], order: Places, n: usize, entries: Places) -> Places
+    requires { ⌜ Sound order × Sound entries × (entries .count + length (keep (rankedAt l (now store) n) (placesIn order)) ≤ 64) ⌝ }
+    ensures { λ r. ⌜ Lists r (putAll l (now (store .entry)) (placesIn entries) (keep (rankedAt l (now (store .entry)) n) (placesIn order))) × (r .count ≡ entries .count + length (keep (rankedAt l (now (store .entry)) n) (placesIn order))) ⌝ }
+{
+    let count = order.count;
+    let mut all = entries;
+    let mut i: usize = 0;
+    while i < count {
+        let k = order.items[i];
+        if tests::is_ranked(store, n, l.places[k], k) {
+            all = put(l, store, all, k);
+        }
+        i += 1;
+    }
+    all
+}
+
+// The held Inserts, of lower rank first, each put among those before it.
+pub fn entries(l: Ledger, store: &[u8], order: Places) -> Places
+    requires { ⌜ (l .used ≤ 64) × Lists order (orderOf l (now store)) ⌝ }
+    ensures { λ r. ⌜ Lists r (entriesOf l (now (store .entry))) ⌝ }
+{
+    let mut all = Places::none();
+    let mut n: usize = 0;
+    while n < RANKS {
+        all = put_rank(l, store, order, n, all);
+        n += 1;
+    }
+    all
+}

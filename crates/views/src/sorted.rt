@@ -1,0 +1,100 @@
+// Ascending lists of places.
+ghost use mathlib.Core.Path.{_≡_};
+ghost use mathlib.Core.Bool.{cond};
+ghost use Prim.Native.Nat.{_+_, _≤_, _<_};
+ghost use Rattle.keys.specs.Compare.{orderOf};
+ghost use Rattle.keys.specs.Sort.{insert as insertBy};
+ghost use Rattle.fields.specs.Fields.{tagIn};
+ghost use Rattle.views.specs.Pieces.{placesIn, Sound, Lists, decodedIn, keyIn, keyOf, candidate as candidateOf, sortedBy};
+use crate::Key;
+use crate::Places;
+use crate::tests;
+use keys::Order;
+use state::Ledger;
+use state::Place;
+use state::store::stored;
+
+// How the id of the one place stands to that of the other.
+pub fn compare_ids(own: Place, other: Place) -> Order
+    ensures { λ r. ⌜ r ≡ orderOf (own .id) (other .id) ⌝ }
+{
+    let a = own.id;
+    let b = other.id;
+    keys::compare(&a, &b)
+}
+
+// How the tag of the one place, j, stands to that of the other, k.
+fn compare_tags(store: &[u8], own: Place, j: usize, other: Place, k: usize) -> Order
+    requires { ⌜ (j < 64) × (k < 64) ⌝ }
+    ensures { λ r. ⌜ r ≡ orderOf (tagIn (decodedIn (now (store .entry)) own j)) (tagIn (decodedIn (now (store .entry)) other k)) ⌝ }
+{
+    let tag = fields::tag_of(stored(store, j, own.length));
+    keys::compare(tag, fields::tag_of(stored(store, k, other.length)))
+}
+
+// How the key of the one place, j, stands to that of the other, k.
+fn compare(store: &[u8], key: Key, own: Place, j: usize, other: Place, k: usize) -> Order
+    requires { ⌜ (j < 64) × (k < 64) ⌝ }
+    ensures { λ r. ⌜ r ≡ orderOf (keyIn (now (store .entry)) key own j) (keyIn (now (store .entry)) key other k) ⌝ }
+{
+    match key {
+        Key::Id => compare_ids(own, other),
+        Key::Tag => compare_tags(store, own, j, other, k),
+    }
+}
+
+// The list with place j among it, unless its key is there.
+fn insert(l: Ledger, store: &[u8], key: Key, places: Places, j: usize) -> Places
+    requires { ⌜ Sound places × (places .count < 64) × (j < 64) ⌝ }
+    ensures { λ r. ⌜ Lists r (insertBy (keyOf l (now (store .entry)) key) j (placesIn places)) × (r .count ≤ places .count + 1) ⌝ }
+{
+    let count = places.count;
+    let own = l.places[j];
+    let mut i: usize = 0;
+    while i < count {
+        let k = places.items[i];
+        match compare(store, key, own, j, l.places[k], k) {
+            Order::Less => return places.insert(i, j),
+            Order::Equal => return places,
+            Order::Greater => i += 1,
+        }
+    }
+    places.insert(i, j)
+}
+
+// Whether place k is listed.
+fn candidate(l: Ledger, store: &[u8], key: Key, k: usize) -> bool
+    requires { ⌜ (l .used ≤ 64) × (k < 64) ⌝ }
+    ensures { λ r. ⌜ r ≡ candidateOf l (now (store .entry)) key k ⌝ }
+{
+    match key {
+        Key::Id => true,
+        Key::Tag => tests::is_present(l, store, k),
+    }
+}
+
+// The list with place k among it, if it is listed.
+fn insert_listed(l: Ledger, store: &[u8], key: Key, places: Places, k: usize) -> Places
+    requires { ⌜ (l .used ≤ 64) × Sound places × (places .count < 64) × (k < 64) ⌝ }
+    ensures { λ r. ⌜ Lists r (cond (candidateOf l (now (store .entry)) key k) (insertBy (keyOf l (now (store .entry)) key) k (placesIn places)) (placesIn places)) × (r .count ≤ places .count + 1) ⌝ }
+{
+    if candidate(l, store, key, k) {
+        insert(l, store, key, places, k)
+    } else {
+        places
+    }
+}
+
+// The listed places, ascending by key, of each key one.
+pub fn sorted(l: Ledger, store: &[u8], key: Key) -> Places
+    requires { ⌜ l .used ≤ 64 ⌝ }
+    ensures { λ r. ⌜ Lists r (sortedBy l (now (store .entry)) key) ⌝ }
+{
+    let mut places = Places::none();
+    let mut k = l.used;
+    while 0 < k {
+        k -= 1;
+        places = insert_listed(l, store, key, places, k);
+    }
+    places
+}
