@@ -1,9 +1,9 @@
--- What settling one place, a pass and pass after pass come to, by cases.
+-- What settling one place, the newest, a pass and pass after pass come to, by cases.
 -- Assumes nothing.
 use Prim.Native.Nat.{ℕ, suc, _+_, _≤_, _<_}
-use mathlib.Core.Path.{_≡_, refl, sym, ap, ap₂, _∙_}
+use mathlib.Core.Path.{_≡_, refl, sym, ap, ap₂, subst, _∙_}
 use mathlib.Core.List.{List}
-use mathlib.Core.Bool.{Bool, true, false, cond, not, _&&_, _||_, true≢false, false≢true, or-false, Bool·not-not}
+use mathlib.Core.Bool.{Bool, true, false, cond, _||_, true≢false, false≢true, or-false}
 use native.Mathlib.Nat.{le-refl}
 use native.Mathlib.Numerals.{add-one}
 use native.Mathlib.Omega.{arith}
@@ -12,13 +12,12 @@ use Rattle.state.specs.declared.Ledger.{Ledger}
 use Rattle.state.specs.declared.Pass.{Pass}
 use Rattle.state.specs.declared.Standing.{Standing}
 use Rattle.state.specs.declared.Standing.the-variants.{Held, Waiting, Void}
-use Rattle.state.specs.declared.Judgement.{Judgement}
 use Rattle.state.specs.declared.Judgement.the-variants.{Holds, Fails, Waits}
 use Rattle.state.specs.State.{placeAt, withStanding, isWaiting, countOf}
 use Rattle.state.specs.Judge.{judge}
-use Rattle.state.specs.Settle.{settleBy, settleFrom, settlePlace, settleNext, settleBelow, pass, passes, isWaits, lastWaits, newestWaits, OthersWait, SettledFrom}
+use Rattle.state.specs.Settle.{settleBy, settleFrom, settlePlace, settleNext, settleBelow, pass, passes, lastSettled, newestSettled, SettledFrom}
 use Rattle.state.specs.Passes.{pass-same, newest-unchanged}
-use Rattle.state.specs.SettleLaws.{place-kept, pass-kept, pass-falls}
+use Rattle.state.specs.SettleLaws.{Kept, place-kept, pass-kept, newest-kept, pass-falls}
 
 -- the place k by its judgement
 module _ (l : Ledger) (s : List ℕ) (k : ℕ) where
@@ -95,49 +94,46 @@ module _ (l : Ledger) (s : List ℕ) where
   unfolding settleBelow
   passing-none {p} h e = ap (settleBelow p s) (sym e) ∙ h .comes-to
 
--- the newest place by its standing and its judgement
+-- the newest place by its standing
 module _ (l : Ledger) (s : List ℕ) where
-  pub newest-none : l .used ≡ 0 → false ≡ newestWaits l s
-  unfolding newestWaits lastWaits
-  newest-none e = ap (lastWaits l s) (sym e)
+  abbrev to-pass : Pass
+  to-pass = record { ledger = l; changed = true }
+
+  pub newest-none : l .used ≡ 0 → to-pass ≡ newestSettled l s
+  unfolding newestSettled lastSettled
+  newest-none e = ap (lastSettled l s) (sym e)
 
   module _ (k : ℕ) (last : l .used ≡ k + 1) where
-    newest-by : {b : Bool} → isWaiting (placeAt l k .standing) ≡ b → (b && isWaits (judge l s k)) ≡ newestWaits l s
-    unfolding newestWaits lastWaits
-    newest-by w = ap (λ (b : Bool). b && isWaits (judge l s k)) (sym w) ∙ ap (lastWaits l s) (sym (last ∙ add-one k))
+    newest-by : {b : Bool} → isWaiting (placeAt l k .standing) ≡ b → cond b (settleBy l k (judge l s k)) to-pass ≡ newestSettled l s
+    unfolding newestSettled lastSettled
+    newest-by w =
+        ap (λ (b : Bool). cond b (settleBy l k (judge l s k)) to-pass) (sym w) ∙ ap (lastSettled l s) (sym (last ∙ add-one k))
 
-    pub newest-stays : isWaiting (placeAt l k .standing) ≡ false → false ≡ newestWaits l s
+    pub newest-stays : isWaiting (placeAt l k .standing) ≡ false → to-pass ≡ newestSettled l s
     newest-stays w = newest-by w
 
-    pub newest-judged : isWaiting (placeAt l k .standing) ≡ true → {j : Judgement} → judge l s k ≡ j → isWaits j ≡ newestWaits l s
-    newest-judged w e = ap isWaits (sym e) ∙ newest-by w
+    pub newest-judged : isWaiting (placeAt l k .standing) ≡ true → {p : Pass} → p ≡ settleBy l k (judge l s k) → p ≡ newestSettled l s
+    newest-judged w e = e ∙ newest-by w
 
--- r is what passes over l come to; where `changed` is false, and the others waited in l, a further pass changes nothing
-pub record Reached (l : Ledger) (s : List ℕ) (r : Ledger) (changed : Bool) : Type 0 where
+-- r is what passes over b come to; where `changed` is false, a further pass changes nothing, if it changes nothing of b where `first` is false
+pub record Reached (b : Ledger) (s : List ℕ) (first : Bool) (r : Ledger) (changed : Bool) : Type 0 where
   pub turns : ℕ
-  pub is : r ≡ passes turns l s
-  pub used-kept : r .used ≡ l .used
-  pub places-kept : length (r .places) ≡ length (l .places)
-  pub done : changed ≡ false → OthersWait l s → pass r s .changed ≡ false
+  pub is : r ≡ passes turns b s
+  pub used-kept : r .used ≡ b .used
+  pub places-kept : length (r .places) ≡ length (b .places)
+  pub done : changed ≡ false → (first ≡ false → pass b s .changed ≡ false) → pass r s .changed ≡ false
 
 -- how many places wait, and one more while there is a pass to make
 abbrev pub left : Ledger → Bool → ℕ
 left r changed = countOf isWaiting r + cond changed 1 0
 
-module _ (l : Ledger) (s : List ℕ) where
-  pub reached-none : {waits : Bool} → waits ≡ newestWaits l s → Reached l s l (not waits)
+module _ (b : Ledger) (s : List ℕ) (first : Bool) where
+  pub reached-none : Reached b s first b first
   unfolding passes
-  reached-none {waits} n =
-      record {
-        turns = 0;
-        is = refl;
-        used-kept = refl;
-        places-kept = refl;
-        done = λ e others. newest-unchanged l s others (sym n ∙ sym (Bool·not-not waits) ∙ ap not e);
-      }
+  reached-none = record { turns = 0; is = refl; used-kept = refl; places-kept = refl; done = λ e f. f e }
 
-  module _ (r : Ledger) (changed : Bool) (reached : Reached l s r changed) (p : Pass) (passed : p ≡ pass r s) where
-    pub reached-next : Reached l s (p .ledger) (p .changed)
+  module _ (r : Ledger) (changed : Bool) (reached : Reached b s first r changed) (p : Pass) (passed : p ≡ pass r s) where
+    pub reached-next : Reached b s first (p .ledger) (p .changed)
     unfolding passes
     reached-next =
         let e : p .ledger ≡ pass r s .ledger = ap (λ (q : Pass). q .ledger) passed in
@@ -155,9 +151,24 @@ module _ (l : Ledger) (s : List ℕ) where
     pub left-falls : r .used ≤ length (r .places) → left (p .ledger) (p .changed) < left r true
     left-falls room = rw passed (by (pass r s .changed) refl)
       where
-        by : (b : Bool) → pass r s .changed ≡ b → left (pass r s .ledger) b < left r true
+        by : (c : Bool) → pass r s .changed ≡ c → left (pass r s .ledger) c < left r true
         by true e = let f = pass-falls r s room e in omega arith
         by false e = let f : countOf isWaiting (pass r s .ledger) ≡ countOf isWaiting r = ap (countOf isWaiting) (pass-same r s e) in omega arith
 
-  pub reached-settled : (r : Ledger) → Reached l s r false → SettledFrom l s r
-  reached-settled r h = record { turns = h .turns; is = h .is; done = h .done refl }
+-- the passes begin from l with its newest place judged
+module _ (l : Ledger) (s : List ℕ) (p : Pass) (begun : p ≡ newestSettled l s) where
+  pub begun-kept : Kept l (p .ledger)
+  begun-kept = subst (λ (q : Pass). Kept l (q .ledger)) (sym begun) (newest-kept l s)
+
+  pub reached-settled : (r : Ledger) → Reached (p .ledger) s (p .changed) r false → SettledFrom l s r
+  reached-settled r h =
+      let e : p .ledger ≡ newestSettled l s .ledger = ap (λ (q : Pass). q .ledger) begun in
+      record {
+        turns = h .turns;
+        is = h .is ∙ ap (λ (m : Ledger). passes (h .turns) m s) e;
+        done = λ others.
+            h .done refl
+            (λ c.
+            ap (λ (m : Ledger). pass m s .changed) e
+            ∙ newest-unchanged l s others (ap (λ (q : Pass). q .changed) (sym begun) ∙ c));
+      }

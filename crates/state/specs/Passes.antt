@@ -7,8 +7,8 @@ use native.Mathlib.Omega.{arith}
 use native.Mathlib.Nat.{eq-or-lt-of-le, le-of-suc-le-suc, not-suc-le-zero}
 use mathlib.Core.Logic.{⊎-elim}
 use mathlib.Core.List.{List}
-use mathlib.Core.Bool.{true, false, true≢false, false≢true}
-use Rattle.keys.specs.BoolLaws.{or-false→, and-true→}
+use mathlib.Core.Bool.{true, false, cond, true≢false, false≢true}
+use Rattle.keys.specs.BoolLaws.{or-false→}
 use Rattle.state.specs.declared.Ledger.{Ledger}
 use Rattle.state.specs.declared.Pass.{Pass}
 use Rattle.state.specs.declared.Standing.{Standing}
@@ -17,7 +17,7 @@ use Rattle.state.specs.declared.Judgement.{Judgement}
 use Rattle.state.specs.declared.Judgement.the-variants.{Holds as Judged-holds, Fails, Waits}
 use Rattle.state.specs.State.{placeAt, withStanding, isWaiting, isVoid}
 use Rattle.state.specs.Judge.{judge}
-use Rattle.state.specs.Settle.{settleBy, settleFrom, settlePlace, settleNext, settleBelow, pass, passes, isWaits, lastWaits, newestWaits, OthersWait, SettledFrom}
+use Rattle.state.specs.Settle.{settleBy, settleFrom, settlePlace, settleNext, settleBelow, pass, passes, isWaits, lastSettled, newestSettled, OthersWait, SettledFrom}
 
 -- the standings differ
 pub held≢waiting : IsHeld ≡ IsWaiting → ⊥
@@ -31,12 +31,6 @@ void≢waiting e = false≢true (ap isWaiting e)
 pub held≢void : IsHeld ≡ IsVoid → ⊥
 unfolding isVoid
 held≢void e = false≢true (ap isVoid e)
-
-isWaits→ : (j : Judgement) → isWaits j ≡ true → j ≡ Waits
-unfolding isWaits
-isWaits→ (Judged-holds w) e = absurd (false≢true e)
-isWaits→ Fails e = absurd (false≢true e)
-isWaits→ Waits e = refl
 
 -- the place k is judged, and gets this standing and ancestor word
 pub data Settles (l : Ledger) (s : List ℕ) (k : ℕ) : Standing → ℕ → Type 0 where
@@ -83,6 +77,24 @@ module _ (l : Ledger) (s : List ℕ) (k : ℕ) (P : Pass → Type 0)
   unfolding settlePlace
   settle-cases = by-standing (placeAt l k .standing) refl
 
+-- the last of the places is settled as in a pass; and where no passes are to be made, a pass would have changed nothing there
+module _ (l : Ledger) (s : List ℕ) (n : ℕ) where
+  last-by : (v : Standing)
+      → let p : Pass = cond (isWaiting v) (settleBy l n (judge l s n)) (record { ledger = l; changed = true }) in
+      (p .ledger ≡ settleFrom v l s n .ledger) × (p .changed ≡ false → settleFrom v l s n .changed ≡ false)
+  unfolding settleFrom isWaiting
+  last-by IsHeld = (refl, λ e. refl)
+  last-by IsWaiting = (refl, λ e. e)
+  last-by IsVoid = (refl, λ e. refl)
+
+  last-place : lastSettled l s (suc n) .ledger ≡ settlePlace l s n .ledger
+  unfolding lastSettled settlePlace
+  last-place = last-by (placeAt l n .standing) .0
+
+  last-unchanged : lastSettled l s (suc n) .changed ≡ false → settlePlace l s n .changed ≡ false
+  unfolding lastSettled settlePlace
+  last-unchanged = last-by (placeAt l n .standing) .1
+
 -- what settling a waiting place below m keeps
 module _ (I : Ledger → Type 0) (s : List ℕ) (m : ℕ)
     (step : (l : Ledger) (k : ℕ) (v : Standing) (w : ℕ) → k < m → placeAt l k .standing ≡ IsWaiting → Settles l s k v w → I l
@@ -95,7 +107,16 @@ module _ (I : Ledger → Type 0) (s : List ℕ) (m : ℕ)
   below-keeps p zero h i = i
   below-keeps p (suc n) h i = below-keeps (settleNext p s n) n (omega arith) (place-keeps (p .ledger) n h i)
 
+  last-keeps : (l : Ledger) (n : ℕ) → n ≤ m → I l → I (lastSettled l s n .ledger)
+  unfolding lastSettled
+  last-keeps l zero h i = i
+  last-keeps l (suc n) h i = subst I (sym (last-place l s n)) (place-keeps l n h i)
+
   module _ (few : (l : Ledger) → I l → l .used ≤ m) where
+    pub newest-keeps : (l : Ledger) → I l → I (newestSettled l s .ledger)
+    unfolding newestSettled
+    newest-keeps l i = last-keeps l (l .used) (few l i) i
+
     pub pass-keeps : (l : Ledger) → I l → I (pass l s .ledger)
     unfolding pass
     pass-keeps l i = below-keeps (record { ledger = l; changed = false }) (l .used) (few l i) i
@@ -106,7 +127,7 @@ module _ (I : Ledger → Type 0) (s : List ℕ) (m : ℕ)
     passes-keep (suc n) l i = pass-keeps (passes n l s) (passes-keep n l i)
 
     pub settled-keeps : (l r : Ledger) → SettledFrom l s r → I l → I r
-    settled-keeps l r f i = subst I (sym (f .is)) (passes-keep (f .turns) l i)
+    settled-keeps l r f i = subst I (sym (f .is)) (passes-keep (f .turns) (newestSettled l s .ledger) (newest-keeps l i))
 
 -- where nothing changed, the ledger is as it was, and each place that waits was judged to
 place-unchanged : (l : Ledger) (s : List ℕ) (k : ℕ) → settlePlace l s k .changed ≡ false
@@ -161,18 +182,22 @@ module _ (l : Ledger) (s : List ℕ) where
       ap (λ (q : Pass). settleBelow (record { ledger = q .ledger; changed = q .changed }) s n) (place-stays n (f n (omega arith)))
       ∙ below-stays n (λ k h. f k (omega arith))
 
-  last-waits : (n : ℕ) → lastWaits l s n ≡ true → (k : ℕ) → k + 1 ≡ n → judge l s k ≡ Waits
-  unfolding lastWaits
-  last-waits zero e k h = absurd (false≢true e)
-  last-waits (suc n) e k h =
-      let q : k ≡ n = omega arith in
-      subst (λ (i : ℕ). judge l s i ≡ Waits) (sym q) (isWaits→ (judge l s n) (and-true→ (isWaiting (placeAt l n .standing)) (isWaits (judge l s n)) e .1))
+  last-same : (n : ℕ) → lastSettled l s n .changed ≡ false
+      → (lastSettled l s n .ledger ≡ l) × ((k : ℕ) → k + 1 ≡ n → placeAt l k .standing ≡ IsWaiting → judge l s k ≡ Waits)
+  unfolding lastSettled
+  last-same zero e = absurd (true≢false e)
+  last-same (suc n) e =
+      let u = place-unchanged l s n (last-unchanged l s n e) in (
+        last-place l s n ∙ u .0,
+        λ k h. let q : n ≡ k = omega arith in subst (λ (i : ℕ). placeAt l i .standing ≡ IsWaiting → judge l s i ≡ Waits) q (u .1),
+      )
 
-  -- the others wait, and the newest place does
-  pub newest-unchanged : OthersWait l s → newestWaits l s ≡ true → pass l s .changed ≡ false
-  unfolding pass newestWaits
+  -- the others wait, and the newest place goes on waiting
+  pub newest-unchanged : OthersWait l s → newestSettled l s .changed ≡ false → pass (newestSettled l s .ledger) s .changed ≡ false
+  unfolding pass newestSettled
   newest-unchanged others e =
-      ap (λ (p : Pass). p .changed)
+      let u = last-same (l .used) e in
+      ap (λ (m : Ledger). pass m s .changed) (u .0)
+      ∙ ap (λ (p : Pass). p .changed)
       (below-stays (l .used)
-      (λ k h q.
-      ⊎-elim (λ (g : k + 1 ≡ l .used). last-waits (l .used) e k g) (λ (g : k + 1 < l .used). others k g q) (eq-or-lt-of-le (omega arith))))
+      (λ k h q. ⊎-elim (λ (g : k + 1 ≡ l .used). u .1 k g q) (λ (g : k + 1 < l .used). others k g q) (eq-or-lt-of-le (omega arith))))

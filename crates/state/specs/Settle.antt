@@ -1,10 +1,11 @@
--- Settling as the code does it: passes over the places from the last to the first, each waiting one judged by the ledger that the ones before it
--- left, until a pass changes none. The laws in `SettleLaws` say that a ledger so settled stands as the rules say.
+-- Settling as the code does it: the newest place is judged; where it does not go on waiting, passes are made over the places from the last to the
+-- first, each waiting one judged by the ledger that the ones before it left, until a pass changes none. The laws in `SettleLaws` say that a ledger so
+-- settled stands as the rules say.
 -- Assumes nothing.
 use mathlib.Core.Path.{_≡_}
 use Prim.Native.Nat.{ℕ, zero, suc, _+_, _<_}
 use mathlib.Core.List.{List}
-use mathlib.Core.Bool.{Bool, true, false, _&&_, _||_}
+use mathlib.Core.Bool.{Bool, true, false, cond, _||_}
 use Rattle.state.specs.declared.Ledger.{Ledger}
 use Rattle.state.specs.declared.Pass.{Pass}
 use Rattle.state.specs.declared.Standing.{Standing}
@@ -54,21 +55,22 @@ isWaits (Holds w) = false
 isWaits Fails = false
 isWaits Waits = true
 
--- the last of the places below n waits, and is judged to go on waiting
-unfoldable pub lastWaits : Ledger → List ℕ → ℕ → Bool
-lastWaits l s zero = false
-lastWaits l s (suc n) = isWaiting (placeAt l n .standing) && isWaits (judge l s n)
+-- the last of the places below n as it is judged, and whether passes are to be made: not where it goes on waiting
+unfoldable pub lastSettled : Ledger → List ℕ → ℕ → Pass
+lastSettled l s zero = record { ledger = l; changed = true }
+lastSettled l s (suc n) =
+    cond (isWaiting (placeAt l n .standing)) (settleBy l n (judge l s n)) (record { ledger = l; changed = true })
 
--- the newest place does
-unfoldable pub newestWaits : Ledger → List ℕ → Bool
-newestWaits l s = lastWaits l s (l .used)
+-- the same of the newest place
+unfoldable pub newestSettled : Ledger → List ℕ → Pass
+newestSettled l s = lastSettled l s (l .used)
 
 -- every place that waits, but the newest, is judged to go on waiting: so it is where the ledger was settled before the newest place was taken
 abbrev pub OthersWait : Ledger → List ℕ → Type 0
 OthersWait l s = (k : ℕ) → k + 1 < l .used → placeAt l k .standing ≡ Waiting → judge l s k ≡ Waits
 
--- r is what passes over l come to; and where the others waited in l, a further pass changes nothing
+-- r is what passes come to, over l with its newest place judged; and where the others waited in l, a further pass changes nothing
 pub record SettledFrom (l : Ledger) (s : List ℕ) (r : Ledger) : Type 0 where
   pub turns : ℕ
-  pub is : r ≡ passes turns l s
+  pub is : r ≡ passes turns (newestSettled l s .ledger) s
   pub done : OthersWait l s → pass r s .changed ≡ false

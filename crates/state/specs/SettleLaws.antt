@@ -31,13 +31,13 @@ use Rattle.state.specs.Row1.{sound}
 use Rattle.state.specs.Row1Laws.{SoundPlace, sound→, sound←, holds-sound}
 use Rattle.state.specs.Verdicts.{verdictOf, verdict-held, verdict-waiting, verdict-void, verdict, verdict-at, Placed, placed}
 use Rattle.state.specs.Judge.{judge}
-use Rattle.state.specs.Settle.{settlePlace, settleNext, settleBelow, pass, OthersWait, SettledFrom}
+use Rattle.state.specs.Settle.{settlePlace, settleNext, settleBelow, pass, newestSettled, OthersWait, SettledFrom}
 use Rattle.state.specs.Stands.{ident, noUpdate, updateAt, Holds, Truthful, Settled, Stands}
 use Rattle.state.specs.ListFacts.{set-cases}
 use Rattle.state.specs.JudgeWithin.{judge-within}
 use Rattle.state.specs.JudgeLaws.{judged-held, judged-above, judged-above-all, judged-void, judged-no-void, judged-not-ready}
 use Rattle.state.specs.Passes.{Settles, to-held, to-void, settles-not-waiting, settles-held, settles-void}
-use Rattle.state.specs.Passes.{settle-cases, place-keeps, pass-keeps, settled-keeps, pass-unchanged}
+use Rattle.state.specs.Passes.{settle-cases, place-keeps, pass-keeps, newest-keeps, settled-keeps, pass-unchanged}
 
 -- a place of a ledger in which the place k was settled: what it was, or the new one
 module _ (l : Ledger) (k : ℕ) (v : Standing) (w : ℕ) where
@@ -107,6 +107,9 @@ place-kept l s k h = place-keeps (Kept l) s (l .used) (kept-on l s) l k h (kept-
 
 pub pass-kept : (l : Ledger) (s : List ℕ) → Kept l (pass l s .ledger)
 pass-kept l s = pass-keeps (Kept l) s (l .used) (kept-on l s) (λ r i. le-of-eq (i .used-kept)) l (kept-refl l)
+
+pub newest-kept : (l : Ledger) (s : List ℕ) → Kept l (newestSettled l s .ledger)
+newest-kept l s = newest-keeps (Kept l) s (l .used) (kept-on l s) (λ r i. le-of-eq (i .used-kept)) l (kept-refl l)
 
 pub settled-kept-all : (l : Ledger) (s : List ℕ) (r : Ledger) → SettledFrom l s r → Kept l r
 settled-kept-all l s r f = settled-keeps (Kept l) s (l .used) (kept-on l s) (λ r i. le-of-eq (i .used-kept)) l r f (kept-refl l)

@@ -102,7 +102,10 @@ impl Ledger {
         requires { ⌜ self .used ≤ 64 ⌝ }
         ensures { λ r. ⌜ SettledFrom self (now (store .entry)) r ⌝ }
     {
-        let mut changed = !settle::newest_waits(self, store);
+        let first = settle::newest(self, store);
+        let begun = first.ledger;
+        self = begun;
+        let mut changed = first.changed;
         while changed {
             let p = settle::pass(self, store);
             let next = p.ledger;

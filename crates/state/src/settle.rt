@@ -1,9 +1,9 @@
-// Settling: passes over the waiting places, and the test of the newest.
+// Settling: the newest place, and passes over the waiting places.
 ghost use mathlib.Core.Path.{_≡_};
 ghost use Prim.Native.Nat.{_≤_, _<_};
 ghost use Rattle.state.specs.State.{isWaiting};
 ghost use Rattle.state.specs.Judge.{judge as judgeAt};
-ghost use Rattle.state.specs.Settle.{settleBy, pass as passOver, newestWaits};
+ghost use Rattle.state.specs.Settle.{settleBy, pass as passOver, newestSettled};
 use crate::Judgement;
 use crate::Ledger;
 use crate::Pass;
@@ -49,24 +49,26 @@ fn settle_waiting(l: Ledger, store: &[u8], k: usize) -> Pass
     }
 }
 
-// The newest place waits, and is judged to go on waiting.
-pub fn newest_waits(l: Ledger, store: &[u8]) -> bool
+// The newest place as it is judged, and whether passes are to be made: not where it goes on waiting.
+pub fn newest(l: Ledger, store: &[u8]) -> Pass
     requires { ⌜ l .used ≤ 64 ⌝ }
-    ensures { λ r. ⌜ r ≡ newestWaits l (now (store .entry)) ⌝ }
+    ensures { λ r. ⌜ r ≡ newestSettled l (now (store .entry)) ⌝ }
 {
     let used = l.used;
     if used == 0 {
-        return false;
+        return Pass {
+            ledger: l,
+            changed: true,
+        };
     }
     let k = used - 1;
     if waits(l.places[k]) {
-        match judge(l, store, k) {
-            Judgement::Holds(_) => false,
-            Judgement::Fails => false,
-            Judgement::Waits => true,
-        }
+        settle_waiting(l, store, k)
     } else {
-        false
+        Pass {
+            ledger: l,
+            changed: true,
+        }
     }
 }
 

@@ -1,5 +1,5 @@
--- `settle` meets its contract. The loop's invariant: the ledger is what passes come to, and where the last one changed nothing, or the newest place
--- goes on waiting, none is left to make.
+-- `settle` meets its contract. The loop's invariant: the ledger is what passes come to, over the one with its newest place judged; and where the last
+-- one changed nothing, or the newest place goes on waiting, none is left to make.
 -- The measure: how many places wait, and one more while there is a pass to make.
 -- Assumes nothing.
 use Prim.Native.Nat.{_<_}
@@ -10,12 +10,12 @@ use native.Mathlib.Omega.{arith}
 use borrow.Author.Needs.{needs}
 use denote.Ref.{now}
 use Rattle.state.proofs.Owning.{places-length}
-use Rattle.state.proofs.Settling.{Reached, left, reached-none, reached-next, left-falls, reached-settled}
+use Rattle.state.proofs.Settling.{Reached, left, reached-none, reached-next, left-falls, begun-kept, reached-settled}
 use Rattle.state.proofs.Ledger.settle.Statement.{statement}
 use Rattle.state.proofs.Ledger.settle.Tie as tie
 
 abbrev Inv-loop : tie.InvT-loop
-Inv-loop self₀ store changed₀ self changed = Reached self₀ store self changed
+Inv-loop self₀ store changed₀ self changed = Reached self₀ store changed₀ self changed
 
 abbrev μ-loop : tie.MeasureT-loop
 μ-loop self₀ store changed₀ self changed = left self changed
@@ -27,22 +27,27 @@ settle-spec =
     Inv-loop
     μ-loop
     (λ c κs. search needs)
-    (λ c. let a = c .before .before .args in reached-none (a .self) (now (a .store)) (c .newest-waits .ensures))
-    (λ c κs. omega (arith, c .before .loop .inv .used-kept))
+    (λ c. reached-none _ _ _)
+    (λ c κs.
+    let h = c .before in
+    let n = h .before .before in
+    let a = n .before .before .args in
+    let k = begun-kept (a .self) (now (a .store)) _ (n .newest .ensures) in
+    omega (arith, h .loop .inv .used-kept, k .used-kept))
     (λ c.
     let h = c .before .before .before in
-    let a = h .before .before .before .args in
-    let whole : length (a .self .places) ≡ 64 = places-length (a .self) _ (h .before .before .before .good .0) in
+    let n = h .before .before in
+    let a = n .before .before .args in
+    let whole : length (a .self .places) ≡ 64 = places-length (a .self) _ (n .before .before .good .0) in
+    let k = begun-kept (a .self) (now (a .store)) _ (n .newest .ensures) in
     let p = c .before .pass .result in
     subst (λ (b : Bool). left (p .ledger) (p .changed) < left (h .loop .self) b) (sym (c .before .before .loop-test .taken))
-    (left-falls (a .self) (now (a .store)) (h .loop .self) (h .loop .changed) (h .loop .inv) p (c .before .pass .ensures)
-    (omega (arith, h .loop .inv .used-kept, h .loop .inv .places-kept, whole))))
-    (λ c.
-    let h = c .before .before .before in
-    let a = h .before .before .before .args in
-    reached-next (a .self) (now (a .store)) _ _ (h .loop .inv) _ (c .before .pass .ensures))
+    (left-falls _ (now (a .store)) _ (h .loop .self) (h .loop .changed) (h .loop .inv) p (c .before .pass .ensures)
+    (omega (arith, h .loop .inv .used-kept, h .loop .inv .places-kept, k .used-kept, k .places-kept, whole))))
+    (λ c. let h = c .before .before .before in reached-next _ _ _ _ _ (h .loop .inv) _ (c .before .pass .ensures))
     (λ c.
     let h = c .before in
-    let a = h .before .before .before .args in
-    reached-settled (a .self) (now (a .store)) (h .loop .self)
-    (subst (Reached (a .self) (now (a .store)) (h .loop .self)) (c .loop-test .left) (h .loop .inv))))
+    let n = h .before .before in
+    let a = n .before .before .args in
+    reached-settled (a .self) (now (a .store)) (n .newest .result) (n .newest .ensures) (h .loop .self)
+    (subst (Reached (n .newest .result .ledger) (now (a .store)) (n .newest .result .changed) (h .loop .self)) (c .loop-test .left) (h .loop .inv))))
