@@ -17,7 +17,7 @@ use state::Found;
 pub use state::Ledger;
 pub use state::Standing;
 use state::find::find;
-use state::row1::sound;
+use survey::sound;
 pub use writer::Kind;
 pub use writing::Wrote;
 use writing::write_asked;

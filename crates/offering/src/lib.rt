@@ -11,9 +11,9 @@ use state::Ledger;
 use state::PLACES;
 use state::Standing;
 use state::find::find;
-use state::find::held_count;
-use state::find::void_count;
 use state::store::write_at;
+use survey::held_count;
+use survey::void_count;
 
 // What an offer answers.
 pub enum Answer {

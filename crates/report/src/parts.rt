@@ -11,7 +11,7 @@ use crate::lines::line;
 use crate::page::put;
 use state::Ledger;
 use state::Standing;
-use state::find::has_standing;
+use survey::has_standing;
 use views::Places;
 use views::tests;
 

@@ -1,13 +1,11 @@
-// Finding an id among the taken places, and counting standings.
+// Finding an id among the taken places.
 ghost use mathlib.Core.Path.{_≡_};
 ghost use Prim.Native.Nat.{_≤_};
 ghost use Rattle.keys.specs.Order.{same};
-ghost use Rattle.state.specs.State.{findIn, foundOf, isHeld, isVoid, countOf};
-ghost use Rattle.state.specs.Number.{numberOf, hasStanding};
+ghost use Rattle.state.specs.State.{findIn, foundOf};
 use crate::Found;
 use crate::Ledger;
 use crate::Place;
-use crate::Standing;
 
 // Whether the place has this id.
 pub fn has_id(p: Place, id: &[u8]) -> bool
@@ -31,56 +29,4 @@ pub fn find(l: Ledger, id: &[u8]) -> Found
         k += 1;
     }
     Found::Nowhere
-}
-
-// A number for each standing.
-fn number_of(standing: Standing) -> u8
-    ensures { λ r. ⌜ r ≡ numberOf standing ⌝ }
-{
-    match standing {
-        Standing::Held => 0,
-        Standing::Waiting => 1,
-        Standing::Void => 2,
-    }
-}
-
-// Whether the place has this standing.
-pub fn has_standing(p: Place, standing: Standing) -> bool
-    ensures { λ r. ⌜ r ≡ hasStanding standing (p .standing) ⌝ }
-{
-    let own = p.standing;
-    number_of(own) == number_of(standing)
-}
-
-// How many taken places have this standing.
-fn count(l: Ledger, standing: Standing) -> usize
-    requires { ⌜ l .used ≤ 64 ⌝ }
-    ensures { λ r. ⌜ r ≡ countOf (hasStanding standing) l ⌝ }
-{
-    let used = l.used;
-    let mut n: usize = 0;
-    let mut j: usize = 0;
-    while j < used {
-        if has_standing(l.places[j], standing) {
-            n += 1;
-        }
-        j += 1;
-    }
-    n
-}
-
-// How many taken places are held.
-pub fn held_count(l: Ledger) -> usize
-    requires { ⌜ l .used ≤ 64 ⌝ }
-    ensures { λ r. ⌜ r ≡ countOf isHeld l ⌝ }
-{
-    count(l, Standing::Held)
-}
-
-// How many taken places are void.
-pub fn void_count(l: Ledger) -> usize
-    requires { ⌜ l .used ≤ 64 ⌝ }
-    ensures { λ r. ⌜ r ≡ countOf isVoid l ⌝ }
-{
-    count(l, Standing::Void)
 }

@@ -1,7 +1,6 @@
 // The bookkeeping of a ledger: places, standings and ancestor words, by value; and the lent store.
 pub mod find;
 pub mod judge;
-pub mod row1;
 pub mod settle;
 pub mod store;
 

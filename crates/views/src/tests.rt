@@ -7,8 +7,8 @@ use crate::Relation;
 use state::Ledger;
 use state::Place;
 use state::Standing;
-use state::find::has_standing;
 use state::store::stored;
+use survey::has_standing;
 
 // Whether the places are two, neither an ancestor of the other.
 fn apart(own: Place, k: usize, other: Place, q: usize) -> bool

@@ -2,10 +2,10 @@
 -- Assumes nothing.
 use mathlib.Core.Path.{_∙_}
 use borrow.Author.Needs.{needs}
 use Rattle.state.specs.NumberLaws.{is-void}
-use Rattle.state.proofs.CountLaws.{countOf-cong}
-use Rattle.state.proofs.find.void_count.Statement.{statement}
-use Rattle.state.proofs.find.void_count.Tie as tie
+use Rattle.survey.proofs.CountLaws.{countOf-cong}
+use Rattle.survey.proofs.void_count.Statement.{statement}
+use Rattle.survey.proofs.void_count.Tie as tie
 
 pub void-count-spec : {M : Type 1} → statement M
 void-count-spec = tie.close (tie.spec (λ c κs. search needs) (λ c. c .count .ensures ∙ countOf-cong _ _ is-void _))

@@ -2,9 +2,9 @@
 -- Assumes nothing.
 use mathlib.Core.Path.{_∙_}
 use borrow.Author.Needs.{needs}
-use Rattle.state.proofs.Row1Laws.{short, long, by-ancestors}
-use Rattle.state.proofs.row1.sound_place.Statement.{statement}
-use Rattle.state.proofs.row1.sound_place.Tie as tie
+use Rattle.survey.proofs.Row1Laws.{short, long, by-ancestors}
+use Rattle.survey.proofs.sound_place.Statement.{statement}
+use Rattle.survey.proofs.sound_place.Tie as tie
 
 pub sound-place-spec : {M : Type 1} → statement M
 sound-place-spec =

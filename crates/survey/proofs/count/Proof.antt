@@ -4,9 +4,9 @@ use Prim.Native.Nat.{_≤_, _-_}
 use mathlib.Core.Path.{_≡_, _∙_}
 use mathlib.Core.Logic.{⊎-elim}
 use borrow.Author.Needs.{needs}
-use Rattle.state.proofs.CountLaws.{counted, counted-first, counted-one, counted-none, counted-whole}
-use Rattle.state.proofs.find.count.Statement.{statement}
-use Rattle.state.proofs.find.count.Tie as tie
+use Rattle.survey.proofs.CountLaws.{counted, counted-first, counted-one, counted-none, counted-whole}
+use Rattle.survey.proofs.count.Statement.{statement}
+use Rattle.survey.proofs.count.Tie as tie
 
 abbrev Inv-loop : tie.InvT-loop
 Inv-loop standing l used n₀ j₀ n j = (j ≤ used) × (n ≤ j) × (n ≡ counted l standing j)

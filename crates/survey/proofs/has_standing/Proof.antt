@@ -3,9 +3,9 @@
 use mathlib.Core.Path.{ap₂}
 use borrow.Author.Needs.{needs}
 use lib.Dec.{eqb}
 use Rattle.state.specs.Number.{hasStanding}
-use Rattle.state.proofs.find.has_standing.Statement.{statement}
-use Rattle.state.proofs.find.has_standing.Tie as tie
+use Rattle.survey.proofs.has_standing.Statement.{statement}
+use Rattle.survey.proofs.has_standing.Tie as tie
 
 returns : tie.Need-returns
 unfolding hasStanding

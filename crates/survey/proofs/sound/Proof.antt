@@ -5,9 +5,9 @@ use mathlib.Core.Path.{sym, _∙_}
 use borrow.Author.Needs.{needs}
 use borrow.Author.Tests.{not-true, not-false}
 use denote.Ref.{now}
-use Rattle.state.proofs.Row1Laws.{SoundBelow, wrong-store, too-many, unsound, sound-first, sound-more, all-sound, by-places}
-use Rattle.state.proofs.row1.sound.Statement.{statement}
-use Rattle.state.proofs.row1.sound.Tie as tie
+use Rattle.survey.proofs.Row1Laws.{SoundBelow, wrong-store, too-many, unsound, sound-first, sound-more, all-sound, by-places}
+use Rattle.survey.proofs.sound.Statement.{statement}
+use Rattle.survey.proofs.sound.Tie as tie
 
 abbrev Inv-loop : tie.InvT-loop
 Inv-loop store l used k₀ k = (k ≤ used) × SoundBelow l k

@@ -1,0 +1,99 @@
+// What a whole ledger shows: whether row 1 of the table applies, and how many places stand so.
+ghost use mathlib.Core.Path.{_≡_};
+ghost use Prim.Native.Nat.{_≤_};
+ghost use Rattle.state.specs.State.{isHeld, isVoid, countOf};
+ghost use Rattle.state.specs.Number.{numberOf, hasStanding};
+ghost use Rattle.state.specs.Row1.{sound as soundLedger, soundPlace};
+use format::bounds::MAX_LENGTH;
+use format::bounds::MIN_LENGTH;
+use state::Ledger;
+use state::PLACES;
+use state::Place;
+use state::STORE_LENGTH;
+use state::Standing;
+
+// Whether a taken place's length and ancestors are possible ones.
+fn sound_place(used: usize, p: Place) -> bool
+    ensures { λ r. ⌜ r ≡ soundPlace used p ⌝ }
+{
+    if p.length < MIN_LENGTH {
+        return false;
+    }
+    if MAX_LENGTH < p.length {
+        return false;
+    }
+    bits::within(p.ancestors, used)
+}
+
+// Whether row 1 does not apply.
+pub fn sound(l: Ledger, store: &[u8]) -> bool
+    ensures { λ r. ⌜ r ≡ soundLedger l (now (store .entry)) ⌝ }
+{
+    if store.len() != STORE_LENGTH {
+        return false;
+    }
+    let used = l.used;
+    if PLACES < used {
+        return false;
+    }
+    let mut k: usize = 0;
+    while k < used {
+        if !sound_place(used, l.places[k]) {
+            return false;
+        }
+        k += 1;
+    }
+    true
+}
+
+// A number for each standing.
+fn number_of(standing: Standing) -> u8
+    ensures { λ r. ⌜ r ≡ numberOf standing ⌝ }
+{
+    match standing {
+        Standing::Held => 0,
+        Standing::Waiting => 1,
+        Standing::Void => 2,
+    }
+}
+
+// Whether the place has this standing.
+pub fn has_standing(p: Place, standing: Standing) -> bool
+    ensures { λ r. ⌜ r ≡ hasStanding standing (p .standing) ⌝ }
+{
+    let own = p.standing;
+    number_of(own) == number_of(standing)
+}
+
+// How many taken places have this standing.
+fn count(l: Ledger, standing: Standing) -> usize
+    requires { ⌜ l .used ≤ 64 ⌝ }
+    ensures { λ r. ⌜ r ≡ countOf (hasStanding standing) l ⌝ }
+{
+    let used = l.used;
+    let mut n: usize = 0;
+    let mut j: usize = 0;
+    while j < used {
+        if has_standing(l.places[j], standing) {
+            n += 1;
+        }
+        j += 1;
+    }
+    n
+}
+
+// How many taken places are held.
+pub fn held_count(l: Ledger) -> usize
+    requires { ⌜ l .used ≤ 64 ⌝ }
+    ensures { λ r. ⌜ r ≡ countOf isHeld l ⌝ }
+{
+    count(l, Standing::Held)
+}
+
+// How many taken places are void.
+pub fn void_count(l: Ledger) -> usize
+    requires { ⌜ l .used ≤ 64 ⌝ }
+    ensures { λ r. ⌜ r ≡ countOf isVoid l ⌝ }
+{
+    count(l, Standing::Void)
+}
