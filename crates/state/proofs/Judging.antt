@@ -2,7 +2,7 @@
 -- Assumes nothing.
 use Prim.Native.Nat.{ℕ, _≤_, _<_}
 use mathlib.Core.Path.{_≡_, refl, sym, ap, ap₂, _∙_}
-use mathlib.Core.List.{List}
+use mathlib.Core.List.{List, []}
 use mathlib.Core.Option.{Option, none, some}
 use mathlib.Core.Bool.{Bool, true, false, _||_}
 use native.Mathlib.Omega.{arith}
@@ -11,7 +11,7 @@ use Rattle.keys.specs.Member.{all}
 use borrow.Author.Tests.{eq-eqb, ne-eqb}
 use Rattle.format.specs.Update as U
 use Rattle.format.specs.Update.{Id, idLength, tagLength}
-use Rattle.format.specs.Decode.{part, idsAt, decode}
+use Rattle.format.specs.Decode.{part, idsAt, decode, row2}
 use Rattle.format.specs.Reading.{operationAt, valueOf, decodedOf}
 use Rattle.format.specs.declared.Malformed.{Malformed}
 use Rattle.format.specs.declared.Operation.{Operation}
@@ -93,13 +93,18 @@ module _ (l : Ledger) (s : List ℕ) (p : U.Operation → Bool) (up : ℕ) (i : 
   unfolding names namesAt
   names-in j e h b f = rw (e, h, f)
 
-  pub names-out : (j : ℕ) → findIn l i ≡ some j → has up j ≡ false → false ≡ names l s p up i
-  unfolding names namesAt
-  names-out j e h = rw (e, h)
+  -- no bytes are no update
+  no-bytes : testOf p (decode []) ≡ false
+  unfolding testOf decode row2
+  no-bytes = refl
 
-  pub names-nowhere : findIn l i ≡ none → false ≡ names l s p up i
+  pub names-out : (j : ℕ) → findIn l i ≡ some j → has up j ≡ false → testOf p (decode []) ≡ names l s p up i
   unfolding names namesAt
-  names-nowhere e = rw e
+  names-out j e h = no-bytes ∙ rw (e, h)
+
+  pub names-nowhere : findIn l i ≡ none → testOf p (decode []) ≡ names l s p up i
+  unfolding names namesAt
+  names-nowhere e = no-bytes ∙ rw e
 
 -- the operation o, laid out in b, by its kind
 module _ (l : Ledger) (s : List ℕ) (up : ℕ) (b : List ℕ) (o : Operation) where

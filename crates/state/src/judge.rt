@@ -1,11 +1,14 @@
 // Judging a waiting update: by its predecessors, its ancestors and its operation.
 ghost use mathlib.Core.Path.{_≡_};
 ghost use mathlib.Core.Option.{some};
+ghost use mathlib.Core.Bool.{Bool};
 ghost use Prim.Native.Nat.{_≤_, _<_};
 ghost use Rattle.keys.specs.Member.{all};
+ghost use Rattle.format.specs.Update as U;
 ghost use Rattle.format.specs.Decode.{idsAt, firstPredecessor, decode};
 ghost use Rattle.format.specs.Reading.{operationAt, valueOf};
 ghost use Rattle.rules.specs.Settle.{isAdd, isInsert};
+ghost use Rattle.fields.specs.Fields.{testOf};
 ghost use Rattle.state.specs.declared.Ledger.{Ledger};
 ghost use Rattle.state.specs.State.{placeAt};
 ghost use Rattle.state.specs.Judge.{nothingGathered, gatherAt, gather as gatherAll, names, valid as validOperation, judgeReady, judgeGathered, judgeDecoded, judge as judgeAt};
@@ -75,22 +78,30 @@ fn gather(l: Ledger, b: &[u8], count: usize) -> Gathered
     g
 }
 
-// Whether an id is that of an Add of the tag in the set `up`.
-fn names_add(l: Ledger, store: &[u8], up: u64, id: &[u8], tag: &[u8]) -> bool
+// The bytes of the place in the set `up` with this id, or no bytes.
+fn bytes_in<'a>(l: Ledger, store: &'a [u8], up: u64, id: &[u8]) -> &'a [u8]
     requires { ⌜ l .used ≤ 64 ⌝ }
-    ensures { λ r. ⌜ r ≡ names l (now (store .entry)) (isAdd (now (tag .entry))) up (now (id .entry)) ⌝ }
+    ensures { λ r. ⌜ ((p : U.Operation → Bool) → testOf p (decode (now r)) ≡ names l (now (store .entry)) p up (now (id .entry))) ⌝ }
 {
     match find(l, id) {
         Found::At(j) => {
             if bits::has(up, j) {
                 let p = l.places[j];
-                fields::adds(stored(store, j, p.length), tag)
+                stored(store, j, p.length)
             } else {
-                false
+                &store[..0]
             }
         }
-        Found::Nowhere => false,
+        Found::Nowhere => &store[..0],
     }
+}
+
+// Whether an id is that of an Add of the tag in the set `up`.
+fn names_add(l: Ledger, store: &[u8], up: u64, id: &[u8], tag: &[u8]) -> bool
+    requires { ⌜ l .used ≤ 64 ⌝ }
+    ensures { λ r. ⌜ r ≡ names l (now (store .entry)) (isAdd (now (tag .entry))) up (now (id .entry)) ⌝ }
+{
+    fields::adds(bytes_in(l, store, up, id), tag)
 }
 
 // Whether an id is that of an Insert in the set `up`.
@@ -98,17 +109,7 @@ fn names_insert(l: Ledger, store: &[u8], up: u64, id: &[u8]) -> bool
     requires { ⌜ l .used ≤ 64 ⌝ }
     ensures { λ r. ⌜ r ≡ names l (now (store .entry)) isInsert up (now (id .entry)) ⌝ }
 {
-    match find(l, id) {
-        Found::At(j) => {
-            if bits::has(up, j) {
-                let p = l.places[j];
-                fields::is_insert(stored(store, j, p.length))
-            } else {
-                false
-            }
-        }
-        Found::Nowhere => false,
-    }
+    fields::is_insert(bytes_in(l, store, up, id))
 }
 
 // Whether each of the count ids from byte at on is that of an Add of the tag in the set `up`.

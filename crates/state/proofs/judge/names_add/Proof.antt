@@ -1,60 +1,12 @@
--- `names_add` meets its contract, by where the id was found and whether the place is in the set.
+-- `names_add` meets its contract: the test of the bytes that the id names.
 -- Assumes nothing.
-use mathlib.Core.Path.{sym, _∙_}
+use mathlib.Core.Path.{_∙_}
 use borrow.Author.Needs.{needs}
-use denote.Ref.{now}
-use Rattle.rules.specs.Settle.{isAdd}
-use Rattle.state.specs.State.{findIn}
-use Rattle.state.proofs.Judging.{found-at, found-nowhere, found-below, names-in, names-out, names-nowhere}
 use Rattle.state.proofs.judge.names_add.Statement.{statement}
 use Rattle.state.proofs.judge.names_add.Tie as tie
 
 pub names-add-spec : {M : Type 1} → statement M
 names-add-spec =
     tie.close
-    (tie.spec
-    (λ c κs. search needs)
-    (λ c. search needs)
-    (λ c κs. search needs)
-    (λ c.
-    let j = c .before .before .before in
-    let d = j .before .before in
-    let a = d .before .before .before .before .args in
-    let inside = found-below (a .t1) (now (a .id)) (sym (d .find .ensures) ∙ j .j .given .1) (search needs) in
-    search needs)
-    (λ c.
-    let j = c .before .before .before in
-    let d = j .before .before in
-    let a = d .before .before .before .before .args in
-    let inside = found-below (a .t1) (now (a .id)) (sym (d .find .ensures) ∙ j .j .given .1) (search needs) in
-    search needs)
-    (λ c κs.
-    let j = c .before .before .before .before in
-    let d = j .before .before in
-    let a = d .before .before .before .before .args in
-    let inside = found-below (a .t1) (now (a .id)) (sym (d .find .ensures) ∙ j .j .given .1) (search needs) in
-    search needs)
-    (λ c κs. search needs)
-    (λ c. search needs)
-    (λ c.
-    let b = c .before in
-    let t = b .before .before in
-    let h = t .before in
-    let j = h .before .before in
-    let d = j .before .before in
-    let a = d .before .before .before .before .args in
-    let e = found-at (findIn (a .t1) (now (a .id))) _ (sym (d .find .ensures) ∙ j .j .given .1) in
-    c .adds .ensures
-    ∙ names-in (a .t1) (now (a .store)) (isAdd (now (a .tag))) (a .up) (now (a .id)) _ e (sym (h .has .ensures) ∙ t .if1 .taken) _ (b .stored .ensures))
-    (λ c.
-    let h = c .before in
-    let j = h .before .before in
-    let d = j .before .before in
-    let a = d .before .before .before .before .args in
-    let e = found-at (findIn (a .t1) (now (a .id))) _ (sym (d .find .ensures) ∙ j .j .given .1) in
-    names-out (a .t1) (now (a .store)) (isAdd (now (a .tag))) (a .up) (now (a .id)) _ e (sym (h .has .ensures) ∙ c .if1 .left))
-    (λ c.
-    let d = c .before .before in
-    let a = d .before .before .before .before .args in
-    names-nowhere (a .t1) (now (a .store)) (isAdd (now (a .tag))) (a .up) (now (a .id))
-    (found-nowhere (findIn (a .t1) (now (a .id))) (sym (d .find .ensures) ∙ c .enum-told .given .1))))
+    (tie.spec (λ c κs. search needs) (λ c κs. search needs)
+    (λ c. c .adds .ensures ∙ c .before .bytes-in .ensures _))
