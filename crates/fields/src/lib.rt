@@ -147,7 +147,7 @@ pub fn adds(b: &[u8], tag: &[u8]) -> bool
 }
 
 // Whether an id is among the count ids from byte `at` on.
-fn among(b: &[u8], at: usize, count: usize, id: &[u8]) -> bool
+pub fn among(b: &[u8], at: usize, count: usize, id: &[u8]) -> bool
     ensures { λ r. ⌜ r ≡ member (now (id .entry)) (idsAt (now (b .entry)) at count) ⌝ }
 {
     let mut k: usize = 0;

@@ -7,7 +7,7 @@ use mathlib.Core.Option.{Option, none, some}
 use mathlib.Core.Bool.{Bool, true, false, _||_}
 use native.Mathlib.Omega.{arith}
 use Rattle.keys.specs.Order.{same}
-use Rattle.keys.specs.Member.{all}
+use Rattle.keys.specs.Member.{member, all}
 use borrow.Author.Tests.{eq-eqb, ne-eqb}
 use Rattle.format.specs.Update as U
 use Rattle.format.specs.Update.{Id, idLength, tagLength}
@@ -33,6 +33,7 @@ use Rattle.state.specs.declared.Found.the-variants.{At, Nowhere}
 use Rattle.state.specs.declared.Judgement.the-variants.{Holds, Fails, Waits}
 use Rattle.state.specs.State.{placeAt, storedAt, findIn, foundOf}
 use Rattle.state.specs.Judge.{gatherBy, gatherAt, namesAt, names, valid, nothingGathered, gather, judgeReady, judgeGathered, judgeDecoded, judge}
+use Rattle.state.specs.Settle.{follows}
 
 -- where an id was found
 pub found-at : (o : Option ℕ) (j : ℕ) → foundOf o ≡ At j → o ≡ some j
@@ -80,6 +81,16 @@ module _ (l : Ledger) (s b : List ℕ) (r : Reading) (read : decodedOf b r ≡ d
   pub judge-refused : (m : Malformed) → r ≡ Refused m → Waits ≡ judgeDecoded l s (decode b)
   unfolding judgeDecoded
   judge-refused m e = ap (judgeDecoded l s) (ap (decodedOf b) (sym e) ∙ read)
+
+-- whether bytes name an id, by what reading them answered
+module _ (i : Id) (b : List ℕ) (r : Reading) (read : decodedOf b r ≡ decode b) where
+  pub follows-update : (u : Parsed) → r ≡ Accepted u → member i (valueOf b u .preds) ≡ follows i (decode b)
+  unfolding follows
+  follows-update u e = ap (follows i) (ap (decodedOf b) (sym e) ∙ read)
+
+  pub follows-refused : (m : Malformed) → r ≡ Refused m → false ≡ follows i (decode b)
+  unfolding follows
+  follows-refused m e = ap (follows i) (ap (decodedOf b) (sym e) ∙ read)
 
 -- the judgement of the bytes of a place
 pub judge-stored : (l : Ledger) (s : List ℕ) (j : ℕ) (b : List ℕ) → b ≡ storedAt l s j

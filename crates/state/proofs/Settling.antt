@@ -1,13 +1,16 @@
 -- What settling one place, the newest, a pass and pass after pass come to, by cases.
 -- Assumes nothing.
-use Prim.Native.Nat.{ℕ, suc, _+_, _≤_, _<_}
+use Prim.Native.Nat.{ℕ, suc, _+_, _*_, _≤_, _<_}
 use mathlib.Core.Path.{_≡_, refl, sym, ap, ap₂, subst, _∙_}
 use mathlib.Core.List.{List}
-use mathlib.Core.Bool.{Bool, true, false, cond, _||_, true≢false, false≢true, or-false}
+use mathlib.Core.Bool.{Bool, true, false, cond, _&&_, _||_, true≢false, false≢true, or-false}
 use native.Mathlib.Nat.{le-refl}
 use native.Mathlib.Numerals.{add-one}
 use native.Mathlib.Omega.{arith}
 use lib.ListN.{length}
+use Rattle.keys.specs.BoolLaws.{true-false, not-true→false, and-true}
+use Rattle.format.specs.Update.{Id, maxLength}
+use Rattle.format.specs.Decode.{part, decode}
 use Rattle.state.specs.declared.Ledger.{Ledger}
 use Rattle.state.specs.declared.Pass.{Pass}
 use Rattle.state.specs.declared.Standing.{Standing}
@@ -15,9 +18,11 @@ use Rattle.state.specs.declared.Standing.the-variants.{Held, Waiting, Vo
 use Rattle.state.specs.declared.Judgement.the-variants.{Holds, Fails, Waits}
 use Rattle.state.specs.State.{placeAt, withStanding, isWaiting, countOf}
 use Rattle.state.specs.Judge.{judge}
-use Rattle.state.specs.Settle.{settleBy, settleFrom, settlePlace, settleNext, settleBelow, pass, passes, lastSettled, newestSettled, SettledFrom}
-use Rattle.state.specs.Passes.{pass-same, newest-unchanged}
-use Rattle.state.specs.SettleLaws.{Kept, place-kept, pass-kept, newest-kept, pass-falls}
+use Rattle.state.specs.Settle.{settleBy, settleFrom, settlePlace, settleNext, settleBelow, passOver, every, pass, passes, lastSettled, newestSettled}
+use Rattle.state.specs.Settle.{follows, followsAt, followers, lastFollowers, successors, begun, SettledFrom}
+use Rattle.state.specs.Passes.{next-cases, over-same}
+use Rattle.state.specs.SettleLaws.{Kept, kept-refl, kept-trans, place-kept, pass-kept, newest-kept, begun-kept, pass-falls}
+use Rattle.state.specs.SuccessorLaws.{begun-unchanged}
 
 -- the place k by its judgement
 module _ (l : Ledger) (s : List ℕ) (k : ℕ) where
@@ -49,6 +54,10 @@ module _ (l : Ledger) (s : List ℕ) (k : ℕ) where
   stays Waiting e = absurd (true≢false e)
   stays Void e = refl
 
+-- two tests, the second made only where the first passes
+pub both : {x y r : Bool} → x ≡ true → r ≡ y → r ≡ (x && y)
+both {y = y} e f = f ∙ ap (λ (b : Bool). b && y) (sym e)
+
 -- one place more of a pass, by whether it waits
 module _ (p : Pass) (s : List ℕ) (k : ℕ) where
   abbrev after : Pass → Pass
@@ -67,32 +76,54 @@ module _ (p : Pass) (s : List ℕ) (k : ℕ) where
       ap₂ (λ (x : Ledger) (y : Bool). record { ledger = x; changed = y }) f (g ∙ sym (or-false (p .changed)))
       ∙ ap after (stays (p .ledger) s k _ w)
 
--- a pass over l: what has been done, and the places below k, which are left
-pub record Passing (l : Ledger) (s : List ℕ) (p : Pass) (k : ℕ) : Type 0 where
+-- a pass over the places of l that pass a test: what has been done, and the places below k, which are left
+pub record Passing (t : ℕ → Bool) (l : Ledger) (s : List ℕ) (p : Pass) (k : ℕ) : Type 0 where
   pub below : k ≤ l .used
-  pub used-kept : p .ledger .used ≡ l .used
-  pub comes-to : settleBelow p s k ≡ pass l s
+  pub kept : Kept l (p .ledger)
+  pub comes-to : settleBelow t p s k ≡ passOver t l s
 
-module _ (l : Ledger) (s : List ℕ) where
-  pub passing-all : Passing l s (record { ledger = l; changed = false }) (l .used)
-  unfolding pass
-  passing-all = record { below = le-refl _; used-kept = refl; comes-to = refl }
+module _ (t : ℕ → Bool) (l : Ledger) (s : List ℕ) where
+  pub passing-all : Passing t l s (record { ledger = l; changed = false }) (l .used)
+  unfolding passOver
+  passing-all = record { below = le-refl _; kept = kept-refl l; comes-to = refl }
 
-  pub passing-next : {p q : Pass} {k j : ℕ} → Passing l s p k → k ≡ j + 1 → q ≡ settleNext p s j → Passing l s q j
-  unfolding settleBelow settleNext
-  passing-next {p} {q} {k} {j} h e f =
-      record {
-        below = omega (arith, h .below);
-        used-kept =
-            ap (λ (x : Pass). x .ledger .used) f
-            ∙ place-kept (p .ledger) s j (omega (arith, h .below, h .used-kept)) .used-kept
-            ∙ h .used-kept;
-        comes-to = ap (λ (x : Pass). settleBelow x s j) f ∙ ap (settleBelow p s) (sym (e ∙ add-one j)) ∙ h .comes-to;
-      }
+  module _ {p q : Pass} {k j : ℕ} (h : Passing t l s p k) (e : k ≡ j + 1) where
+    passing-by : q ≡ cond (t j) (settleNext p s j) p → Passing t l s q j
+    unfolding settleBelow settleNext
+    passing-by f =
+        record {
+          below = omega (arith, h .below);
+          kept =
+              kept-trans (h .kept)
+              (subst (λ (x : Pass). Kept (p .ledger) (x .ledger)) (sym f)
+              (next-cases t p s j (λ x. Kept (p .ledger) (x .ledger))
+              (λ _. place-kept (p .ledger) s j (omega (arith, h .below, h .kept .used-kept))) (λ _. kept-refl (p .ledger))));
+          comes-to = ap (λ (x : Pass). settleBelow t x s j) f ∙ ap (settleBelow t p s) (sym (e ∙ add-one j)) ∙ h .comes-to;
+        }
 
-  pub passing-none : {p : Pass} {k : ℕ} → Passing l s p k → k ≡ 0 → p ≡ pass l s
+    pub passing-next : t j ≡ true → q ≡ settleNext p s j → Passing t l s q j
+    passing-next y f = passing-by (f ∙ ap (λ (b : Bool). cond b (settleNext p s j) p) (sym y))
+
+    -- a place that does not wait, or does not pass the test
+    pub passing-over : (isWaiting (placeAt (p .ledger) j .standing) && t j) ≡ false → q ≡ p → Passing t l s q j
+    passing-over n f =
+        passing-by
+        (f
+        ∙ next-cases t p s j (λ x. p ≡ x)
+        (λ y. next-stays p s j (not-true→false _ (λ w. true-false (and-true _ _ w y) n)) refl refl) (λ _. refl))
+
+  pub passing-none : {p : Pass} {k : ℕ} → Passing t l s p k → k ≡ 0 → p ≡ passOver t l s
   unfolding settleBelow
-  passing-none {p} h e = ap (settleBelow p s) (sym e) ∙ h .comes-to
+  passing-none {p} h e = ap (settleBelow t p s) (sym e) ∙ h .comes-to
+
+-- a place of a ledger that kept the lengths of l names an id where that of l does
+module _ (l m : Ledger) (s : List ℕ) (kept : Kept l m) (i : Id) (k : ℕ) where
+  pub follows-kept : followsAt l s i k ≡ followsAt m s i k
+  follows-kept = ap (λ (n : ℕ). follows i (decode (part s (maxLength * k) n))) (sym (kept .length-kept k))
+
+  pub not-due-kept : (isWaiting (placeAt m k .standing) && followsAt m s i k) ≡ false
+      → (isWaiting (placeAt m k .standing) && followsAt l s i k) ≡ false
+  not-due-kept e = ap (λ (b : Bool). isWaiting (placeAt m k .standing) && b) follows-kept ∙ e
 
 -- the newest place by its standing
 module _ (l : Ledger) (s : List ℕ) where
@@ -145,7 +176,7 @@ module _ (b : Ledger) (s : List ℕ) (first : Bool) where
           places-kept = ap (λ (m : Ledger). length (m .places)) e ∙ k .places-kept ∙ reached .places-kept;
           done = λ h _.
               let c : pass r s .changed ≡ false = ap (λ (q : Pass). q .changed) (sym passed) ∙ h in
-              ap (λ (m : Ledger). pass m s .changed) (e ∙ pass-same r s c) ∙ c;
+              ap (λ (m : Ledger). pass m s .changed) (e ∙ over-same r s every c) ∙ c;
         }
 
     pub left-falls : r .used ≤ length (r .places) → left (p .ledger) (p .changed) < left r true
@@ -153,22 +184,47 @@ module _ (b : Ledger) (s : List ℕ) (first : Bool) where
       where
         by : (c : Bool) → pass r s .changed ≡ c → left (pass r s .ledger) c < left r true
         by true e = let f = pass-falls r s room e in omega arith
-        by false e = let f : countOf isWaiting (pass r s .ledger) ≡ countOf isWaiting r = ap (countOf isWaiting) (pass-same r s e) in omega arith
+        by false e = let f : countOf isWaiting (pass r s .ledger) ≡ countOf isWaiting r = ap (countOf isWaiting) (over-same r s every e) in omega arith
 
--- the passes begin from l with its newest place judged
-module _ (l : Ledger) (s : List ℕ) (p : Pass) (begun : p ≡ newestSettled l s) where
-  pub begun-kept : Kept l (p .ledger)
-  begun-kept = subst (λ (q : Pass). Kept l (q .ledger)) (sym begun) (newest-kept l s)
+-- the successors of the newest place
+module _ (l : Ledger) (s : List ℕ) where
+  pub successors-none : l .used ≡ 0 → record { ledger = l; changed = false } ≡ successors l s
+  unfolding successors lastFollowers
+  successors-none e = ap (lastFollowers l s) (sym e)
 
-  pub reached-settled : (r : Ledger) → Reached (p .ledger) s (p .changed) r false → SettledFrom l s r
-  reached-settled r h =
-      let e : p .ledger ≡ newestSettled l s .ledger = ap (λ (q : Pass). q .ledger) begun in
+  pub successors-last : (k : ℕ) → l .used ≡ k + 1 → followers l s (placeAt l k .id) ≡ successors l s
+  unfolding successors lastFollowers
+  successors-last k e = ap (lastFollowers l s) (sym (e ∙ add-one k))
+
+pub newest-used : (l : Ledger) (s : List ℕ) (p : Pass) → p ≡ newestSettled l s → p .ledger .used ≡ l .used
+newest-used l s p e = ap (λ (q : Pass). q .ledger .used) e ∙ newest-kept l s .used-kept
+
+-- how settling begins, by whether passes are to be made
+module _ (l : Ledger) (s : List ℕ) (p : Pass) (e : p ≡ newestSettled l s) where
+  begun-by : {c : Bool} → p .changed ≡ c → cond c (successors (p .ledger) s) p ≡ begun l s
+  unfolding begun
+  begun-by f = rw (sym f, e)
+
+  pub begun-goes-on : p .changed ≡ true → successors (p .ledger) s ≡ begun l s
+  begun-goes-on f = begun-by f
+
+  pub begun-ends : p .changed ≡ false → record { ledger = p .ledger; changed = false } ≡ begun l s
+  begun-ends f = ap (λ (b : Bool). record { ledger = p .ledger; changed = b }) (sym f) ∙ begun-by f
+
+-- the passes over all places begin from what this leaves of l
+module _ (l : Ledger) (s : List ℕ) (p : Pass) (e : p ≡ begun l s) where
+  pub first-kept : Kept l (p .ledger)
+  first-kept = subst (λ (q : Pass). Kept l (q .ledger)) (sym e) (begun-kept l s)
+
+  pub reached-settled : l .used ≤ length (l .places) → (r : Ledger) → Reached (p .ledger) s (p .changed) r false → SettledFrom l s r
+  reached-settled room r h =
+      let same : p .ledger ≡ begun l s .ledger = ap (λ (q : Pass). q .ledger) e in
       record {
         turns = h .turns;
-        is = h .is ∙ ap (λ (m : Ledger). passes (h .turns) m s) e;
+        is = h .is ∙ ap (λ (m : Ledger). passes (h .turns) m s) same;
         done = λ others.
             h .done refl
             (λ c.
-            ap (λ (m : Ledger). pass m s .changed) e
-            ∙ newest-unchanged l s others (ap (λ (q : Pass). q .changed) (sym begun) ∙ c));
+            ap (λ (m : Ledger). pass m s .changed) same
+            ∙ begun-unchanged l s room others (ap (λ (q : Pass). q .changed) (sym e) ∙ c));
       }

@@ -16,4 +16,5 @@ pub mod Passes
 pub mod SettleLaws
 pub mod TakeLaws
 pub mod WaitLaws
+pub mod SuccessorLaws
 pub mod CountLaws

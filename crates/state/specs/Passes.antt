@@ -7,8 +7,8 @@ use native.Mathlib.Omega.{arith}
 use native.Mathlib.Nat.{eq-or-lt-of-le, le-of-suc-le-suc, not-suc-le-zero}
 use mathlib.Core.Logic.{⊎-elim}
 use mathlib.Core.List.{List}
-use mathlib.Core.Bool.{true, false, cond, true≢false, false≢true}
-use Rattle.keys.specs.BoolLaws.{or-false→}
+use mathlib.Core.Bool.{Bool, true, false, cond, true≢false, false≢true}
+use Rattle.keys.specs.BoolLaws.{true-false, or-false→}
 use Rattle.state.specs.declared.Ledger.{Ledger}
 use Rattle.state.specs.declared.Pass.{Pass}
 use Rattle.state.specs.declared.Standing.{Standing}
@@ -17,7 +17,8 @@ use Rattle.state.specs.declared.Judgement.{Judgement}
 use Rattle.state.specs.declared.Judgement.the-variants.{Holds as Judged-holds, Fails, Waits}
 use Rattle.state.specs.State.{placeAt, withStanding, isWaiting, isVoid}
 use Rattle.state.specs.Judge.{judge}
-use Rattle.state.specs.Settle.{settleBy, settleFrom, settlePlace, settleNext, settleBelow, pass, passes, isWaits, lastSettled, newestSettled, OthersWait, SettledFrom}
+use Rattle.state.specs.Settle.{settleBy, settleFrom, settlePlace, settleNext, settleBelow, passOver, every, pass, passes, isWaits}
+use Rattle.state.specs.Settle.{lastSettled, newestSettled, lastFollowers, successors, begun, OthersWait, SettledFrom}
 
 -- the standings differ
 pub held≢waiting : IsHeld ≡ IsWaiting → ⊥
@@ -87,13 +88,22 @@ module _ (l : Ledger) (s : List ℕ) (n : ℕ) where
   last-by IsWaiting = (refl, λ e. e)
   last-by IsVoid = (refl, λ e. refl)
 
-  last-place : lastSettled l s (suc n) .ledger ≡ settlePlace l s n .ledger
+  pub last-place : lastSettled l s (suc n) .ledger ≡ settlePlace l s n .ledger
   unfolding lastSettled settlePlace
   last-place = last-by (placeAt l n .standing) .0
 
   last-unchanged : lastSettled l s (suc n) .changed ≡ false → settlePlace l s n .changed ≡ false
   unfolding lastSettled settlePlace
   last-unchanged = last-by (placeAt l n .standing) .1
+
+-- one place more of a pass over the places that pass a test
+pub next-cases : (t : ℕ → Bool) (p : Pass) (s : List ℕ) (n : ℕ) (P : Pass → Type 0) → (t n ≡ true → P (settleNext p s n)) → (t n ≡ false → P p)
+    → P (cond (t n) (settleNext p s n) p)
+next-cases t p s n P judged left = by (t n) refl
+  where
+    by : (b : Bool) → t n ≡ b → P (cond b (settleNext p s n) p)
+    by true e = judged e
+    by false e = left e
 
 -- what settling a waiting place below m keeps
 module _ (I : Ledger → Type 0) (s : List ℕ) (m : ℕ)
@@ -102,10 +112,12 @@ module _ (I : Ledger → Type 0) (s : List ℕ) (m : ℕ)
   pub place-keeps : (l : Ledger) (k : ℕ) → k < m → I l → I (settlePlace l s k .ledger)
   place-keeps l k h i = settle-cases l s k (λ p. I (p .ledger)) (λ _. i) (λ v w q j. step l k v w h q j i)
 
-  below-keeps : (p : Pass) (n : ℕ) → n ≤ m → I (p .ledger) → I (settleBelow p s n .ledger)
+  below-keeps : (t : ℕ → Bool) (p : Pass) (n : ℕ) → n ≤ m → I (p .ledger) → I (settleBelow t p s n .ledger)
   unfolding settleBelow settleNext
-  below-keeps p zero h i = i
-  below-keeps p (suc n) h i = below-keeps (settleNext p s n) n (omega arith) (place-keeps (p .ledger) n h i)
+  below-keeps t p zero h i = i
+  below-keeps t p (suc n) h i =
+      below-keeps t (cond (t n) (settleNext p s n) p) n (omega arith)
+      (next-cases t p s n (λ q. I (q .ledger)) (λ _. place-keeps (p .ledger) n h i) (λ _. i))
 
   last-keeps : (l : Ledger) (n : ℕ) → n ≤ m → I l → I (lastSettled l s n .ledger)
   unfolding lastSettled
@@ -117,17 +129,30 @@ module _ (I : Ledger → Type 0) (s : List ℕ) (m : ℕ)
     unfolding newestSettled
     newest-keeps l i = last-keeps l (l .used) (few l i) i
 
-    pub pass-keeps : (l : Ledger) → I l → I (pass l s .ledger)
-    unfolding pass
-    pass-keeps l i = below-keeps (record { ledger = l; changed = false }) (l .used) (few l i) i
+    pub over-keeps : (t : ℕ → Bool) (l : Ledger) → I l → I (passOver t l s .ledger)
+    unfolding passOver
+    over-keeps t l i = below-keeps t (record { ledger = l; changed = false }) (l .used) (few l i) i
 
     pub passes-keep : (n : ℕ) (l : Ledger) → I l → I (passes n l s)
     unfolding passes
     passes-keep zero l i = i
-    passes-keep (suc n) l i = pass-keeps (passes n l s) (passes-keep n l i)
+    passes-keep (suc n) l i = over-keeps every (passes n l s) (passes-keep n l i)
+
+    followers-keep : (l : Ledger) (n : ℕ) → I l → I (lastFollowers l s n .ledger)
+    unfolding lastFollowers
+    followers-keep l zero i = i
+    followers-keep l (suc n) i = over-keeps _ l i
+
+    pub begun-keeps : (l : Ledger) → I l → I (begun l s .ledger)
+    unfolding begun successors
+    begun-keeps l i = by (newestSettled l s .changed)
+      where
+        by : (c : Bool) → I (cond c (successors (newestSettled l s .ledger) s) (newestSettled l s) .ledger)
+        by true = followers-keep (newestSettled l s .ledger) (newestSettled l s .ledger .used) (newest-keeps l i)
+        by false = newest-keeps l i
 
     pub settled-keeps : (l r : Ledger) → SettledFrom l s r → I l → I r
-    settled-keeps l r f i = subst I (sym (f .is)) (passes-keep (f .turns) (newestSettled l s .ledger) (newest-keeps l i))
+    settled-keeps l r f i = subst I (sym (f .is)) (passes-keep (f .turns) (begun l s .ledger) (begun-keeps l i))
 
 -- where nothing changed, the ledger is as it was, and each place that waits was judged to
 place-unchanged : (l : Ledger) (s : List ℕ) (k : ℕ) → settlePlace l s k .changed ≡ false
@@ -136,38 +161,51 @@ place-unchanged l s k =
     settle-cases l s k (λ p. p .changed ≡ false → (p .ledger ≡ l) × (placeAt l k .standing ≡ IsWaiting → judge l s k ≡ Waits))
     (λ f e. (refl, f)) (λ v w q j e. absurd (true≢false e))
 
-below-unchanged : (p : Pass) (s : List ℕ) (n : ℕ) → settleBelow p s n .changed ≡ false
-    → (p .changed ≡ false)
-    × (settleBelow p s n .ledger ≡ p .ledger)
-    × ((k : ℕ) → k < n → placeAt (p .ledger) k .standing ≡ IsWaiting → judge (p .ledger) s k ≡ Waits)
-unfolding settleBelow settleNext
-below-unchanged p s zero e = (e, refl, λ k h. absurd (not-suc-le-zero h))
-below-unchanged p s (suc n) e =
-    let l = p .ledger in
-    let b = below-unchanged (settleNext p s n) s n e in
-    let o = or-false→ (p .changed) (settlePlace l s n .changed) (b .0) in
-    let u = place-unchanged l s n (o .1) in (
-      o .0,
-      b .1 ∙ u .0,
-      λ k h.
-          ⊎-elim
-          (λ (g : k ≡ n). subst (λ (i : ℕ). placeAt l i .standing ≡ IsWaiting → judge l s i ≡ Waits) (sym g) (u .1))
-          (λ (g : k < n). subst (λ (m : Ledger). placeAt m k .standing ≡ IsWaiting → judge m s k ≡ Waits) (u .0) (b .2 k g))
-          (eq-or-lt-of-le (le-of-suc-le-suc h)),
-    )
+-- the same of the places below n that pass a test
+module _ (t : ℕ → Bool) (s : List ℕ) where
+  record Unchanged (p : Pass) (n : ℕ) (r : Pass) : Type 0 where
+    before : p .changed ≡ false
+    as-was : r .ledger ≡ p .ledger
+    waits : (k : ℕ) → k < n → t k ≡ true → placeAt (p .ledger) k .standing ≡ IsWaiting → judge (p .ledger) s k ≡ Waits
+
+  below-unchanged : (p : Pass) (n : ℕ) → settleBelow t p s n .changed ≡ false → Unchanged p n (settleBelow t p s n)
+  unfolding settleBelow settleNext
+  below-unchanged p zero e = record { before = e; as-was = refl; waits = λ k h. absurd (not-suc-le-zero h) }
+  below-unchanged p (suc n) e =
+      let l = p .ledger in
+      let b = below-unchanged (cond (t n) (settleNext p s n) p) n e in
+      let u = next-cases t p s n
+      (λ q. q .changed ≡ false
+      → (p .changed ≡ false) × (q .ledger ≡ l) × (t n ≡ true → placeAt l n .standing ≡ IsWaiting → judge l s n ≡ Waits))
+      (λ _ c.
+      let o = or-false→ (p .changed) (settlePlace l s n .changed) c in
+      let v = place-unchanged l s n (o .1) in
+      (o .0, v .0, λ _. v .1))
+      (λ f c. (c, refl, λ g. absurd (true-false g f)))
+      (b .before) in
+      record {
+        before = u .0;
+        as-was = b .as-was ∙ u .1;
+        waits = λ k h.
+            ⊎-elim
+            (λ (g : k ≡ n). subst (λ (i : ℕ). t i ≡ true → placeAt l i .standing ≡ IsWaiting → judge l s i ≡ Waits) (sym g) (u .2))
+            (λ (g : k < n). subst (λ (m : Ledger). t k ≡ true → placeAt m k .standing ≡ IsWaiting → judge m s k ≡ Waits) (u .1) (b .waits k g))
+            (eq-or-lt-of-le (le-of-suc-le-suc h));
+      }
 
 module _ (l : Ledger) (s : List ℕ) where
   abbrev none-yet : Pass
   none-yet = record { ledger = l; changed = false }
 
-  pub pass-unchanged : pass l s .changed ≡ false → (k : ℕ) → k < l .used → placeAt l k .standing ≡ IsWaiting → judge l s k ≡ Waits
-  unfolding pass
-  pass-unchanged e = below-unchanged none-yet s (l .used) e .2
+  pub over-unchanged : (t : ℕ → Bool) → passOver t l s .changed ≡ false
+      → (k : ℕ) → k < l .used → t k ≡ true → placeAt l k .standing ≡ IsWaiting → judge l s k ≡ Waits
+  unfolding passOver
+  over-unchanged t e = below-unchanged t s none-yet (l .used) e .waits
 
   -- where a pass changed nothing, the ledger is as it was
-  pub pass-same : pass l s .changed ≡ false → pass l s .ledger ≡ l
-  unfolding pass
-  pass-same e = below-unchanged none-yet s (l .used) e .1
+  pub over-same : (t : ℕ → Bool) → passOver t l s .changed ≡ false → passOver t l s .ledger ≡ l
+  unfolding passOver
+  over-same t e = below-unchanged t s none-yet (l .used) e .as-was
 
   -- where each place that waits is judged to go on waiting, nothing changes
   place-stays : (k : ℕ) → (placeAt l k .standing ≡ IsWaiting → judge l s k ≡ Waits) → settlePlace l s k ≡ none-yet
@@ -175,12 +213,16 @@ module _ (l : Ledger) (s : List ℕ) where
       settle-cases l s k (λ p. (placeAt l k .standing ≡ IsWaiting → judge l s k ≡ Waits) → p ≡ none-yet)
       (λ _ f. refl) (λ v w q j f. absurd (settles-not-waits j (f q)))
 
-  below-stays : (n : ℕ) → ((k : ℕ) → k < n → placeAt l k .standing ≡ IsWaiting → judge l s k ≡ Waits) → settleBelow none-yet s n ≡ none-yet
+  below-stays : (n : ℕ) → ((k : ℕ) → k < n → placeAt l k .standing ≡ IsWaiting → judge l s k ≡ Waits) → settleBelow every none-yet s n ≡ none-yet
   unfolding settleBelow settleNext
   below-stays zero f = refl
   below-stays (suc n) f =
-      ap (λ (q : Pass). settleBelow (record { ledger = q .ledger; changed = q .changed }) s n) (place-stays n (f n (omega arith)))
+      ap (λ (q : Pass). settleBelow every (record { ledger = q .ledger; changed = q .changed }) s n) (place-stays n (f n (omega arith)))
       ∙ below-stays n (λ k h. f k (omega arith))
+
+  pub pass-stays : ((k : ℕ) → k < l .used → placeAt l k .standing ≡ IsWaiting → judge l s k ≡ Waits) → pass l s .changed ≡ false
+  unfolding passOver
+  pass-stays f = ap (λ (p : Pass). p .changed) (below-stays (l .used) f)
 
   last-same : (n : ℕ) → lastSettled l s n .changed ≡ false
       → (lastSettled l s n .ledger ≡ l) × ((k : ℕ) → k + 1 ≡ n → placeAt l k .standing ≡ IsWaiting → judge l s k ≡ Waits)
@@ -194,10 +236,9 @@ module _ (l : Ledger) (s : List ℕ) where
 
   -- the others wait, and the newest place goes on waiting
   pub newest-unchanged : OthersWait l s → newestSettled l s .changed ≡ false → pass (newestSettled l s .ledger) s .changed ≡ false
-  unfolding pass newestSettled
+  unfolding newestSettled
   newest-unchanged others e =
       let u = last-same (l .used) e in
       ap (λ (m : Ledger). pass m s .changed) (u .0)
-      ∙ ap (λ (p : Pass). p .changed)
-      (below-stays (l .used)
-      (λ k h q. ⊎-elim (λ (g : k + 1 ≡ l .used). u .1 k g q) (λ (g : k + 1 < l .used). others k g q) (eq-or-lt-of-le (omega arith))))
+      ∙ pass-stays
+      (λ k h q. ⊎-elim (λ (g : k + 1 ≡ l .used). u .1 k g q) (λ (g : k + 1 < l .used). others k g q) (eq-or-lt-of-le (omega arith)))

@@ -31,23 +31,23 @@ use Rattle.state.specs.Row1.{sound}
 use Rattle.state.specs.Row1Laws.{SoundPlace, sound→, sound←, holds-sound}
 use Rattle.state.specs.Verdicts.{verdictOf, verdict-held, verdict-waiting, verdict-void, verdict, verdict-at, Placed, placed}
 use Rattle.state.specs.Judge.{judge}
-use Rattle.state.specs.Settle.{settlePlace, settleNext, settleBelow, pass, newestSettled, OthersWait, SettledFrom}
+use Rattle.state.specs.Settle.{settlePlace, settleNext, settleBelow, passOver, every, pass, newestSettled, begun, OthersWait, SettledFrom}
 use Rattle.state.specs.Stands.{ident, noUpdate, updateAt, Holds, Truthful, Settled, Stands}
 use Rattle.state.specs.ListFacts.{set-cases}
 use Rattle.state.specs.JudgeWithin.{judge-within}
 use Rattle.state.specs.JudgeLaws.{judged-held, judged-above, judged-above-all, judged-void, judged-no-void, judged-not-ready}
 use Rattle.state.specs.Passes.{Settles, to-held, to-void, settles-not-waiting, settles-held, settles-void}
-use Rattle.state.specs.Passes.{settle-cases, place-keeps, pass-keeps, newest-keeps, settled-keeps, pass-unchanged}
+use Rattle.state.specs.Passes.{settle-cases, place-keeps, over-keeps, newest-keeps, begun-keeps, settled-keeps, over-unchanged}
 
 -- a place of a ledger in which the place k was settled: what it was, or the new one
 module _ (l : Ledger) (k : ℕ) (v : Standing) (w : ℕ) where
-  abbrev settled-place : Place
+  abbrev pub settled-place : Place
   settled-place = record { id = placeAt l k .id; length = placeAt l k .length; ancestors = w; standing = v }
 
   place-cases : (P : Place → Type 0) (j : ℕ) → P (placeAt l j) → (j ≡ k → P settled-place) → P (placeAt (withStanding l k v w) j)
   place-cases P j = set-cases P (l .places) k j settled-place noPlace
 
-  same-id : (j : ℕ) → placeAt (withStanding l k v w) j .id ≡ placeAt l j .id
+  pub same-id : (j : ℕ) → placeAt (withStanding l k v w) j .id ≡ placeAt l j .id
   same-id j = place-cases (λ p. p .id ≡ placeAt l j .id) j refl (λ e. ap (λ (i : ℕ). placeAt l i .id) (sym e))
 
   same-length : (j : ℕ) → placeAt (withStanding l k v w) j .length ≡ placeAt l j .length
@@ -62,7 +62,7 @@ pub record Kept (l r : Ledger) : Type 0 where
   pub settled-kept : (k : ℕ) → (placeAt l k .standing ≡ IsWaiting → ⊥) → placeAt r k ≡ placeAt l k
   pub untaken-kept : (k : ℕ) → l .used ≤ k → placeAt r k ≡ placeAt l k
 
-kept-refl : (l : Ledger) → Kept l l
+pub kept-refl : (l : Ledger) → Kept l l
 kept-refl l =
     record {
       used-kept = refl;
@@ -73,7 +73,7 @@ kept-refl l =
       untaken-kept = λ k h. refl;
     }
 
-kept-trans : {l m r : Ledger} → Kept l m → Kept m r → Kept l r
+pub kept-trans : {l m r : Ledger} → Kept l m → Kept m r → Kept l r
 kept-trans {l} {m} {r} a b =
     record {
       used-kept = b .used-kept ∙ a .used-kept;
@@ -106,10 +106,13 @@ pub place-kept : (l : Ledger) (s : List ℕ) (k : ℕ) → k < l .used → Kept 
 place-kept l s k h = place-keeps (Kept l) s (l .used) (kept-on l s) l k h (kept-refl l)
 
 pub pass-kept : (l : Ledger) (s : List ℕ) → Kept l (pass l s .ledger)
-pass-kept l s = pass-keeps (Kept l) s (l .used) (kept-on l s) (λ r i. le-of-eq (i .used-kept)) l (kept-refl l)
+pass-kept l s = over-keeps (Kept l) s (l .used) (kept-on l s) (λ r i. le-of-eq (i .used-kept)) every l (kept-refl l)
 
 pub newest-kept : (l : Ledger) (s : List ℕ) → Kept l (newestSettled l s .ledger)
 newest-kept l s = newest-keeps (Kept l) s (l .used) (kept-on l s) (λ r i. le-of-eq (i .used-kept)) l (kept-refl l)
+
+pub begun-kept : (l : Ledger) (s : List ℕ) → Kept l (begun l s .ledger)
+begun-kept l s = begun-keeps (Kept l) s (l .used) (kept-on l s) (λ r i. le-of-eq (i .used-kept)) l (kept-refl l)
 
 pub settled-kept-all : (l : Ledger) (s : List ℕ) (r : Ledger) → SettledFrom l s r → Kept l r
 settled-kept-all l s r f = settled-keeps (Kept l) s (l .used) (kept-on l s) (λ r i. le-of-eq (i .used-kept)) l r f (kept-refl l)
@@ -142,7 +145,7 @@ place-falls l s k h room =
     record { no-more = omega (arith, e); fewer = λ _. omega (arith, e) })
 
 below-falls : (l : Ledger) (s : List ℕ) (p : Pass) (n : ℕ) → n ≤ l .used → l .used ≤ length (l .places) → Kept l (p .ledger) → Falls l p
-    → Falls l (settleBelow p s n)
+    → Falls l (settleBelow every p s n)
 unfolding settleBelow settleNext
 below-falls l s p zero h room c b = b
 below-falls l s p (suc n) h room c b =
@@ -160,7 +163,7 @@ below-falls l s p (suc n) h room c b =
 -- a pass that changes a standing leaves fewer waiting
 pub pass-falls : (l : Ledger) (s : List ℕ) → l .used ≤ length (l .places) → pass l s .changed ≡ true
     → countOf isWaiting (pass l s .ledger) < countOf isWaiting l
-unfolding pass
+unfolding passOver
 pass-falls l s room =
     below-falls l s (record { ledger = l; changed = false }) (l .used) (le-refl _) room (kept-refl l)
     (record { no-more = le-refl _; fewer = λ e. absurd (false≢true e) }) .fewer
@@ -300,5 +303,5 @@ settled-stands l s us r h t others f =
       truthful = i .1;
       settled =
           ledger-settled r s us (i .0) (i .1)
-          (λ k g. pass-unchanged r s (f .done others) k (subst (λ (n : ℕ). k < n) (sym (i .0 .number)) g));
+          (λ k g. over-unchanged r s every (f .done others) k (subst (λ (n : ℕ). k < n) (sym (i .0 .number)) g) refl);
     }

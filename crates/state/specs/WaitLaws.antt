@@ -63,11 +63,20 @@ module _ (l m : Ledger) (s t : List ℕ) where
       by false true e = absurd (true-false (ap isWaits e) (ready-decides o (g .direct) (g .above)))
       by false false e = refl
 
-  decoded-waits : ((is : List Id) → gather m nothingGathered is ≡ gather l nothingGathered is)
-      → (d : Decoded) → judgeDecoded l s d ≡ Waits → judgeDecoded m t d ≡ Waits
+  pub decoded-waits : (d : Decoded) → ((u : Update) → d ≡ update u → gather m nothingGathered (u .preds) ≡ gather l nothingGathered (u .preds))
+      → judgeDecoded l s d ≡ Waits → judgeDecoded m t d ≡ Waits
   unfolding judgeDecoded
-  decoded-waits f (refused n) e = refl
-  decoded-waits f (update u) e = ap (judgeGathered m t (u .op)) (f (u .preds)) ∙ gathered-waits (u .op) (gather l nothingGathered (u .preds)) e
+  decoded-waits (refused n) f e = refl
+  decoded-waits (update u) f e = ap (judgeGathered m t (u .op)) (f u refl) ∙ gathered-waits (u .op) (gather l nothingGathered (u .preds)) e
+
+-- a place that is the same says the same
+pub gather-same : (l m : Ledger) (g : Gathered) (j : ℕ) → placeAt m j ≡ placeAt l j → gatherAt m g (some j) ≡ gatherAt l g (some j)
+gather-same l m g j at = ap (gatherBy m g j) (ap (λ (p : Place). p .standing) at) ∙ by (placeAt l j .standing)
+  where
+    by : (v : Standing) → gatherBy m g j v ≡ gatherBy l g j v
+    by Held = ap (λ (p : Place). record { ready = g .ready; void = g .void; direct = including (g .direct) j; above = join (g .above) (p .ancestors) }) at
+    by Waiting = refl
+    by Void = refl
 
 -- the next place is taken, under the id i
 module _ (l : Ledger) (i : Id) (n : ℕ) (room : l .used < length (l .places)) where
@@ -102,14 +111,6 @@ module _ (l : Ledger) (i : Id) (n : ℕ) (room : l .used < length (l .places)) w
         (λ (h : j < l .used). absurd (true-false (r .1) (same-test j h ∙ firstBelow-none→ (l .used) (is-at l) e j h)))
         (eq-or-lt-of-le (omega (arith, r .0)))
 
-    gather-old : (g : Gathered) (j : ℕ) → j < l .used → gatherAt taken g (some j) ≡ gatherAt l g (some j)
-    gather-old g j h = ap (gatherBy taken g j) (ap (λ (p : Place). p .standing) (at-old j h)) ∙ by (placeAt l j .standing)
-      where
-        by : (v : Standing) → gatherBy taken g j v ≡ gatherBy l g j v
-        by Held = ap (λ (p : Place). record { ready = g .ready; void = g .void; direct = including (g .direct) j; above = join (g .above) (p .ancestors) }) (at-old j h)
-        by Waiting = refl
-        by Void = refl
-
     gather-one : (g : Gathered) → gatherAt taken g (findIn taken x) ≡ gatherAt l g (findIn l x)
     gather-one g = by (findIn l x) refl
       where
@@ -119,7 +120,7 @@ module _ (l : Ledger) (i : Id) (n : ℕ) (room : l .used < length (l .places)) w
 
         by : (o : Option ℕ) → findIn l x ≡ o → gatherAt taken g (findIn taken x) ≡ gatherAt l g o
         by none e = missing (findIn taken x) (found-new e)
-        by (some j) e = ap (gatherAt taken g) (found-old j e) ∙ gather-old g j (find-taken l x j e)
+        by (some j) e = ap (gatherAt taken g) (found-old j e) ∙ gather-same l taken g j (at-old j (find-taken l x j e))
 
   gather-taken : (g : Gathered) (is : List Id) → gather taken g is ≡ gather l g is
   unfolding gather
@@ -142,5 +143,5 @@ taken-others l s us stands i b free short k h q =
     ∙ written-before s (maxLength * l .used) b (omega (arith, holds .store-whole)) (maxLength * k) (placeAt l k .length)
     (omega (arith, holds-sound l s us holds .each k inside .short)) in
     ap (λ (x : List ℕ). judgeDecoded r s′ (decode x)) stored
-    ∙ decoded-waits l r s s′ (gather-taken l i (length b) room nothingGathered) (decode (storedAt l s k))
+    ∙ decoded-waits l r s s′ (decode (storedAt l s k)) (λ u _. gather-taken l i (length b) room nothingGathered (u .preds))
     (waits-judged l s us stands k (omega (arith, holds .number)) (ap (λ (p : Place). p .standing) (sym old) ∙ q))

@@ -3,6 +3,7 @@ pub mod find;
 pub mod judge;
 pub mod settle;
 pub mod store;
+pub mod successors;
 
 ghost use mathlib.Core.Path.{_≡_};
 ghost use Prim.Native.Nat.{_+_, _<_, _≤_};
@@ -96,12 +97,13 @@ impl Ledger {
         self
     }
 
-    // Judges the newest place; where it does not go on waiting, judges what waits, pass after pass, until a pass changes nothing.
+    // Judges the newest place; where it does not go on waiting, judges its successors; where that changes a standing, judges what waits, pass
+    // after pass, until a pass changes nothing.
     pub fn settle(mut self, store: &[u8]) -> Ledger
         requires { ⌜ self .used ≤ 64 ⌝ }
         ensures { λ r. ⌜ SettledFrom self (now (store .entry)) r ⌝ }
     {
-        let first = settle::newest(self, store);
+        let first = successors::begin(self, store);
         let begun = first.ledger;
         self = begun;
         let mut changed = first.changed;

@@ -3,7 +3,7 @@ ghost use mathlib.Core.Path.{_≡_};
 ghost use Prim.Native.Nat.{_≤_, _<_};
 ghost use Rattle.state.specs.State.{isWaiting};
 ghost use Rattle.state.specs.Judge.{judge as judgeAt};
-ghost use Rattle.state.specs.Settle.{settleBy, pass as passOver, newestSettled};
+ghost use Rattle.state.specs.Settle.{settleBy, pass as passOverAll, newestSettled};
 use crate::Judgement;
 use crate::Ledger;
 use crate::Pass;
@@ -11,7 +11,7 @@ use crate::Place;
 use crate::Standing;
 use crate::judge::judge;
 
-fn waits(p: Place) -> bool
+pub fn waits(p: Place) -> bool
     ensures { λ r. ⌜ r ≡ isWaiting (p .standing) ⌝ }
 {
     let standing = p.standing;
@@ -23,7 +23,7 @@ fn waits(p: Place) -> bool
 }
 
 // The place k as it is judged.
-fn settle_waiting(l: Ledger, store: &[u8], k: usize) -> Pass
+pub fn settle_waiting(l: Ledger, store: &[u8], k: usize) -> Pass
     requires { ⌜ (l .used ≤ 64) × (k < 64) ⌝ }
     ensures { λ r. ⌜ r ≡ settleBy l k (judgeAt l (now (store .entry)) k) ⌝ }
 {
@@ -75,7 +75,7 @@ pub fn newest(l: Ledger, store: &[u8]) -> Pass
 // One pass over the taken places, from the last to the first.
 pub fn pass(l: Ledger, store: &[u8]) -> Pass
     requires { ⌜ l .used ≤ 64 ⌝ }
-    ensures { λ r. ⌜ r ≡ passOver l (now (store .entry)) ⌝ }
+    ensures { λ r. ⌜ r ≡ passOverAll l (now (store .entry)) ⌝ }
 {
     let mut k = l.used;
     let mut current = l;
