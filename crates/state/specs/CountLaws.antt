@@ -11,7 +11,7 @@ use Rattle.keys.specs.Distinct.{Distinct}
 use Rattle.keys.specs.DistinctLaws.{distinct-keep, distinct-map, distinct-same-length}
 use Rattle.format.specs.Update.{Update}
 use Rattle.rules.specs.Standing.{Held, Void, Waiting}
-use Rattle.rules.specs.Settle.{Verdict, held, waiting, void, Row, Table, isHeld as saysHeld, isWaiting as saysWaiting, isVoid as saysVoid, settled}
+use Rattle.rules.specs.Settle.{Verdict, held, waiting, void, Row, Table, isHeld as saysHeld, isVoid as saysVoid, settled}
 use Rattle.rules.specs.Decides.{Decides}
 use Rattle.rules.specs.LeastSets.{held-not-void}
 use Rattle.rules.specs.Settling.{settled-decides}
@@ -20,7 +20,7 @@ use Rattle.bits.specs.BelowLaws.{countBelow-cong}
 use Rattle.state.specs.declared.Ledger.{Ledger}
 use Rattle.state.specs.declared.Standing.{Standing}
 use Rattle.state.specs.declared.Standing.the-variants.{Held as IsHeld, Waiting as IsWaiting, Void as IsVoid}
-use Rattle.state.specs.State.{placeAt, isHeld, isWaiting, isVoid, countOf}
+use Rattle.state.specs.State.{placeAt, isHeld, isVoid, countOf}
 use Rattle.state.specs.Stands.{ident, noUpdate, updateAt, Stands}
 use Rattle.state.specs.ListFacts.{count-keep}
 use Rattle.state.specs.Verdicts.{verdictOf, verdict, verdict-at, placed}
@@ -123,10 +123,6 @@ module _ (l : Ledger) (s : List ℕ) (us : List Update) (stands : Stands l s us)
   pub held-count : countOf isHeld l ≡ length (keep (λ (r : Row). saysHeld (r .verdict)) (settled ident us))
   unfolding isHeld saysHeld
   held-count = standing-count saysHeld isHeld (elim [ IsHeld ↦ refl | IsWaiting ↦ refl | IsVoid ↦ refl ])
-
-  pub waiting-count : countOf isWaiting l ≡ length (keep (λ (r : Row). saysWaiting (r .verdict)) (settled ident us))
-  unfolding isWaiting saysWaiting
-  waiting-count = standing-count saysWaiting isWaiting (elim [ IsHeld ↦ refl | IsWaiting ↦ refl | IsVoid ↦ refl ])
 
   pub void-count : countOf isVoid l ≡ length (keep (λ (r : Row). saysVoid (r .verdict)) (settled ident us))
   unfolding isVoid saysVoid
