@@ -66,6 +66,14 @@ module _ {k n : ℕ} {X : Type 0} {x y z : X} where
   of-other (here e f) h = absurd (h (eqb-true k n e))
   of-other (other e f) h = f
 
+-- where the kind is n: what compares a key with a field, and what reads a text
+module _ {k n : ℕ} {q : List ℕ} where
+  pub same-of : (x : List ℕ) {p : List ℕ} {y r z : Bool} → ByKind k n (same x p) y z → r ≡ same x q → q ≡ p → k ≡ n → r ≡ z
+  same-of x l e f h = e ∙ ap (same x) f ∙ of-kind l h
+
+  pub text-of : (b : List ℕ) (at : ℕ) {y z : List ℕ} → ByKind k n (part b at tagLength) y z → q ≡ part b at tagLength → k ≡ n → (q ≡ z) × (length q ≤ 32)
+  text-of b at l e h = (e ∙ of-kind l h, omega (arith, ap length e, length-take tagLength (drop at b)))
+
 -- what is read of a layout, by its kind
 
 module _ (b : List ℕ) where
@@ -152,10 +160,6 @@ author-small b = go (decode b) refl
     go : (d : Decoded) → decode b ≡ d → authorIn d ≤ 15
     go (refused n) e = omega arith
     go (update u) e = decode-sound b u e .0 .author-small
-
--- a part has no more bytes than were asked for
-pub part-small : (b : List ℕ) (at n : ℕ) → length (part b at n) ≤ n
-part-small b at n = omega (arith, length-take n (drop at b))
 
 -- the ids of a run from the k-th on
 module _ (b : List ℕ) (at n k : ℕ) (x : Id) where

@@ -1,43 +1,25 @@
 -- The predecessors that a new update names, found by places, for every ledger. The theorem `chosen-ids` says that for a ledger that stands these are
 -- the rules' choice.
 -- Assumes nothing.
-use Prim.Native.Nat.{ℕ, zero, suc, _-_}
+use Prim.Native.Nat.{ℕ, _-_}
 use mathlib.Core.List.{List, [], _∷_, _++_}
 use mathlib.Core.Option.{Option, none, some}
-use mathlib.Core.Bool.{Bool, true, cond, _&&_, _||_}
+use mathlib.Core.Bool.{Bool, cond, _||_}
 use lib.ListN.{length, getD, take}
 use lib.Dec.{leb, ltb, eqb}
-use Rattle.keys.specs.Order.{before}
 use Rattle.keys.specs.Member.{keep}
 use Rattle.format.specs.Update.{maxPredecessors}
 use Rattle.bits.specs.Below.{firstBelow}
 use Rattle.bits.specs.Bits.{has}
 use Rattle.state.specs.declared.Ledger.{Ledger}
 use Rattle.state.specs.State.{placeAt}
-use Rattle.views.specs.Board.{idAt, heldAt, authorAt, rankAt, headAt, order}
+use Rattle.views.specs.Board.{headAt, order}
+use Rattle.highest.specs.Top.{topBelow}
 
 module _ (l : Ledger) (s : List ℕ) where
   -- the heads, ascending by id
   unfoldable pub headsOf : List ℕ
   headsOf = keep (headAt l s) (order l s)
-
-  -- the held place k is the author's
-  unfoldable pub ownAt : ℕ → ℕ → Bool
-  ownAt a k = heldAt l s k && eqb (authorAt l s k) a
-
-  -- place k is of higher rank than place j, or of the same and of larger id
-  unfoldable pub higher : ℕ → ℕ → Bool
-  higher k j =
-      ltb (rankAt l s j) (rankAt l s k) || (eqb (rankAt l s j) (rankAt l s k) && before (idAt l s j) (idAt l s k))
-
-  unfoldable pub betterThan : Option ℕ → ℕ → Bool
-  betterThan none k = true
-  betterThan (some j) k = higher k j
-
-  -- the author's held place of highest rank (on a tie, larger id) below n
-  unfoldable pub topBelow : ℕ → ℕ → Option ℕ
-  topBelow a zero = none
-  topBelow a (suc n) = cond (ownAt a n && betterThan (topBelow a n) n) (some n) (topBelow a n)
 
   -- the head at index j of the heads is at or above place t
   unfoldable pub aboveAt : ℕ → ℕ → Bool
@@ -54,4 +36,4 @@ module _ (l : Ledger) (s : List ℕ) where
   eightFor (some t) = eightWith (firstBelow (length headsOf) (aboveAt t))
 
   unfoldable pub chosenPlaces : ℕ → List ℕ
-  chosenPlaces a = cond (leb (length headsOf) maxPredecessors) headsOf (eightFor (topBelow a (l .used)))
+  chosenPlaces a = cond (leb (length headsOf) maxPredecessors) headsOf (eightFor (topBelow l s a (l .used)))

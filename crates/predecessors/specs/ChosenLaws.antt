@@ -28,9 +28,10 @@ use Rattle.state.specs.State.{placeAt}
 use Rattle.state.specs.Stands.{ident, Stands}
 use Rattle.views.specs.Board.{idAt, heldAt, coveredAt, headAt, order}
 use Rattle.views.specs.RowLaws.{rowAt, row-id, order-∈, order-ascending, table-rows, above-agrees, head-agrees, same-agrees}
-use Rattle.predecessors.specs.Choose.{headsOf, topBelow, aboveAt, eightWith, eightFor, chosenPlaces}
+use Rattle.highest.specs.Top.{topBelow}
+use Rattle.highest.specs.TopLaws.{RankedBy, top-right}
+use Rattle.predecessors.specs.Choose.{headsOf, aboveAt, eightWith, eightFor, chosenPlaces}
 use Rattle.predecessors.specs.FrontLaws.{take-map, first-kept, none-kept, ascending-take, front-with}
-use Rattle.predecessors.specs.TopLaws.{RankedBy, top-right}
 
 module _ {l : Ledger} {s : List ℕ} {us : List Update} (stands : Stands l s us) where
   abbrev T : Table

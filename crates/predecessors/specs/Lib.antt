@@ -1,4 +1,3 @@
 pub mod Choose
 pub mod FrontLaws
-pub mod TopLaws
 pub mod ChosenLaws

@@ -6,19 +6,16 @@ ghost use mathlib.Core.List.{[], _∷_, _++_};
 ghost use Prim.Native.Nat.{_+_, _≤_, _<_};
 ghost use lib.Dec.{eqb};
 ghost use lib.ListN.{length, take};
-ghost use Rattle.keys.specs.Order.{before};
 ghost use Rattle.keys.specs.Member.{keep};
 ghost use Rattle.bits.specs.Below.{firstBelow};
 ghost use Rattle.bits.specs.Bits.{has};
 ghost use Rattle.state.specs.State.{placeAt, foundOf};
 ghost use Rattle.views.specs.Board.{headAt};
 ghost use Rattle.views.specs.Pieces.{placesIn, Sound, Lists};
-ghost use Rattle.predecessors.specs.Choose.{headsOf, ownAt, higher, betterThan, topBelow, aboveAt, eightFor, chosenPlaces};
-use keys::Order;
+ghost use Rattle.predecessors.specs.Choose.{headsOf, aboveAt, eightFor, chosenPlaces};
+use highest::top;
 use state::Found;
 use state::Ledger;
-use state::Standing;
-use state::store::stored;
 use views::Key;
 use views::Places;
 use views::sorted;
@@ -55,92 +52,6 @@ fn heads(l: Ledger, store: &[u8]) -> Places
         i += 1;
     }
     places
-}
-
-// Whether place k is held and the author's.
-fn is_own(l: Ledger, store: &[u8], author: u8, k: usize) -> bool
-    requires { ⌜ k < 64 ⌝ }
-    ensures { λ r. ⌜ r ≡ ownAt l (now (store .entry)) author k ⌝ }
-{
-    let p = l.places[k];
-    let standing = p.standing;
-    match standing {
-        Standing::Held => fields::author_of(stored(store, k, p.length)) == author,
-        Standing::Waiting => false,
-        Standing::Void => false,
-    }
-}
-
-// Whether the id of place j comes before that of place k.
-fn comes_before(l: Ledger, j: usize, k: usize) -> bool
-    requires { ⌜ (j < 64) × (k < 64) ⌝ }
-    ensures { λ r. ⌜ r ≡ before (placeAt l j .id) (placeAt l k .id) ⌝ }
-{
-    match sorted::compare_ids(l.places[j], l.places[k]) {
-        Order::Less => true,
-        Order::Equal => false,
-        Order::Greater => false,
-    }
-}
-
-// Whether place k is of higher rank than place j, or of the same and of larger id.
-fn is_higher(l: Ledger, store: &[u8], k: usize, j: usize) -> bool
-    requires { ⌜ (k < 64) × (j < 64) ⌝ }
-    ensures { λ r. ⌜ r ≡ higher l (now (store .entry)) k j ⌝ }
-{
-    let p = l.places[k];
-    let q = l.places[j];
-    let rank = bits::count(p.ancestors);
-    let other = bits::count(q.ancestors);
-    if other < rank {
-        return true;
-    }
-    if other == rank {
-        comes_before(l, j, k)
-    } else {
-        false
-    }
-}
-
-// Whether place k is higher than the author's highest below it.
-fn exceeds(l: Ledger, store: &[u8], author: u8, top: Found, k: usize) -> bool
-    requires { ⌜ (l .used ≤ 64) × (k < l .used) × (top ≡ foundOf (topBelow l (now store) author k)) ⌝ }
-    ensures { λ r. ⌜ r ≡ betterThan l (now (store .entry)) (topBelow l (now (store .entry)) author k) k ⌝ }
-{
-    match top {
-        Found::At(j) => is_higher(l, store, k, j),
-        Found::Nowhere => true,
-    }
-}
-
-// The author's highest with place k.
-fn top_with(l: Ledger, store: &[u8], author: u8, top: Found, k: usize) -> Found
-    requires { ⌜ (l .used ≤ 64) × (k < l .used) × (top ≡ foundOf (topBelow l (now store) author k)) ⌝ }
-    ensures { λ r. ⌜ r ≡ foundOf (topBelow l (now (store .entry)) author (k + 1)) ⌝ }
-{
-    if !is_own(l, store, author, k) {
-        return top;
-    }
-    if exceeds(l, store, author, top, k) {
-        Found::At(k)
-    } else {
-        top
-    }
-}
-
-// The author's held place of highest rank (on a tie, larger id).
-fn top(l: Ledger, store: &[u8], author: u8) -> Found
-    requires { ⌜ l .used ≤ 64 ⌝ }
-    ensures { λ r. ⌜ r ≡ foundOf (topBelow l (now (store .entry)) author (l .used)) ⌝ }
-{
-    let used = l.used;
-    let mut highest = Found::Nowhere;
-    let mut k: usize = 0;
-    while k < used {
-        highest = top_with(l, store, author, highest, k);
-        k += 1;
-    }
-    highest
 }
 
 // Whether place h is place t or above it.

@@ -1,11 +1,13 @@
-// What a whole ledger shows: whether row 1 of the table applies, and how many places stand so.
+// What a whole ledger shows: whether row 1 of the table applies, and how many places stand so; and how the ids of two places compare.
 ghost use mathlib.Core.Path.{_≡_};
 ghost use Prim.Native.Nat.{_≤_};
+ghost use Rattle.keys.specs.Compare.{orderOf};
 ghost use Rattle.state.specs.State.{isHeld, isVoid, countOf};
 ghost use Rattle.state.specs.Number.{numberOf, hasStanding};
 ghost use Rattle.state.specs.Row1.{sound as soundLedger, soundPlace};
 use format::bounds::MAX_LENGTH;
 use format::bounds::MIN_LENGTH;
+use keys::Order;
 use state::Ledger;
 use state::PLACES;
 use state::Place;
@@ -96,4 +98,13 @@ pub fn void_count(l: Ledger) -> usize
     ensures { λ r. ⌜ r ≡ countOf isVoid l ⌝ }
 {
     count(l, Standing::Void)
+}
+
+// How the id of the one place stands to that of the other.
+pub fn compare_ids(own: Place, other: Place) -> Order
+    ensures { λ r. ⌜ r ≡ orderOf (own .id) (other .id) ⌝ }
+{
+    let a = own.id;
+    let b = other.id;
+    keys::compare(&a, &b)
 }

@@ -13,15 +13,7 @@ use keys::Order;
 use state::Ledger;
 use state::Place;
 use state::store::stored;
-
-// How the id of the one place stands to that of the other.
-pub fn compare_ids(own: Place, other: Place) -> Order
-    ensures { λ r. ⌜ r ≡ orderOf (own .id) (other .id) ⌝ }
-{
-    let a = own.id;
-    let b = other.id;
-    keys::compare(&a, &b)
-}
+use survey::compare_ids;
 
 // How the tag of the one place, j, stands to that of the other, k.
 fn compare_tags(store: &[u8], own: Place, j: usize, other: Place, k: usize) -> Order

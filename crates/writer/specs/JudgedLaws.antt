@@ -36,7 +36,7 @@ use Rattle.state.specs.GatherLaws.{AllHeld, gathered-word, gathered-void→, ga
 use Rattle.views.specs.Board.{heldAt}
 use Rattle.views.specs.PlaceLaws.{place-in, place-of, place-id, place-test}
 use Rattle.views.specs.RowLaws.{rowAt, row-id, above-agrees, op-agrees}
-use Rattle.predecessors.specs.TopLaws.{decides, row-at, at-row}
+use Rattle.highest.specs.TopLaws.{decides, row-at, at-row}
 
 module _ {l : Ledger} {s : List ℕ} {us : List Update} (stands : Stands l s us) where
   abbrev T : Table

@@ -1,10 +1,8 @@
 -- `adds` meets its contract, by the kind.
 -- Assumes nothing.
-use mathlib.Core.Path.{ap, _∙_}
 use borrow.Author.Needs.{needs}
 use denote.Ref.{now}
-use Rattle.keys.specs.Order.{same}
-use Rattle.fields.proofs.Reading.{of-kind, of-other, adds-laid}
+use Rattle.fields.proofs.Reading.{same-of, of-other, adds-laid}
 use Rattle.fields.proofs.adds.Statement.{statement}
 use Rattle.fields.proofs.adds.Tie as tie
 
@@ -18,9 +16,7 @@ adds-spec =
     (λ c.
     let laid = c .before .before .before .before in
     let args = laid .before .before .before .args in
-    c .same .ensures
-    ∙ ap (same (now (args .tag))) (c .before .part-of .ensures)
-    ∙ of-kind (adds-laid (now (args .b)) (now (args .tag)) (laid .layout-of .ensures)) (c .before .before .if1 .taken))
+    same-of (now (args .tag)) (adds-laid (now (args .b)) (now (args .tag)) (laid .layout-of .ensures)) (c .same .ensures) (c .before .part-of .ensures) (c .before .before .if1 .taken))
     (λ c.
     let laid = c .before .before in
     let args = laid .before .before .before .args in

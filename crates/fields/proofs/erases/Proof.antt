@@ -1,10 +1,8 @@
 -- `erases` meets its contract, by the kind.
 -- Assumes nothing.
-use mathlib.Core.Path.{ap, _∙_}
 use borrow.Author.Needs.{needs}
 use denote.Ref.{now}
-use Rattle.keys.specs.Order.{same}
-use Rattle.fields.proofs.Reading.{of-kind, of-other, erases-laid}
+use Rattle.fields.proofs.Reading.{same-of, of-other, erases-laid}
 use Rattle.fields.proofs.erases.Statement.{statement}
 use Rattle.fields.proofs.erases.Tie as tie
 
@@ -18,9 +16,7 @@ erases-spec =
     (λ c.
     let laid = c .before .before .before .before in
     let args = laid .before .before .before .args in
-    c .same .ensures
-    ∙ ap (same (now (args .id))) (c .before .part-of .ensures)
-    ∙ of-kind (erases-laid (now (args .b)) (now (args .id)) (laid .layout-of .ensures)) (c .before .before .if1 .taken))
+    same-of (now (args .id)) (erases-laid (now (args .b)) (now (args .id)) (laid .layout-of .ensures)) (c .same .ensures) (c .before .part-of .ensures) (c .before .before .if1 .taken))
     (λ c.
     let laid = c .before .before in
     let args = laid .before .before .before .args in

@@ -6,7 +6,7 @@ use borrow.Author.Needs.{needs}
 use denote.Ref.{now}
 use Rattle.state.proofs.Judging.{found-at, found-nowhere}
 use Rattle.views.proofs.Inserting.{renamed}
-use Rattle.predecessors.specs.Choose.{topBelow}
+use Rattle.highest.specs.Top.{topBelow}
 use Rattle.predecessors.proofs.Choosing.{chosen-few, chosen-many, chosen-lowest}
 use Rattle.predecessors.proofs.chosen.Statement.{statement}
 use Rattle.predecessors.proofs.chosen.Tie as tie

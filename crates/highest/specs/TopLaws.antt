@@ -36,7 +36,7 @@ use Rattle.views.specs.Board.{idAt, heldAt, authorAt, rankAt, order}
 use Rattle.views.specs.ListFacts.{and-agrees}
 use Rattle.views.specs.PlaceLaws.{from-used, to-used, places-distinct}
 use Rattle.views.specs.RowLaws.{rowAt, row-id, order-∈, ∈-order, table-rows, held-agrees, author-agrees, above-agrees}
-use Rattle.predecessors.specs.Choose.{ownAt, higher, betterThan, topBelow}
+use Rattle.highest.specs.Top.{ownAt, higher, betterThan, topBelow}
 
 module _ (l : Ledger) (s : List ℕ) where
   -- what places are compared by

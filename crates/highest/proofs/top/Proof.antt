@@ -5,10 +5,10 @@ use mathlib.Core.Path.{_≡_}
 use borrow.Author.Needs.{needs}
 use denote.Ref.{now}
 use Rattle.state.specs.State.{foundOf}
-use Rattle.predecessors.specs.Choose.{topBelow}
-use Rattle.predecessors.proofs.Choosing.{top-start, top-end}
-use Rattle.predecessors.proofs.top.Statement.{statement}
-use Rattle.predecessors.proofs.top.Tie as tie
+use Rattle.highest.specs.Top.{topBelow}
+use Rattle.highest.proofs.Scanning.{top-start, top-end}
+use Rattle.highest.proofs.top.Statement.{statement}
+use Rattle.highest.proofs.top.Tie as tie
 
 abbrev Inv-loop : tie.InvT-loop
 Inv-loop l store author used highest₀ k₀ highest k = (k ≤ used) × (highest ≡ foundOf (topBelow l store author k))

@@ -2,9 +2,9 @@
 -- Assumes nothing.
 use borrow.Author.Needs.{needs}
 use denote.Ref.{now}
-use Rattle.predecessors.proofs.Choosing.{rank-is, higher-rank, higher-tie, higher-not}
-use Rattle.predecessors.proofs.is_higher.Statement.{statement}
-use Rattle.predecessors.proofs.is_higher.Tie as tie
+use Rattle.highest.proofs.Scanning.{rank-is, higher-rank, higher-tie, higher-not}
+use Rattle.highest.proofs.is_higher.Statement.{statement}
+use Rattle.highest.proofs.is_higher.Tie as tie
 
 pub is-higher-spec : {M : Type 1} → statement M
 is-higher-spec =

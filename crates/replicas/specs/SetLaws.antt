@@ -14,7 +14,7 @@ use Rattle.format.specs.Decode.{Decoded, refused, update, decode, updateOf}
 use Rattle.format.specs.Rows.{update-none}
 use Rattle.format.specs.Laws.{decode-sound}
 use Rattle.state.specs.Stands.{ident}
-use Rattle.copies.specs.Sets.{isUpdate, wellFormed, setOf, NoCollision}
+use Rattle.replicas.specs.Sets.{isUpdate, wellFormed, setOf, NoCollision}
 
 is-update : (d : Decoded) → isUpdate d ≡ true → (u : Update) × (d ≡ update u)
 unfolding isUpdate

@@ -20,9 +20,9 @@ use Rattle.ledger.specs.declared.Reported.the-variants.{Written}
 use Rattle.ledger.specs.Ask.{freshLedger}
 use Rattle.ledger.specs.Calls.{Calls, stored, offers-stand}
 use Rattle.ledger.specs.Report.{Reporting, unfit, short, written}
-use Rattle.copies.specs.Sets.{setOf, reportFor, Fits, NoCollision}
-use Rattle.copies.specs.SetLaws.{Apart, first-apart, second-apart, both-apart, updatesOf, updates-distinct, updates-identified, updates-unique}
-use Rattle.copies.specs.StoredLaws.{stored-distinct, stored-same}
+use Rattle.replicas.specs.Sets.{setOf, reportFor, Fits, NoCollision}
+use Rattle.replicas.specs.SetLaws.{Apart, first-apart, second-apart, both-apart, updatesOf, updates-distinct, updates-identified, updates-unique}
+use Rattle.replicas.specs.StoredLaws.{stored-distinct, stored-same}
 
 -- One copy: offers of the byte strings to a fresh ledger and a store of the stated length, holding anything, and then a report in the buffer o, which
 -- answers with its length. "A full report is the bytes put at the start of the output buffer, as many as the returned length."

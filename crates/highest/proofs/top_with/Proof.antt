@@ -4,9 +4,9 @@ use mathlib.Core.Path.{sym, _∙_}
 use native.Mathlib.Omega.{arith}
 use borrow.Author.Tests.{not-true, not-false}
 use denote.Ref.{now}
-use Rattle.predecessors.proofs.Choosing.{top-other, top-lower, top-taken}
-use Rattle.predecessors.proofs.top_with.Statement.{statement}
-use Rattle.predecessors.proofs.top_with.Tie as tie
+use Rattle.highest.proofs.Scanning.{top-other, top-lower, top-taken}
+use Rattle.highest.proofs.top_with.Statement.{statement}
+use Rattle.highest.proofs.top_with.Tie as tie
 
 pub top-with-spec : {M : Type 1} → statement M
 top-with-spec =

@@ -17,8 +17,8 @@ use Rattle.format.specs.Decode.{Decoded, refused, update, decode, updateOf}
 use Rattle.state.specs.State.{places}
 use Rattle.state.specs.Stands.{ident}
 use Rattle.ledger.specs.Calls.{acceptDecoded, storedFrom, stored}
-use Rattle.copies.specs.Sets.{setOf, Fits}
-use Rattle.copies.specs.SetLaws.{well-formed→decode, set-∈, Apart, updatesOf, ∈-updates, updates-identified}
+use Rattle.replicas.specs.Sets.{setOf, Fits}
+use Rattle.replicas.specs.SetLaws.{well-formed→decode, set-∈, Apart, updatesOf, ∈-updates, updates-identified}
 
 module _ (S : List Update) where
   -- distinct updates of the set S

@@ -7,9 +7,9 @@ use borrow.Author.Needs.{needs}
 use denote.Ref.{now}
 use Rattle.format.specs.Decode.{decode}
 use Rattle.fields.specs.Fields.{authorIn}
-use Rattle.predecessors.proofs.Choosing.{own-held, own-waiting, own-void}
-use Rattle.predecessors.proofs.is_own.Statement.{statement}
-use Rattle.predecessors.proofs.is_own.Tie as tie
+use Rattle.highest.proofs.Scanning.{own-held, own-waiting, own-void}
+use Rattle.highest.proofs.is_own.Statement.{statement}
+use Rattle.highest.proofs.is_own.Tie as tie
 
 pub is-own-spec : {M : Type 1} → statement M
 is-own-spec =

@@ -3,8 +3,8 @@
 use mathlib.Core.Path.{sym, _∙_}
 use borrow.Author.Needs.{needs}
 use Rattle.format.proofs.Ascent.{less-before}
-use Rattle.predecessors.proofs.comes_before.Statement.{statement}
-use Rattle.predecessors.proofs.comes_before.Tie as tie
+use Rattle.highest.proofs.comes_before.Statement.{statement}
+use Rattle.highest.proofs.comes_before.Tie as tie
 
 pub comes-before-spec : {M : Type 1} → statement M
 comes-before-spec =

@@ -5,10 +5,10 @@ use native.Mathlib.Omega.{arith}
 use borrow.Author.Needs.{needs}
 use denote.Ref.{now}
 use Rattle.state.proofs.Judging.{found-at, found-nowhere}
-use Rattle.predecessors.specs.Choose.{topBelow}
-use Rattle.predecessors.proofs.Choosing.{top-inside, better-top, better-none}
-use Rattle.predecessors.proofs.exceeds.Statement.{statement}
-use Rattle.predecessors.proofs.exceeds.Tie as tie
+use Rattle.highest.specs.Top.{topBelow}
+use Rattle.highest.proofs.Scanning.{top-inside, better-top, better-none}
+use Rattle.highest.proofs.exceeds.Statement.{statement}
+use Rattle.highest.proofs.exceeds.Tie as tie
 
 pub exceeds-spec : {M : Type 1} → statement M
 exceeds-spec =

@@ -1,0 +1,6 @@
+pub mod Sets
+pub mod Copies
+pub mod SetLaws
+pub mod StoredLaws
+pub mod LengthLaws
+pub mod FitLaws
