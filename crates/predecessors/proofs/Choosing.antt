@@ -24,7 +24,7 @@ use Rattle.state.specs.declared.Found.the-variants.{At, Nowhere}
 use Rattle.state.specs.declared.Standing.{Standing}
 use Rattle.state.specs.declared.Standing.the-variants.{Held, Waiting, Void}
 use Rattle.state.specs.State.{placeAt, foundOf, isHeld}
-use Rattle.state.proofs.Judging.{found-at}
+use Rattle.state.proofs.FindLaws.{found-at}
 use Rattle.views.specs.declared.Places.{Places}
 use Rattle.fields.specs.Fields.{authorIn}
 use Rattle.views.specs.Board.{idAt, decodedAt, heldAt, authorAt, rankAt, headAt, order}
