@@ -25,12 +25,12 @@ use Rattle.state.specs.declared.Standing.the-variants.{Waiting}
 use Rattle.state.specs.State.{places, placeAt, withTaken, written, findIn, isHeld, isVoid, countOf}
 use Rattle.state.specs.Row1.{sound}
 use Rattle.state.specs.Row1Laws.{SoundPlace, sound→, sound←}
-use Rattle.state.specs.Settle.{OthersWait, SettledFrom}
+use Rattle.settling.specs.Settle.{OthersWait, SettledFrom}
 use Rattle.state.specs.Stands.{ident, Holds, Truthful, Stands}
 use Rattle.state.specs.FindLaws.{find-none}
 use Rattle.state.specs.TakeLaws.{taken-new, taken-old, take-holds, take-truthful}
-use Rattle.state.specs.WaitLaws.{taken-others}
-use Rattle.state.specs.SettleLaws.{settled-kept-all, settled-sound, settled-stands}
+use Rattle.settling.specs.WaitLaws.{taken-others}
+use Rattle.settling.specs.SettleLaws.{settled-kept-all, settled-sound, settled-stands}
 use Rattle.offering.specs.Offer.{Took}
 
 -- the update u with bytes b is offered, and a place is free

@@ -6,6 +6,7 @@ ghost use Rattle.fips180.specs.Fips180.{SHA-256};
 ghost use Rattle.state.specs.State.{findIn};
 ghost use Rattle.offering.specs.Offer.{Offering, left as leftAs, Formed};
 use refusals::Refusal;
+use settling::settle;
 use state::Found;
 use state::Ledger;
 use state::PLACES;
@@ -51,7 +52,7 @@ fn take(ledger: Ledger, store: &mut [u8], update: &[u8], id: [u8; 32]) -> Offere
 {
     let k = ledger.used;
     write_at(store, k, update);
-    let next = ledger.taken(id, update.len()).settle(store);
+    let next = settle(ledger.taken(id, update.len()), store);
     let p = next.places[k];
     let standing = p.standing;
     let held = held_count(next) - held_count(ledger);

@@ -19,7 +19,7 @@ use Rattle.bits.specs.Bits.{has}
 use Rattle.state.specs.declared.Ledger.{Ledger}
 use Rattle.state.specs.declared.Found.the-variants.{At, Nowhere}
 use Rattle.state.specs.State.{placeAt, foundOf}
-use Rattle.state.proofs.Judging.{found-at}
+use Rattle.state.proofs.FindLaws.{found-at}
 use Rattle.views.specs.declared.Places.{Places}
 use Rattle.views.specs.Board.{headAt, order}
 use Rattle.views.specs.Pieces.{placesIn, ins, small, Sound, Lists}

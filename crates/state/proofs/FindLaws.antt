@@ -1,15 +1,17 @@
--- The search for an id, one place after the other.
+-- The search for an id, one place after the other; and what it answered.
 -- Assumes nothing.
-use Prim.Native.Nat.{ℕ, _+_, _<_}
+use Prim.Native.Nat.{ℕ, _+_, _≤_, _<_}
 use mathlib.Core.Path.{_≡_, refl, sym, ap, _∙_}
 use mathlib.Core.Bool.{Bool, true, false}
 use mathlib.Core.List.{List}
-use mathlib.Core.Option.{none}
+use mathlib.Core.Option.{Option, none, some}
+use native.Mathlib.Omega.{arith}
 use Rattle.keys.specs.Order.{same}
 use Rattle.format.specs.Update.{Id}
 use Rattle.bits.specs.Below.{firstBelow, orElse}
 use Rattle.bits.specs.BelowLaws.{firstBelow-more, firstBelow-some←, firstBelow-none→}
 use Rattle.state.specs.State.{placeAt, findIn, foundOf}
+use Rattle.state.specs.FindLaws.{find-taken}
 use Rattle.state.specs.declared.Ledger.{Ledger}
 use Rattle.state.specs.declared.Found.the-variants.{At, Nowhere}
 
@@ -37,3 +39,15 @@ module _ (l : Ledger) (i : Id) where
   pub nowhere : (k : ℕ) → k ≡ l .used → NoneBelow l i k → Nowhere ≡ foundOf (findIn l i)
   unfolding NoneBelow findIn
   nowhere k e h = ap foundOf (sym (ap (λ (n : ℕ). firstBelow n (hasId l i)) (sym e) ∙ h))
+
+-- where an id was found
+pub found-at : (o : Option ℕ) (j : ℕ) → foundOf o ≡ At j → o ≡ some j
+found-at none j e = let z : _≡_ {A = ℕ} 0 1 = cc in absurd (omega arith)
+found-at (some k) j e = cc
+
+pub found-nowhere : (o : Option ℕ) → foundOf o ≡ Nowhere → o ≡ none
+found-nowhere none e = refl
+found-nowhere (some k) e = let z : _≡_ {A = ℕ} 0 1 = cc in absurd (omega arith)
+
+pub found-below : (l : Ledger) (i : Id) {j : ℕ} → foundOf (findIn l i) ≡ At j → l .used ≤ 64 → j < 64
+found-below l i {j} e h = omega (arith, find-taken l i j (found-at (findIn l i) j e))

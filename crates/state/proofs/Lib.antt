@@ -1,6 +1,3 @@
 pub mod FindLaws
 pub mod CopyLaws
-pub mod Runs
-pub mod Judging
-pub mod Settling
 pub mod Owning

@@ -30,7 +30,7 @@ use Rattle.state.specs.Row1.{sound}
 use Rattle.state.specs.Row1Laws.{sound←, holds-sound}
 use Rattle.state.specs.Stands.{ident, noUpdate, updateAt, Holds, Truthful, Stands}
 use Rattle.state.specs.ListFacts.{part-append}
-use Rattle.state.specs.Passes.{held≢waiting, void≢waiting}
+use Rattle.state.specs.StandingLaws.{held≢waiting, void≢waiting}
 
 -- a ledger that stands is never row 1
 pub stands-sound : (l : Ledger) (s : List ℕ) (us : List Update) → Stands l s us → sound l s ≡ true

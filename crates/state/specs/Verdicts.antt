@@ -15,7 +15,7 @@ use Rattle.state.specs.declared.Standing.{Standing}
 use Rattle.state.specs.declared.Standing.the-variants.{Held as IsHeld, Waiting as IsWaiting, Void as IsVoid}
 use Rattle.state.specs.State.{placeAt, findIn}
 use Rattle.state.specs.Stands.{ident, noUpdate, updateAt, Holds}
-use Rattle.state.specs.JudgeLaws.{find-all}
+use Rattle.state.specs.FindLaws.{find-all}
 
 abbrev pub verdictOf : Standing → Verdict
 verdictOf IsHeld = held

@@ -1,14 +1,10 @@
 // The bookkeeping of a ledger: places, standings and ancestor words, by value; and the lent store.
 pub mod find;
-pub mod judge;
-pub mod settle;
 pub mod store;
-pub mod successors;
 
 ghost use mathlib.Core.Path.{_≡_};
-ghost use Prim.Native.Nat.{_+_, _<_, _≤_};
+ghost use Prim.Native.Nat.{_+_, _<_};
 ghost use Rattle.state.specs.State.{withTaken, withStanding};
-ghost use Rattle.state.specs.Settle.{SettledFrom};
 
 // How many places a ledger has.
 pub const PLACES: usize = 64;
@@ -43,27 +39,6 @@ pub enum Found {
     Nowhere,
 }
 
-// What the predecessors of an update say: whether all are held, whether some is void, their places, and their ancestors.
-pub struct Gathered {
-    pub ready: bool,
-    pub void: bool,
-    pub direct: u64,
-    pub above: u64,
-}
-
-// What a pass over the places comes to, and whether it changed a standing.
-pub struct Pass {
-    pub ledger: Ledger,
-    pub changed: bool,
-}
-
-// How a waiting update is judged: it holds, with these ancestors; it fails; it goes on waiting.
-pub enum Judgement {
-    Holds(u64),
-    Fails,
-    Waits,
-}
-
 impl Ledger {
     // The next place is taken, by an update that waits.
     pub fn taken(mut self, id: [u8; 32], length: usize) -> Ledger
@@ -94,25 +69,6 @@ impl Ledger {
             ancestors: ancestors,
             standing: standing,
         };
-        self
-    }
-
-    // Judges the newest place; where it does not go on waiting, judges its successors; where that changes a standing, judges what waits, pass
-    // after pass, until a pass changes nothing.
-    pub fn settle(mut self, store: &[u8]) -> Ledger
-        requires { ⌜ self .used ≤ 64 ⌝ }
-        ensures { λ r. ⌜ SettledFrom self (now (store .entry)) r ⌝ }
-    {
-        let first = successors::begin(self, store);
-        let begun = first.ledger;
-        self = begun;
-        let mut changed = first.changed;
-        while changed {
-            let p = settle::pass(self, store);
-            let next = p.ledger;
-            self = next;
-            changed = p.changed;
-        }
         self
     }
 }

@@ -25,7 +25,7 @@ use Rattle.state.specs.declared.Standing.the-variants.{Held as IsHeld, Waiting 
 use Rattle.state.specs.State.{placeAt, isHeld}
 use Rattle.fields.specs.Fields.{testOf, authorIn}
 use Rattle.state.specs.Stands.{ident, noUpdate, updateAt, Stands}
-use Rattle.state.specs.GatherLaws.{isHeld→}
+use Rattle.state.specs.StandingLaws.{isHeld→}
 use Rattle.views.specs.Board.{idAt, decodedAt, heldAt, authorAt}
 
 module _ {l : Ledger} {s : List ℕ} {us : List Update} (stands : Stands l s us) where

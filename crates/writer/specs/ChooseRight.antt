@@ -9,8 +9,8 @@ use Rattle.format.specs.Decode.{update}
 use Rattle.rules.specs.Writing.{written, writable, writtenOf, writableOf}
 use Rattle.rules.specs.WritingLaws.{written-heads}
 use Rattle.state.specs.declared.Ledger.{Ledger}
-use Rattle.state.specs.declared.Judgement.the-variants.{Holds, Fails}
-use Rattle.state.specs.Judge.{judgeDecoded}
+use Rattle.judging.specs.declared.Judgement.the-variants.{Holds, Fails}
+use Rattle.judging.specs.Judge.{judgeDecoded}
 use Rattle.state.specs.Stands.{ident, Stands}
 use Rattle.predecessors.specs.ChosenLaws.{chosen-ids}
 use Rattle.writer.specs.Written.{writtenAt}

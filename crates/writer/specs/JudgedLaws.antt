@@ -26,13 +26,13 @@ use Rattle.bits.specs.BitsLaws.{has-join, meet-none←}
 use Rattle.state.specs.declared.Ledger.{Ledger}
 use Rattle.state.specs.declared.Standing.{Standing}
 use Rattle.state.specs.declared.Standing.the-variants.{Held as IsHeld, Waiting as IsWaiting, Void as IsVoid}
-use Rattle.state.specs.declared.Gathered.{Gathered}
-use Rattle.state.specs.declared.Judgement.the-variants.{Holds, Fails, Waits}
+use Rattle.judging.specs.declared.Gathered.{Gathered}
+use Rattle.judging.specs.declared.Judgement.the-variants.{Holds, Fails, Waits}
 use Rattle.state.specs.State.{placeAt, findIn, isHeld}
-use Rattle.state.specs.Judge.{nothingGathered, gather, namesAt, names, valid, judgeReady, judgeGathered, judgeDecoded}
+use Rattle.judging.specs.Judge.{nothingGathered, gather, namesAt, names, valid, judgeReady, judgeGathered, judgeDecoded}
 use Rattle.state.specs.Stands.{ident, updateAt, Stands}
 use Rattle.state.specs.FindLaws.{find-right, find-none}
-use Rattle.state.specs.GatherLaws.{AllHeld, gathered-word, gathered-void→, gathered-ready←, gathered-direct→, gathered-direct←, gathered-above→, gathered-above←}
+use Rattle.judging.specs.GatherLaws.{AllHeld, gathered-word, gathered-void→, gathered-ready←, gathered-direct→, gathered-direct←, gathered-above→, gathered-above←}
 use Rattle.views.specs.Board.{heldAt}
 use Rattle.views.specs.PlaceLaws.{place-in, place-of, place-id, place-test}
 use Rattle.views.specs.RowLaws.{rowAt, row-id, above-agrees, op-agrees}

@@ -12,9 +12,9 @@ use Rattle.format.specs.Update.{Id, Operation, Update, encode}
 use Rattle.format.specs.Decode.{decode, update}
 use Rattle.rules.specs.Writing.{writableOf}
 use Rattle.state.specs.declared.Ledger.{Ledger}
-use Rattle.state.specs.declared.Judgement.{Judgement}
-use Rattle.state.specs.declared.Judgement.the-variants.{Holds, Fails, Waits}
-use Rattle.state.specs.Judge.{judgeDecoded}
+use Rattle.judging.specs.declared.Judgement.{Judgement}
+use Rattle.judging.specs.declared.Judgement.the-variants.{Holds, Fails, Waits}
+use Rattle.judging.specs.Judge.{judgeDecoded}
 use Rattle.state.specs.Stands.{ident, Stands}
 use Rattle.report.specs.Text.{Prints}
 use Rattle.writer.specs.declared.Kind.{Kind}

@@ -1,11 +1,11 @@
 // Writing an update that rows 1, 4, 8 and 9 let through.
 ghost use Rattle.writing.specs.Write.{Writing, WellAsked};
 use format::bounds::MAX_LENGTH;
+use judging::Judgement;
+use judging::judge_bytes;
 use refusals::Refusal;
 use report::page::put;
-use state::Judgement;
 use state::Ledger;
-use state::judge::judge_bytes;
 use writer::Kind;
 
 // What the writer answers: how many bytes of the output buffer the update takes.

@@ -4,7 +4,7 @@ use mathlib.Core.Path.{sym, _∙_}
 use native.Mathlib.Omega.{arith}
 use borrow.Author.Needs.{needs}
 use denote.Ref.{now}
-use Rattle.state.proofs.Judging.{found-at, found-nowhere}
+use Rattle.state.proofs.FindLaws.{found-at, found-nowhere}
 use Rattle.highest.specs.Top.{topBelow}
 use Rattle.highest.proofs.Scanning.{top-inside, better-top, better-none}
 use Rattle.highest.proofs.exceeds.Statement.{statement}

@@ -8,7 +8,8 @@ use borrow.Author.Tests.{not-true, not-false}
 use denote.Ref.{now}
 use Rattle.state.specs.State.{findIn}
 use Rattle.state.specs.Row1Laws.{sound→}
-use Rattle.state.proofs.Judging.{found-at, found-nowhere, found-inside}
+use Rattle.state.specs.FindLaws.{find-taken}
+use Rattle.state.proofs.FindLaws.{found-at, found-nowhere}
 use Rattle.ledger.proofs.AskLaws.{asked-unfit, asked-at, asked-nowhere}
 use Rattle.ledger.proofs.standing.Statement.{statement}
 use Rattle.ledger.proofs.standing.Tie as tie
@@ -21,7 +22,7 @@ inside c =
     let a = d .before .before .args in
     let h = sound→ (a .t1) (now (a .store)) (sym (d .sound .ensures) ∙ not-false _ (f .before .before .if1 .left)) in
     let e = found-at (findIn (a .t1) (a .t3)) _ (sym (f .find .ensures) ∙ c .before .k .given .1) in
-    omega (arith, found-inside (a .t1) (a .t3) _ e, h .few)
+    omega (arith, find-taken (a .t1) (a .t3) _ e, h .few)
 
 pub standing-spec : {M : Type 1} → statement M
 standing-spec =

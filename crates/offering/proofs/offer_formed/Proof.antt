@@ -7,7 +7,8 @@ use borrow.Author.Needs.{needs}
 use denote.Ref.{now}
 use Rattle.state.specs.State.{findIn}
 use Rattle.state.specs.Row1Laws.{sound→}
-use Rattle.state.proofs.Judging.{found-at, found-nowhere, found-inside}
+use Rattle.state.specs.FindLaws.{find-taken}
+use Rattle.state.proofs.FindLaws.{found-at, found-nowhere}
 use Rattle.offering.proofs.OfferLaws.{offered-known, offered-full}
 use Rattle.offering.proofs.offer_formed.Statement.{statement}
 use Rattle.offering.proofs.offer_formed.Tie as tie
@@ -20,7 +21,7 @@ inside c =
     let z = d .before .before .before in
     let a = z .args in
     let e = found-at (findIn (a .t1) (d .digest .result)) _ (sym (f .find .ensures) ∙ c .before .k .given .1) in
-    omega (arith, found-inside (a .t1) (d .digest .result) _ e, sound→ (a .t1) (now (a .store)) (z .pre .is-sound) .few)
+    omega (arith, find-taken (a .t1) (d .digest .result) _ e, sound→ (a .t1) (now (a .store)) (z .pre .is-sound) .few)
 
 pub offer-formed-spec : {M : Type 1} → statement M
 offer-formed-spec =

@@ -1,0 +1,4 @@
+pub mod Judge
+pub mod GatherLaws
+pub mod JudgeWithin
+pub mod JudgeLaws

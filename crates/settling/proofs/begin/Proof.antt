@@ -1,0 +1,27 @@
+-- `begin` meets its contract, by whether the newest place goes on waiting.
+-- Assumes nothing.
+use mathlib.Core.Path.{_∙_}
+use native.Mathlib.Omega.{arith}
+use borrow.Author.Needs.{needs}
+use denote.Ref.{now}
+use Rattle.settling.proofs.Settling.{newest-used, begun-goes-on, begun-ends}
+use Rattle.settling.proofs.begin.Statement.{statement}
+use Rattle.settling.proofs.begin.Tie as tie
+
+pub begin-spec : {M : Type 1} → statement M
+begin-spec =
+    tie.close
+    (tie.spec
+    (λ c κs. search needs)
+    (λ c κs.
+    let n = c .before .before in
+    let a = n .before .before .args in
+    omega (arith, newest-used (a .l) (now (a .store)) _ (n .newest .ensures)))
+    (λ c.
+    let n = c .before .before .before in
+    let a = n .before .before .args in
+    c .successors .ensures ∙ begun-goes-on (a .l) (now (a .store)) _ (n .newest .ensures) (c .before .if1 .taken))
+    (λ c.
+    let n = c .before .before in
+    let a = n .before .before .args in
+    begun-ends (a .l) (now (a .store)) _ (n .newest .ensures) (c .if1 .left)))
