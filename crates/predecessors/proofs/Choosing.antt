@@ -27,7 +27,8 @@ use Rattle.state.specs.State.{placeAt, foundOf, isHeld}
 use Rattle.state.proofs.Judging.{found-at}
 use Rattle.views.specs.declared.Places.{Places}
 use Rattle.fields.specs.Fields.{authorIn}
-use Rattle.views.specs.Board.{idAt, decodedAt, heldAt, authorAt, rankAt, headAt, order}
+use Rattle.relations.specs.PlaceTests.{idAt, decodedAt, heldAt, authorAt, headAt}
+use Rattle.views.specs.Board.{rankAt, order}
 use Rattle.views.specs.Pieces.{placesIn, ins, small, Sound, Lists}
 use Rattle.views.proofs.Inserting.{length-is, passed, ins-end}
 use Rattle.predecessors.specs.Choose.{headsOf, ownAt, higher, betterThan, topBelow, aboveAt, eightWith, eightFor, chosenPlaces}

@@ -14,7 +14,8 @@ use Rattle.bits.specs.Below.{firstBelow}
 use Rattle.bits.specs.Bits.{has}
 use Rattle.state.specs.declared.Ledger.{Ledger}
 use Rattle.state.specs.State.{placeAt}
-use Rattle.views.specs.Board.{idAt, heldAt, authorAt, rankAt, headAt, order}
+use Rattle.relations.specs.PlaceTests.{idAt, heldAt, authorAt, headAt}
+use Rattle.views.specs.Board.{rankAt, order}
 
 module _ (l : Ledger) (s : List ℕ) where
   -- the heads, ascending by id

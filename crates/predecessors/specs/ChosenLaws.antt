@@ -26,7 +26,8 @@ use Rattle.bits.specs.Bits.{has}
 use Rattle.state.specs.declared.Ledger.{Ledger}
 use Rattle.state.specs.State.{placeAt}
 use Rattle.state.specs.Stands.{ident, Stands}
-use Rattle.views.specs.Board.{idAt, heldAt, coveredAt, headAt, order}
+use Rattle.relations.specs.PlaceTests.{idAt, heldAt, coveredAt, headAt}
+use Rattle.views.specs.Board.{order}
 use Rattle.views.specs.RowLaws.{rowAt, row-id, order-∈, order-ascending, table-rows, above-agrees, head-agrees, same-agrees}
 use Rattle.predecessors.specs.Choose.{headsOf, topBelow, aboveAt, eightWith, eightFor, chosenPlaces}
 use Rattle.predecessors.specs.FrontLaws.{take-map, first-kept, none-kept, ascending-take, front-with}

@@ -33,7 +33,7 @@ use Rattle.state.specs.Judge.{nothingGathered, gather, namesAt, names, valid, j
 use Rattle.state.specs.Stands.{ident, updateAt, Stands}
 use Rattle.state.specs.FindLaws.{find-right, find-none}
 use Rattle.state.specs.GatherLaws.{AllHeld, gathered-word, gathered-void→, gathered-ready←, gathered-direct→, gathered-direct←, gathered-above→, gathered-above←}
-use Rattle.views.specs.Board.{heldAt}
+use Rattle.relations.specs.PlaceTests.{heldAt}
 use Rattle.views.specs.PlaceLaws.{place-in, place-of, place-id, place-test}
 use Rattle.views.specs.RowLaws.{rowAt, row-id, above-agrees, op-agrees}
 use Rattle.predecessors.specs.TopLaws.{decides, row-at, at-row}

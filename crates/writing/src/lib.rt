@@ -1,8 +1,8 @@
 // Writing an update that rows 1, 4, 8 and 9 let through.
 ghost use Rattle.writing.specs.Write.{Writing, WellAsked};
 use format::bounds::MAX_LENGTH;
+use printing::put;
 use refusals::Refusal;
-use report::page::put;
 use state::Judgement;
 use state::Ledger;
 use state::judge::judge_bytes;
