@@ -8,7 +8,7 @@ use Rattle.format.specs.declared.Malformed.{Malformed}
 use Rattle.format.specs.declared.Malformed.the-variants.{Length, Version, Author, Predecessors, Truncated, Kind, Layout, Unordered}
 use Rattle.format.specs.Reading.{numberOf}
 use Rattle.rules.specs.Report.{codes, ascii, decimal}
-use Rattle.report.specs.Text.{Prints}
+use Rattle.printing.specs.Page.{Prints}
 use Rattle.state.specs.declared.Standing.{Standing}
 use Rattle.state.specs.declared.Standing.the-variants.{Held, Waiting, Void}
 use Rattle.refusals.specs.declared.Refusal.{Refusal}

@@ -6,7 +6,7 @@ use mathlib.Core.List.{List}
 use mathlib.Core.Option.{none, some}
 use lib.ListN.{length, take}
 use Rattle.rules.specs.Report.{ascii}
-use Rattle.report.specs.Text.{Prints}
+use Rattle.printing.specs.Page.{Prints}
 use Rattle.reading.specs.Line.{lineIn}
 use Rattle.offering.specs.declared.Answer.{Answer}
 use Rattle.offering.specs.declared.Answer.the-variants.{Taken, Known, Refused}

@@ -1,17 +1,17 @@
 // Answers: what is printed for a line.
 ghost use Prim.Native.Nat.{_+_, _≤_, _<_};
 ghost use lib.ListN.{length};
-ghost use Rattle.report.specs.Text.{Prints};
+ghost use Rattle.printing.specs.Page.{Prints};
 ghost use Rattle.offering.specs.Words.{standingWord, answerText};
 ghost use Rattle.offering.specs.declared.Answer.the-variants.{Taken, Known, Refused};
 ghost use Rattle.answers.specs.Answers.{maxAnswer, Printable, Begins};
 use offering::Answer;
+use printing::digits::decimal;
+use printing::put;
 use reading::Line;
 use reading::read_line;
 use reading::unhex;
 use refusals::Refusal;
-use report::digits::decimal;
-use report::page::put;
 use state::Standing;
 
 // What a line comes to before any offer: it is not read, and its answer takes so many bytes; or it offers so many bytes.

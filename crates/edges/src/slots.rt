@@ -5,7 +5,7 @@ use crate::words::byte;
 use crate::words::field;
 use crate::words::number;
 use format::part_of;
-use report::page::put;
+use printing::put;
 
 // How many bytes a slot takes, and how many of them are for the length.
 const SLOT: usize = 640;

@@ -32,7 +32,8 @@ use Rattle.bits.specs.BitsLaws.{count-within}
 use Rattle.state.specs.declared.Ledger.{Ledger}
 use Rattle.state.specs.State.{placeAt}
 use Rattle.state.specs.Stands.{ident, Stands}
-use Rattle.views.specs.Board.{idAt, heldAt, authorAt, rankAt, order}
+use Rattle.relations.specs.PlaceTests.{idAt, heldAt, authorAt}
+use Rattle.views.specs.Board.{rankAt, order}
 use Rattle.views.specs.ListFacts.{and-agrees}
 use Rattle.views.specs.PlaceLaws.{from-used, to-used, places-distinct}
 use Rattle.views.specs.RowLaws.{rowAt, row-id, order-∈, ∈-order, table-rows, held-agrees, author-agrees, above-agrees}

@@ -8,7 +8,7 @@ use mathlib.Core.Bool.{true, false, true≢false}
 use lib.ListN.{length, take, drop, length-append, length-drop}
 use lib.Seq.{length-take-le, take-at, take-add}
 use Rattle.state.specs.State.{written}
-use Rattle.report.specs.Text.{Prints}
+use Rattle.printing.specs.Page.{Prints}
 use Rattle.reading.specs.Reading.{maxLine}
 use Rattle.input.specs.Lines.{Appends, FirstNewline, Takes}
 

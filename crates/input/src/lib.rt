@@ -4,8 +4,8 @@ ghost use mathlib.Core.Bool.{false};
 ghost use Prim.Native.Nat.{_≤_, _<_};
 ghost use lib.ListN.{length, take};
 ghost use Rattle.input.specs.Lines.{broken, FirstNewline, Appends, Takes};
+use printing::put;
 use reading::MAX_LINE;
-use report::page::put;
 
 const NEWLINE: u8 = 10;
 

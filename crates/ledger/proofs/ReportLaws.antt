@@ -8,7 +8,8 @@ use mathlib.Core.Bool.{true}
 use lib.ListN.{length, drop}
 use Rattle.state.specs.declared.Ledger.{Ledger}
 use Rattle.state.specs.Row1.{sound}
-use Rattle.report.specs.Text.{textOf, Prints}
+use Rattle.report.specs.Text.{textOf}
+use Rattle.printing.specs.Page.{Prints}
 use Rattle.report.specs.TextRight.{text-right}
 use Rattle.refusals.specs.declared.Refusal.the-variants.{Short}
 use Rattle.ledger.specs.declared.Reported.the-variants.{Written, Refused}

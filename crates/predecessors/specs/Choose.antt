@@ -13,7 +13,8 @@ use Rattle.bits.specs.Below.{firstBelow}
 use Rattle.bits.specs.Bits.{has}
 use Rattle.state.specs.declared.Ledger.{Ledger}
 use Rattle.state.specs.State.{placeAt}
-use Rattle.views.specs.Board.{headAt, order}
+use Rattle.relations.specs.PlaceTests.{headAt}
+use Rattle.views.specs.Board.{order}
 use Rattle.highest.specs.Top.{topBelow}
 
 module _ (l : Ledger) (s : List ℕ) where

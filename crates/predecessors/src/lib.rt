@@ -10,7 +10,7 @@ ghost use Rattle.keys.specs.Member.{keep};
 ghost use Rattle.bits.specs.Below.{firstBelow};
 ghost use Rattle.bits.specs.Bits.{has};
 ghost use Rattle.state.specs.State.{placeAt, foundOf};
-ghost use Rattle.views.specs.Board.{headAt};
+ghost use Rattle.relations.specs.PlaceTests.{headAt};
 ghost use Rattle.views.specs.Pieces.{placesIn, Sound, Lists};
 ghost use Rattle.predecessors.specs.Choose.{headsOf, aboveAt, eightFor, chosenPlaces};
 use highest::top;
@@ -19,7 +19,6 @@ use state::Ledger;
 use views::Key;
 use views::Places;
 use views::sorted;
-use views::tests;
 
 // How many predecessors an update has at most: format::bounds::MAX_PREDECESSORS.
 const NAMED_HEADS: usize = 8;
@@ -29,7 +28,7 @@ fn with_head(l: Ledger, store: &[u8], places: Places, k: usize) -> Places
     requires { ⌜ (l .used ≤ 64) × Sound places × (places .count < 64) × (k < 64) ⌝ }
     ensures { λ r. ⌜ Lists r (placesIn places ++ keep (headAt l (now (store .entry))) (k ∷ [])) × (r .count ≤ places .count + 1) ⌝ }
 {
-    if tests::is_head(l, store, k) {
+    if relations::is_head(l, store, k) {
         let count = places.count;
         places.insert(count, k)
     } else {

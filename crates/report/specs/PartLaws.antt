@@ -5,13 +5,14 @@ use mathlib.Core.Path.{_≡_, sym, _∙_, ap}
 use mathlib.Core.List.{List, _++_}
 use mathlib.Core.Bool.{Bool, not, _&&_}
 use lib.ListN.{length}
-use Rattle.keys.specs.Member.{_∈_, keep, concatMap}
+use Rattle.keys.specs.Member.{keep, concatMap}
 use Rattle.format.specs.Update.{Update}
 use Rattle.rules.specs.Settle.{Row, Table, isHeld, isWaiting, isVoid, heldRow, covered, heads, tags, list, settled}
 use Rattle.rules.specs.Report.{ascii, hex, decimal, updateLine, idLine, bytesLine}
 use Rattle.state.specs.declared.Ledger.{Ledger}
 use Rattle.state.specs.Stands.{ident, Stands}
-use Rattle.views.specs.Board.{idAt, heldAt, waitingAt, voidAt, order, headAt, tagAt, tagOrder, entriesOf, shownAt, valueAt}
+use Rattle.relations.specs.PlaceTests.{idAt, heldAt, waitingAt, voidAt, headAt, shownAt}
+use Rattle.views.specs.Board.{order, tagAt, tagOrder, entriesOf, valueAt}
 use Rattle.report.specs.Text.{updateLineAt}
 use Rattle.views.specs.ListFacts.{concatMap-map, concatMap-keep-map}
 use Rattle.views.specs.BoardLaws.{tags-agree}

@@ -1,45 +1,17 @@
--- The parts of the report by cases: which places have a line in one, the line, and its first line.
+-- The parts of the report by cases: which places have a line in one, and the line.
 -- Assumes nothing.
 use Prim.Native.Nat.{ℕ}
 use mathlib.Core.List.{List, _++_}
 use mathlib.Core.Bool.{Bool, true}
 use Rattle.keys.specs.Member.{keep, concatMap}
-use Rattle.format.specs.Update.{Id}
-use Rattle.format.specs.Decode.{Decoded}
-use Rattle.rules.specs.Report.{ascii, hex, decimal, bytesLine, markLine}
-use Rattle.fields.specs.Fields.{authorIn, tagIn, valueIn}
+use Rattle.rules.specs.Report.{ascii, bytesLine, markLine}
 use Rattle.state.specs.declared.Ledger.{Ledger}
-use Rattle.views.specs.Board.{idAt, heldAt, waitingAt, voidAt, order, headAt, marksOf, tagAt, tagOrder, entriesOf, shownAt, valueAt}
-use Rattle.report.specs.declared.Part.{Part}
-use Rattle.report.specs.declared.Part.the-variants.{Held, Heads, Waiting, Void, Marks, Set, List as Entries}
+use Rattle.relations.specs.PlaceTests.{idAt, heldAt, waitingAt, voidAt, headAt, shownAt}
+use Rattle.views.specs.Board.{order, marksOf, tagAt, tagOrder, entriesOf, valueAt}
+use Rattle.wording.specs.declared.Part.{Part}
+use Rattle.wording.specs.declared.Part.the-variants.{Held, Heads, Waiting, Void, Marks, Set, List as Entries}
+use Rattle.wording.specs.Lines.{wordOf}
 use Rattle.report.specs.Text.{updateLineAt}
-
--- no byte beyond this one is printed at, so that no sum wraps: the whole report is far shorter
-abbrev pub farthest : ℕ
-farthest = 1000000
-
--- the first line of a part
-abbrev pub wordOf : Part → List ℕ
-wordOf Held = ascii "(held\n"
-wordOf Heads = ascii "(heads\n"
-wordOf Waiting = ascii "(waiting\n"
-wordOf Void = ascii "(void\n"
-wordOf Marks = ascii "(marks\n"
-wordOf Set = ascii "(set\n"
-wordOf Entries = ascii "(list\n"
-
--- a line of an update, by its id and by what its bytes decode to; of a mark, by the author
-abbrev pub updateLineBy : Id → Decoded → List ℕ
-updateLineBy i d = ascii "(" ++ (hex i ++ (ascii " " ++ (decimal (authorIn d) ++ ascii ")\n")))
-
-abbrev pub lineBy : Part → Id → Decoded → ℕ → List ℕ
-lineBy Held i d k = updateLineBy i d
-lineBy Heads i d k = bytesLine i
-lineBy Waiting i d k = updateLineBy i d
-lineBy Void i d k = updateLineBy i d
-lineBy Marks i d k = markLine k
-lineBy Set i d k = bytesLine (tagIn d)
-lineBy Entries i d k = bytesLine (valueIn d)
 
 module _ (l : Ledger) (s : List ℕ) where
   abbrev pub passes : Part → ℕ → Bool

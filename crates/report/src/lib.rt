@@ -1,32 +1,21 @@
 // The report of a ledger and its store, printed on a page that the caller lends.
 ghost use Prim.Native.Nat.{_≤_};
-ghost use Rattle.report.specs.Text.{textOf, Prints};
+ghost use Rattle.report.specs.Text.{textOf};
+ghost use Rattle.printing.specs.Page.{Prints};
 ghost use Rattle.views.specs.Pieces.{Lists};
 ghost use Rattle.report.specs.Parts.{standings, readOffs};
 ghost use Rattle.views.specs.Board.{order as orderOf};
 
-pub mod digits;
-mod lines;
-pub mod page;
 mod parts;
 
+use printing::put;
 use state::Ledger;
 use views::Key;
 use views::Places;
 use views::list;
 use views::marks;
 use views::sorted;
-
-// The parts of the report.
-pub enum Part {
-    Held,
-    Heads,
-    Waiting,
-    Void,
-    Marks,
-    Set,
-    List,
-}
+use wording::Part;
 
 // The parts that go by standing.
 fn print_standings(l: Ledger, store: &[u8], order: Places, page: &mut [u8]) -> usize
@@ -34,7 +23,7 @@ fn print_standings(l: Ledger, store: &[u8], order: Places, page: &mut [u8]) -> u
     ensures prints { λ r. ⌜ Prints (now (page .entry)) 0 (standings l (now (store .entry))) (now (page .exit)) r ⌝ }
     ensures small { λ r. ⌜ r ≤ 30000 ⌝ }
 {
-    let start = page::put(page, 0, b"(ledger 1\n");
+    let start = put(page, 0, b"(ledger 1\n");
     let held = parts::print(l, store, Part::Held, order, page, start);
     let heads = parts::print(l, store, Part::Heads, order, page, held);
     let waiting = parts::print(l, store, Part::Waiting, order, page, heads);
@@ -52,7 +41,7 @@ fn print_read_offs(l: Ledger, store: &[u8], order: Places, page: &mut [u8], at: 
     let set = parts::print(l, store, Part::Set, tagged, page, marks);
     let entries = list::entries(l, store, order);
     let list = parts::print(l, store, Part::List, entries, page, set);
-    page::put(page, list, b")\n")
+    put(page, list, b")\n")
 }
 
 // Prints the report of a ledger and its store at the start of the page.

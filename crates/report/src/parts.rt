@@ -3,33 +3,28 @@ ghost use mathlib.Core.Path.{_≡_};
 ghost use mathlib.Core.Bool.{cond};
 ghost use mathlib.Core.List.{[]};
 ghost use Prim.Native.Nat.{_+_, _≤_, _<_};
-ghost use Rattle.report.specs.Text.{Prints};
-ghost use Rattle.report.specs.Parts.{farthest, passes, wordOf, lineOf, linesOf, partOf};
+ghost use Rattle.printing.specs.Page.{Prints, farthest};
+ghost use Rattle.report.specs.Parts.{passes, lineOf, linesOf, partOf};
+ghost use Rattle.relations.specs.Related.{decodedIn};
+ghost use Rattle.wording.specs.Lines.{lineBy};
 ghost use Rattle.views.specs.Pieces.{placesIn, Sound};
-use crate::Part;
-use crate::lines::line;
-use crate::page::put;
+use printing::put;
 use state::Ledger;
+use state::Place;
 use state::Standing;
+use state::store::stored;
 use survey::has_standing;
 use views::Places;
-use views::tests;
+use wording::Part;
 
-// The first line of a part.
-fn word(part: Part, page: &mut [u8], at: usize) -> usize
-    requires { ⌜ at ≤ farthest ⌝ }
-    ensures prints { λ r. ⌜ Prints (now (page .entry)) at (wordOf part) (now (page .exit)) r ⌝ }
-    ensures small { λ r. ⌜ r ≤ at + 10 ⌝ }
+// The line in a part of the place, k, or of author k.
+fn line(p: Place, store: &[u8], part: Part, k: usize, page: &mut [u8], at: usize) -> usize
+    requires { ⌜ (at + 100 ≤ farthest) × (k < 64) ⌝ }
+    ensures prints { λ r. ⌜ Prints (now (page .entry)) at (lineBy part (p .id) (decodedIn (now (store .entry)) p k) k) (now (page .exit)) r ⌝ }
+    ensures small { λ r. ⌜ r ≤ at + 100 ⌝ }
 {
-    match part {
-        Part::Held => put(page, at, b"(held\n"),
-        Part::Heads => put(page, at, b"(heads\n"),
-        Part::Waiting => put(page, at, b"(waiting\n"),
-        Part::Void => put(page, at, b"(void\n"),
-        Part::Marks => put(page, at, b"(marks\n"),
-        Part::Set => put(page, at, b"(set\n"),
-        Part::List => put(page, at, b"(list\n"),
-    }
+    let id = p.id;
+    wording::line_by(&id, stored(store, k, p.length), part, k, page, at)
 }
 
 // Whether a listed place has a line in the part.
@@ -37,14 +32,15 @@ fn shows(l: Ledger, store: &[u8], part: Part, k: usize) -> bool
     requires { ⌜ (l .used ≤ 64) × (k < 64) ⌝ }
     ensures { λ r. ⌜ r ≡ passes l (now (store .entry)) part k ⌝ }
 {
+    let p = l.places[k];
     match part {
-        Part::Held => has_standing(l.places[k], Standing::Held),
-        Part::Heads => tests::is_head(l, store, k),
-        Part::Waiting => has_standing(l.places[k], Standing::Waiting),
-        Part::Void => has_standing(l.places[k], Standing::Void),
+        Part::Held => has_standing(p, Standing::Held),
+        Part::Heads => relations::is_head(l, store, k),
+        Part::Waiting => has_standing(p, Standing::Waiting),
+        Part::Void => has_standing(p, Standing::Void),
         Part::Marks => true,
         Part::Set => true,
-        Part::List => tests::is_shown(l, store, k),
+        Part::List => relations::is_shown(l, store, k),
     }
 }
 
@@ -91,7 +87,7 @@ pub fn print(
     ensures prints { λ r. ⌜ Prints (now (page .entry)) at (partOf l (now (store .entry)) part (placesIn places)) (now (page .exit)) r ⌝ }
     ensures small { λ r. ⌜ r ≤ at + 6500 ⌝ }
 {
-    let opened = word(part, page, at);
+    let opened = wording::word(part, page, at);
     let shown = lines(l, store, part, places, page, opened);
     put(page, shown, b")\n")
 }

@@ -8,7 +8,7 @@ use mathlib.Core.List.{List, _++_}
 use lib.ListN.{length, take, drop}
 use lib.Seq.{take-add, drop-drop}
 use Rattle.state.specs.declared.Ledger.{Ledger}
-use Rattle.report.specs.Text.{Prints}
+use Rattle.printing.specs.Page.{Prints}
 use Rattle.offering.specs.declared.Offered.{Offered}
 use Rattle.offering.specs.Offer.{Offering}
 use Rattle.offering.specs.Words.{answerText}

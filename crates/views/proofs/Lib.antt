@@ -1,4 +1,5 @@
 pub mod Inserting
+pub mod Keeping
 pub mod Sorting
-pub mod Testing
+pub mod Marking
 pub mod Ranking

@@ -16,12 +16,15 @@ use Rattle.keys.specs.Member.{keep}
 use Rattle.keys.specs.MemberLaws.{keep-append, keep-length}
 use Rattle.rules.specs.Standing.{beginning}
 use Rattle.state.specs.declared.Ledger.{Ledger}
-use Rattle.views.specs.Board.{decodedAt, heldAt, insertAt, rankAt, order, byRank, after, putBy, put, putAll, entriesOf}
+use Rattle.state.specs.State.{placeAt}
+use Rattle.relations.specs.PlaceTests.{decodedAt, heldAt}
+use Rattle.relations.specs.Related.{rankedIn}
+use Rattle.views.specs.Board.{insertAt, rankAt, order, byRank, after, putBy, put, putAll, entriesOf}
 use Rattle.fields.specs.Fields.{anchorIn}
 use Rattle.views.specs.declared.Places.{Places}
 use Rattle.views.specs.Pieces.{placesIn, ins, Sound, Lists, ranked}
 use Rattle.views.proofs.Inserting.{renamed}
-use Rattle.views.proofs.Testing.{keep-no, keep-one}
+use Rattle.views.proofs.Keeping.{keep-no, keep-one}
 
 counted : (b : Bool) (x : ℕ) (xs : List ℕ) → length (cond b (x ∷ xs) xs) ≡ cond b (suc (length xs)) (length xs)
 counted true x xs = refl
@@ -89,6 +92,10 @@ module _ (p : ℕ → Bool) (f : ℕ → ℕ) (n : ℕ) where
       go false i = i
 
 module _ (l : Ledger) (s : List ℕ) where
+  pub ranked-is : (k n : ℕ) {b : Bool} → b ≡ rankedIn s n (placeAt l k) k → b ≡ ranked l s n k
+  unfolding ranked
+  ranked-is k n e = e
+
   by-rank-length : (n : ℕ) → length (byRank l s n) ≡ length (keep (λ (k : ℕ). insertAt l s k && ltb (rankAt l s k) n) (order l s))
   unfolding byRank
   by-rank-length zero = sym (none (insertAt l s) (rankAt l s) 0 refl (order l s))

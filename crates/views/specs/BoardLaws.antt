@@ -22,7 +22,8 @@ use Rattle.bits.specs.BelowLaws.{anyBelow→, anyBelow←, upTo-∈, ∈-upTo, 
 use Rattle.state.specs.declared.Ledger.{Ledger}
 use Rattle.fields.specs.Fields.{testOf, isAnyAdd, tagIn}
 use Rattle.state.specs.Stands.{ident, updateAt, Stands}
-use Rattle.views.specs.Board.{idAt, decodedAt, authorAt, heldAt, order, forkedAt, markedAt, marksOf, tagAt, removedAt, presentAt, tagOrder}
+use Rattle.relations.specs.PlaceTests.{idAt, decodedAt, authorAt, heldAt, forkedAt, removedAt, presentAt}
+use Rattle.views.specs.Board.{order, markedAt, marksOf, tagAt, tagOrder}
 use Rattle.views.specs.ListFacts.{and-agrees, concatMap-keep-map}
 use Rattle.views.specs.PlaceLaws.{from-used, to-used, place-in, place-decoded, place-author, place-test}
 use Rattle.views.specs.RowLaws.{rowAt, row-id, order-∈, ∈-order, table-rows, held-agrees, author-agrees, op-agrees, fork-agrees, op-test-agrees}

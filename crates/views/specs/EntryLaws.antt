@@ -17,7 +17,8 @@ use Rattle.format.specs.Update.{Id}
 use Rattle.rules.specs.Standing.{beginning}
 use Rattle.rules.specs.TableLaws.{not-true→}
 use Rattle.state.specs.declared.Ledger.{Ledger}
-use Rattle.views.specs.Board.{idAt, decodedAt, after, putBy, put, putAll}
+use Rattle.relations.specs.PlaceTests.{idAt, decodedAt}
+use Rattle.views.specs.Board.{after, putBy, put, putAll}
 use Rattle.fields.specs.Fields.{anchorIn}
 
 module _ (l : Ledger) (s : List ℕ) where

@@ -34,7 +34,8 @@ use Rattle.state.specs.State.{placeAt, isHeld as placeHeld, isWaiting as placeW
 use Rattle.fields.specs.Fields.{testOf}
 use Rattle.state.specs.Stands.{ident, noUpdate, updateAt, Stands}
 use Rattle.state.specs.Verdicts.{verdictOf}
-use Rattle.views.specs.Board.{idAt, heldAt, waitingAt, voidAt, authorAt, decodedAt, order, coveredAt, headAt, forkedWith, forkedAt}
+use Rattle.relations.specs.PlaceTests.{idAt, heldAt, waitingAt, voidAt, authorAt, decodedAt, coveredAt, headAt, forkedWith, forkedAt}
+use Rattle.views.specs.Board.{order}
 use Rattle.views.specs.ListFacts.{and-agrees}
 use Rattle.views.specs.PlaceLaws.{from-used, to-used, place-in, place-of, place-id, same-place, place-author, place-test, above-at→, →above-at}
 

@@ -1,9 +1,8 @@
-// What the report shows of a ledger and its store, by places: tests of them, their orders, and lists of them.
+// What the report shows of a ledger and its store, by places: their orders, and lists of them.
 pub mod list;
 pub mod listed;
 pub mod marks;
 pub mod sorted;
-pub mod tests;
 
 use state::PLACES;
 
@@ -17,12 +16,4 @@ pub struct Places {
 pub enum Key {
     Id,
     Tag,
-}
-
-// How a held place can stand to another place.
-pub enum Relation {
-    Covers,
-    Forks,
-    Removes,
-    Deletes,
 }

@@ -1,12 +1,12 @@
 // The entries of the list in their order.
 ghost use mathlib.Core.Path.{_≡_};
-ghost use Prim.Native.Nat.{_+_, _≤_, _<_};
+ghost use mathlib.Core.List.{List};
+ghost use Prim.Native.Nat.{ℕ, _+_, _≤_, _<_};
 ghost use lib.ListN.{length};
 ghost use Rattle.keys.specs.Member.{keep};
 ghost use Rattle.views.specs.Board.{order as orderOf, after, put as putPlace, putAll, entriesOf};
 ghost use Rattle.views.specs.Pieces.{placesIn, ins, Sound, Lists, ranked as rankedAt};
 use crate::Places;
-use crate::tests;
 use format::bounds::ID_LENGTH;
 use state::Ledger;
 use state::find::has_id;
@@ -16,9 +16,9 @@ use state::store::stored;
 const RANKS: usize = 64;
 
 // The index after the first entry with this id; past the end where there is none.
-fn index_after(l: Ledger, store: &[u8], entries: Places, id: &[u8], k: usize) -> usize
+fn index_after(l: Ledger, entries: Places, id: &[u8]) -> usize
     requires { ⌜ Sound entries ⌝ }
-    ensures { λ r. ⌜ (r ≤ entries .count) × (ins r k (placesIn entries) ≡ after l (now (store .entry)) (now (id .entry)) k (placesIn entries)) ⌝ }
+    ensures { λ r. ⌜ (r ≤ entries .count) × ((s : List ℕ) (k : ℕ) → ins r k (placesIn entries) ≡ after l s (now (id .entry)) k (placesIn entries)) ⌝ }
 {
     let count = entries.count;
     let mut i: usize = 0;
@@ -43,7 +43,7 @@ fn index_of(l: Ledger, store: &[u8], entries: Places, k: usize) -> usize
     if keys::same(anchor, &zero) {
         return 0;
     }
-    index_after(l, store, entries, anchor, k)
+    index_after(l, entries, anchor)
 }
 
 // The entries with place k put among them.
@@ -64,7 +64,7 @@ fn put_rank(l: Ledger, store: &[u8], order: Places, n: usize, entries: Places) -
     let mut i: usize = 0;
     while i < count {
         let k = order.items[i];
-        if tests::is_ranked(store, n, l.places[k], k) {
+        if relations::is_ranked(store, n, l.places[k], k) {
             all = put(l, store, all, k);
         }
         i += 1;

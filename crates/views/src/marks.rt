@@ -6,10 +6,10 @@ ghost use lib.Dec.{eqb};
 ghost use Prim.Native.Nat.{ℕ, _+_, _≤_, _<_};
 ghost use Rattle.keys.specs.Member.{keep};
 ghost use Rattle.bits.specs.Bits.{has};
-ghost use Rattle.views.specs.Board.{authorAt, forkedAt, markedAt, marksOf};
+ghost use Rattle.relations.specs.PlaceTests.{authorAt, forkedAt};
+ghost use Rattle.views.specs.Board.{markedAt, marksOf};
 ghost use Rattle.views.specs.Pieces.{placesIn, Sound, Lists};
 use crate::Places;
-use crate::tests;
 use state::Ledger;
 use state::store::stored;
 
@@ -21,7 +21,7 @@ fn with_author(l: Ledger, store: &[u8], authors: u64, k: usize) -> u64
     requires { ⌜ (l .used ≤ 64) × (k < 64) ⌝ }
     ensures { λ r. ⌜ ((a : ℕ) → has r a ≡ has authors a || (eqb (authorAt l (now (store .entry)) k) a && forkedAt l (now (store .entry)) k)) ⌝ }
 {
-    if tests::is_forked(l, store, k) {
+    if relations::is_forked(l, store, k) {
         let p = l.places[k];
         let author = fields::author_of(stored(store, k, p.length));
         bits::including(authors, wide(author))

@@ -5,10 +5,10 @@ ghost use Prim.Native.Nat.{_+_, _≤_, _<_};
 ghost use Rattle.keys.specs.Compare.{orderOf};
 ghost use Rattle.keys.specs.Sort.{insert as insertBy};
 ghost use Rattle.fields.specs.Fields.{tagIn};
-ghost use Rattle.views.specs.Pieces.{placesIn, Sound, Lists, decodedIn, keyIn, keyOf, candidate as candidateOf, sortedBy};
+ghost use Rattle.views.specs.Pieces.{placesIn, Sound, Lists, keyIn, keyOf, candidate as candidateOf, sortedBy};
+ghost use Rattle.relations.specs.Related.{decodedIn};
 use crate::Key;
 use crate::Places;
-use crate::tests;
 use keys::Order;
 use state::Ledger;
 use state::Place;
@@ -61,7 +61,7 @@ fn candidate(l: Ledger, store: &[u8], key: Key, k: usize) -> bool
 {
     match key {
         Key::Id => true,
-        Key::Tag => tests::is_present(l, store, k),
+        Key::Tag => relations::is_present(l, store, k),
     }
 }
 

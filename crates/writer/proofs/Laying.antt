@@ -17,7 +17,7 @@ use Rattle.format.specs.Parts.{joined, ids-length, ids-joined}
 use Rattle.state.specs.declared.Ledger.{Ledger}
 use Rattle.state.specs.State.{placeAt}
 use Rattle.views.specs.declared.Places.{Places}
-use Rattle.views.specs.Board.{idAt}
+use Rattle.relations.specs.PlaceTests.{idAt}
 use Rattle.views.specs.Pieces.{placesIn, Lists}
 use Rattle.views.proofs.Inserting.{length-is}
 use Rattle.predecessors.specs.Choose.{chosenPlaces}

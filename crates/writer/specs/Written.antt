@@ -5,7 +5,7 @@ use Prim.Native.Nat.{ℕ}
 use mathlib.Core.List.{List, map}
 use Rattle.format.specs.Update.{Operation, Update}
 use Rattle.state.specs.declared.Ledger.{Ledger}
-use Rattle.views.specs.Board.{idAt}
+use Rattle.relations.specs.PlaceTests.{idAt}
 use Rattle.predecessors.specs.Choose.{chosenPlaces}
 
 module _ (l : Ledger) (s : List ℕ) where

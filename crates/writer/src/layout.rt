@@ -8,7 +8,7 @@ ghost use Rattle.format.specs.Update.{idLength, Add, Remove, Insert, Delete, en
 ghost use Rattle.format.specs.Decode.{idsAt};
 ghost use Rattle.format.specs.Parts.{joined};
 ghost use Rattle.state.specs.State.{placeAt};
-ghost use Rattle.report.specs.Text.{Prints};
+ghost use Rattle.printing.specs.Page.{Prints};
 ghost use Rattle.views.specs.Pieces.{placesIn, Sound};
 ghost use Rattle.writer.specs.Operations.{operationFor, badNamed};
 use crate::Kind;
@@ -18,7 +18,7 @@ use format::bounds::ID_LENGTH;
 use format::bounds::INSERT;
 use format::bounds::REMOVE;
 use format::bounds::VERSION;
-use report::page::put;
+use printing::put;
 use state::Ledger;
 use views::Places;
 

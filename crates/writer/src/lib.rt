@@ -3,7 +3,7 @@ ghost use mathlib.Core.Path.{_≡_};
 ghost use mathlib.Core.Bool.{false};
 ghost use Prim.Native.Nat.{_≤_};
 ghost use Rattle.format.specs.Update.{encode};
-ghost use Rattle.report.specs.Text.{Prints};
+ghost use Rattle.printing.specs.Page.{Prints};
 ghost use Rattle.writer.specs.Written.{writtenAt};
 ghost use Rattle.writer.specs.Operations.{operationFor, badNamed, unorderedNamed};
 

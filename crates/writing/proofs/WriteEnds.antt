@@ -16,7 +16,7 @@ use Rattle.judging.specs.declared.Judgement.{Judgement}
 use Rattle.judging.specs.declared.Judgement.the-variants.{Holds, Fails, Waits}
 use Rattle.judging.specs.Judge.{judgeDecoded}
 use Rattle.state.specs.Stands.{ident, Stands}
-use Rattle.report.specs.Text.{Prints}
+use Rattle.printing.specs.Page.{Prints}
 use Rattle.writer.specs.declared.Kind.{Kind}
 use Rattle.writer.specs.Operations.{operationFor}
 use Rattle.writer.specs.Written.{writtenAt}

@@ -3,8 +3,8 @@ ghost use Rattle.writing.specs.Write.{Writing, WellAsked};
 use format::bounds::MAX_LENGTH;
 use judging::Judgement;
 use judging::judge_bytes;
+use printing::put;
 use refusals::Refusal;
-use report::page::put;
 use state::Ledger;
 use writer::Kind;
 

@@ -2,7 +2,7 @@
 -- Assumes nothing.
 use native.Mathlib.Omega.{arith}
 use denote.Ref.{now}
-use Rattle.report.proofs.Printing.{same-text}
+use Rattle.printing.proofs.Printing.{same-text}
 use Rattle.answers.specs.Answers.{unread}
 use Rattle.answers.proofs.AnswerLaws.{unread-text}
 use Rattle.answers.proofs.BeginLaws.{read-none, offer-spells, offer-begins}

@@ -2,7 +2,7 @@
 -- Assumes nothing.
 use mathlib.Core.Path.{sym, ap, subst}
 use Rattle.offering.specs.Words.{answerText}
-use Rattle.report.proofs.Printing.{same-text}
+use Rattle.printing.proofs.Printing.{same-text}
 use Rattle.answers.specs.Answers.{Printable}
 use borrow.Author.Needs.{needs}
 use Rattle.answers.proofs.print_answer.Statement.{statement}

@@ -3,7 +3,7 @@
 use mathlib.Core.Path.{sym, subst}
 use Prim.Native.Nat.{ℕ, _<_}
 use native.Mathlib.Omega.{arith}
-use Rattle.report.proofs.Printing.{both, same-text}
+use Rattle.printing.proofs.Printing.{both, same-text}
 use Rattle.answers.proofs.AnswerLaws.{refused-text, refusal-small}
 use borrow.Author.Needs.{needs}
 use Rattle.answers.proofs.print_refused.Statement.{statement}

@@ -1,7 +1,7 @@
 -- `print_standing` meets its contract, by the standing.
 -- Assumes nothing.
 use native.Mathlib.Omega.{arith}
-use Rattle.report.proofs.Printing.{same-text}
+use Rattle.printing.proofs.Printing.{same-text}
 use Rattle.answers.proofs.AnswerLaws.{word-is}
 use borrow.Author.Needs.{needs}
 use Rattle.answers.proofs.print_standing.Statement.{statement}

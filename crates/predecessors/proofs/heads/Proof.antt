@@ -7,7 +7,7 @@ use native.Mathlib.Omega.{arith}
 use borrow.Author.Needs.{needs}
 use denote.Ref.{now}
 use Rattle.keys.specs.Member.{keep}
-use Rattle.views.specs.Board.{headAt}
+use Rattle.relations.specs.PlaceTests.{headAt}
 use Rattle.views.specs.Pieces.{placesIn, Lists}
 use Rattle.views.proofs.Inserting.{renamed, below}
 use Rattle.views.proofs.Sorting.{sorted-ids}

@@ -4,10 +4,10 @@ use mathlib.Core.Path.{_∙_}
 use native.Mathlib.Omega.{arith}
 use borrow.Author.Needs.{needs}
 use denote.Ref.{now}
-use Rattle.views.specs.Board.{headAt}
+use Rattle.relations.specs.PlaceTests.{headAt}
 use Rattle.views.specs.Pieces.{placesIn}
 use Rattle.views.proofs.Inserting.{renamed, ins-end}
-use Rattle.views.proofs.Testing.{keep-yes, keep-nothing}
+use Rattle.views.proofs.Keeping.{keep-yes, keep-nothing}
 use Rattle.predecessors.proofs.with_head.Statement.{statement}
 use Rattle.predecessors.proofs.with_head.Tie as tie
 

@@ -2,9 +2,9 @@
 -- Assumes nothing.
 use borrow.Author.Needs.{needs}
 use denote.Ref.{now}
-use Rattle.report.proofs.Printing.{both, same-text}
+use Rattle.printing.proofs.Printing.{both, same-text}
 use Rattle.views.proofs.Inserting.{renamed}
-use Rattle.report.proofs.Wording.{text-is}
+use Rattle.report.proofs.TextLaws.{text-is}
 use Rattle.views.proofs.Sorting.{sorted-ids}
 use Rattle.report.proofs.print.Statement.{statement}
 use Rattle.report.proofs.print.Tie as tie

@@ -5,9 +5,9 @@ use native.Mathlib.Omega.{arith}
 use borrow.Author.Needs.{needs}
 use denote.Ref.{now}
 use Rattle.report.specs.Parts.{partOf}
-use Rattle.report.proofs.Printing.{both, same-text}
-use Rattle.report.proofs.Wording.{standings-is}
-use Rattle.report.specs.declared.Part.the-variants.{Held, Heads, Waiting, Void}
+use Rattle.printing.proofs.Printing.{both, same-text}
+use Rattle.report.proofs.TextLaws.{standings-is}
+use Rattle.wording.specs.declared.Part.the-variants.{Held, Heads, Waiting, Void}
 use Rattle.report.proofs.print_standings.Statement.{statement}
 use Rattle.report.proofs.print_standings.Tie as tie
 

@@ -3,7 +3,7 @@
 use native.Mathlib.Omega.{arith}
 use borrow.Author.Needs.{needs}
 use denote.Ref.{now}
-use Rattle.report.proofs.Printing.{both, same-text}
+use Rattle.printing.proofs.Printing.{both, same-text}
 use Rattle.writer.specs.Operations.{operationFor}
 use Rattle.writer.proofs.Laying.{update-bytes}
 use Rattle.writer.proofs.compose.Statement.{statement}

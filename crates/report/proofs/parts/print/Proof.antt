@@ -4,8 +4,8 @@ use native.Mathlib.Omega.{arith}
 use borrow.Author.Needs.{needs}
 use denote.Ref.{now}
 use Rattle.views.specs.Pieces.{placesIn}
-use Rattle.report.proofs.Printing.{both, same-text}
-use Rattle.report.proofs.Wording.{part-is}
+use Rattle.printing.proofs.Printing.{both, same-text}
+use Rattle.report.proofs.TextLaws.{part-is}
 use Rattle.report.proofs.parts.print.Statement.{statement}
 use Rattle.report.proofs.parts.print.Tie as tie
 

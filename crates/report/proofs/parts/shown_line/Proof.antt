@@ -6,8 +6,8 @@ use mathlib.Core.Bool.{Bool, cond}
 use borrow.Author.Needs.{needs}
 use denote.Ref.{now}
 use Rattle.report.specs.Parts.{lineOf}
-use Rattle.report.proofs.Printing.{nothing, same-text}
-use Rattle.report.proofs.Wording.{line-of}
+use Rattle.printing.proofs.Printing.{nothing, same-text}
+use Rattle.report.proofs.TextLaws.{line-of}
 use Rattle.report.proofs.parts.shown_line.Statement.{statement}
 use Rattle.report.proofs.parts.shown_line.Tie as tie
 

@@ -3,9 +3,9 @@
 use mathlib.Core.Path.{sym, ap, _∙_}
 use borrow.Author.Needs.{needs}
 use denote.Ref.{now}
-use Rattle.report.specs.declared.Part.{Part}
+use Rattle.wording.specs.declared.Part.{Part}
 use Rattle.report.specs.Parts.{passes}
-use Rattle.views.proofs.Testing.{held-is, waiting-is, void-is}
+use Rattle.relations.proofs.Testing.{held-is, waiting-is, void-is}
 use Rattle.report.proofs.parts.shows.Statement.{statement}
 use Rattle.report.proofs.parts.shows.Tie as tie
 
@@ -20,11 +20,7 @@ shows-spec =
     (λ c. search needs)
     (λ c κs. search needs)
     (λ c. search needs)
-    (λ c. search needs)
-    (λ c. search needs)
     (λ c κs. search needs)
-    (λ c. search needs)
-    (λ c. search needs)
     (λ c. search needs)
     (λ c κs. search needs)
     (λ c. search needs)
@@ -33,22 +29,18 @@ shows-spec =
     (λ c κs. search needs)
     (λ c.
     let args = c .before .before .before .before .before .args in
-    held-is (args .t1) (now (args .store)) (args .k) (c .has-standing .ensures) ∙ ap (λ (p : Part). passes (args .t1) (now (args .store)) p (args .k)) (sym (c .before .before .enum-told .given .1)))
+    held-is (args .t1) (now (args .store)) (args .k) (c .has-standing .ensures) ∙ ap (λ (p : Part). passes (args .t1) (now (args .store)) p (args .k)) (sym (c .before .enum-told .given .1)))
     (λ c.
-    let args = c .before .before .before .before .args in
+    let args = c .before .before .before .before .before .args in
     c .is-head .ensures ∙ ap (λ (p : Part). passes (args .t1) (now (args .store)) p (args .k)) (sym (c .before .enum-told2 .given .1)))
     (λ c.
     let args = c .before .before .before .before .before .args in
-    waiting-is (args .t1) (now (args .store)) (args .k) (c .has-standing2 .ensures) ∙ ap (λ (p : Part). passes (args .t1) (now (args .store)) p (args .k)) (sym (c .before .before .enum-told3 .given .1)))
+    waiting-is (args .t1) (now (args .store)) (args .k) (c .has-standing2 .ensures) ∙ ap (λ (p : Part). passes (args .t1) (now (args .store)) p (args .k)) (sym (c .before .enum-told3 .given .1)))
     (λ c.
     let args = c .before .before .before .before .before .args in
-    void-is (args .t1) (now (args .store)) (args .k) (c .has-standing3 .ensures) ∙ ap (λ (p : Part). passes (args .t1) (now (args .store)) p (args .k)) (sym (c .before .before .enum-told4 .given .1)))
+    void-is (args .t1) (now (args .store)) (args .k) (c .has-standing3 .ensures) ∙ ap (λ (p : Part). passes (args .t1) (now (args .store)) p (args .k)) (sym (c .before .enum-told4 .given .1)))
+    (λ c. search needs)
+    (λ c. search needs)
     (λ c.
-    let args = c .before .before .before .args in
-    ap (λ (p : Part). passes (args .t1) (now (args .store)) p (args .k)) (sym (c .enum-told5 .given .1)))
-    (λ c.
-    let args = c .before .before .before .args in
-    ap (λ (p : Part). passes (args .t1) (now (args .store)) p (args .k)) (sym (c .enum-told6 .given .1)))
-    (λ c.
-    let args = c .before .before .before .before .args in
+    let args = c .before .before .before .before .before .args in
     c .is-shown .ensures ∙ ap (λ (p : Part). passes (args .t1) (now (args .store)) p (args .k)) (sym (c .before .enum-told7 .given .1))))

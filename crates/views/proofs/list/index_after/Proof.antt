@@ -1,8 +1,8 @@
 -- `index_after` meets its contract. The loop's invariant: the place goes among the entries from the i-th on.
 -- Assumes nothing.
-use Prim.Native.Nat.{_-_, _≤_}
+use Prim.Native.Nat.{ℕ, _-_, _≤_}
 use mathlib.Core.Path.{_≡_, refl, sym, _∙_}
-use mathlib.Core.List.{_++_}
+use mathlib.Core.List.{List, _++_}
 use native.Mathlib.Omega.{arith}
 use borrow.Author.Needs.{needs}
 use lib.ListN.{getD, take, drop}
@@ -15,12 +15,12 @@ use Rattle.views.proofs.list.index_after.Statement.{statement}
 use Rattle.views.proofs.list.index_after.Tie as tie
 
 abbrev Inv-loop : tie.InvT-loop
-Inv-loop store id k l entries count i₀ i =
+Inv-loop id l entries count i₀ i =
     (i ≤ count)
-    × (after l store id k (placesIn entries) ≡ take i (placesIn entries) ++ after l store id k (drop i (placesIn entries)))
+    × ((s : List ℕ) (k : ℕ) → after l s id k (placesIn entries) ≡ take i (placesIn entries) ++ after l s id k (drop i (placesIn entries)))
 
 abbrev μ-loop : tie.MeasureT-loop
-μ-loop store id k l entries count i₀ i = count - i
+μ-loop id l entries count i₀ i = count - i
 
 pub index-after-spec : {M : Type 1} → statement M
 index-after-spec =
@@ -28,36 +28,36 @@ index-after-spec =
     (tie.spec
     Inv-loop
     μ-loop
-    (λ c. (search needs, refl))
+    (λ c. (search needs, λ s k. refl))
     (λ c. search needs)
     (λ c. search needs)
     (λ c.
-    let args = c .before .before .before .before .before .args in
-    let pre = c .before .before .before .before .before .pre in
-    omega (arith, below (args .t3) pre (c .before .before .loop .i) (search needs)))
+    let args = c .before .before .before .before .args in
+    let pre = c .before .before .before .before .pre in
+    omega (arith, below (args .t2) pre (c .before .before .loop .i) (search needs)))
     (λ c.
-    let args = c .before .before .before .before .before .args in
-    let pre = c .before .before .before .before .before .pre in
-    omega (arith, below (args .t3) pre (c .before .before .loop .i) (search needs)))
+    let args = c .before .before .before .before .args in
+    let pre = c .before .before .before .before .pre in
+    omega (arith, below (args .t2) pre (c .before .before .loop .i) (search needs)))
     (λ c κs. search needs)
     (λ c. search needs)
     (λ c.
-    let args = c .before .before .before .before .before .before .before .before .args in
+    let args = c .before .before .before .before .before .before .before .args in
     let loop = c .before .before .before .before .before .loop in
-    let pre = c .before .before .before .before .before .before .before .before .pre in
-    let e = getD (args .t3 .items) (loop .i) 0 in
-    (search needs, after-here (args .t1) (now (args .store)) (now (args .id)) (args .k) (placesIn (args .t3)) (loop .i) e (loop .inv .1) (next (args .t3) pre (loop .i) (search needs)) (passed (args .t3) pre (loop .i) (search needs)) (sym (c .before .has-id .ensures) ∙ c .if1 .taken)))
+    let pre = c .before .before .before .before .before .before .before .pre in
+    let e = getD (args .t2 .items) (loop .i) 0 in
+    (search needs, λ s k. after-here (args .t1) s (now (args .id)) k (placesIn (args .t2)) (loop .i) e (loop .inv .1 s k) (next (args .t2) pre (loop .i) (search needs)) (passed (args .t2) pre (loop .i) (search needs)) (sym (c .before .has-id .ensures) ∙ c .if1 .taken)))
     (λ c. search needs)
     (λ c. search needs)
     (λ c.
-    let args = c .before .before .before .before .before .before .before .before .args in
+    let args = c .before .before .before .before .before .before .before .args in
     let loop = c .before .before .before .before .before .loop in
-    let pre = c .before .before .before .before .before .before .before .before .pre in
-    let e = getD (args .t3 .items) (loop .i) 0 in
-    (search needs, after-later (args .t1) (now (args .store)) (now (args .id)) (args .k) (placesIn (args .t3)) (loop .i) e (loop .inv .1) (next (args .t3) pre (loop .i) (search needs)) (passed (args .t3) pre (loop .i) (search needs)) (sym (c .before .has-id .ensures) ∙ c .if1 .left)))
+    let pre = c .before .before .before .before .before .before .before .pre in
+    let e = getD (args .t2 .items) (loop .i) 0 in
+    (search needs, λ s k. after-later (args .t1) s (now (args .id)) k (placesIn (args .t2)) (loop .i) e (loop .inv .1 s k) (next (args .t2) pre (loop .i) (search needs)) (passed (args .t2) pre (loop .i) (search needs)) (sym (c .before .has-id .ensures) ∙ c .if1 .left)))
     (λ c.
-    let args = c .before .before .before .before .args in
+    let args = c .before .before .before .args in
     let loop = c .before .loop in
-    let pre = c .before .before .before .before .pre in
-    let e = getD (args .t3 .items) (loop .i) 0 in
-    (search needs, after-none (args .t1) (now (args .store)) (now (args .id)) (args .k) (placesIn (args .t3)) (loop .i) e (loop .inv .1) (ended (args .t3) pre (loop .i) (search needs)))))
+    let pre = c .before .before .before .pre in
+    let e = getD (args .t2 .items) (loop .i) 0 in
+    (search needs, λ s k. after-none (args .t1) s (now (args .id)) k (placesIn (args .t2)) (loop .i) e (loop .inv .1 s k) (ended (args .t2) pre (loop .i) (search needs)))))

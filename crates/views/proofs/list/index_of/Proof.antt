@@ -35,4 +35,4 @@ index-of-spec =
     let args = c .before .before .before .before .before .before .before .before .args in
     let anchor-of = c .before .before .before .before .anchor-of in
     let stored = c .before .before .before .before .before .stored in
-    (index-after .ensures .0, index-after .ensures .1 ∙ put-after (args .t1) (now (args .store)) (args .k) (placesIn (args .entries)) (now (anchor-of .result)) (anchor-of .ensures ∙ ap (λ (b : List ℕ). anchorIn (decode b)) (stored .ensures)) (c .before .before .same .ensures) (c .before .if1 .left))))
+    (index-after .ensures .0, index-after .ensures .1 (now (args .store)) (args .k) ∙ put-after (args .t1) (now (args .store)) (args .k) (placesIn (args .entries)) (now (anchor-of .result)) (anchor-of .ensures ∙ ap (λ (b : List ℕ). anchorIn (decode b)) (stored .ensures)) (c .before .before .same .ensures) (c .before .if1 .left))))

@@ -8,8 +8,8 @@ use lib.Dec.{eqb}
 use denote.Ref.{now}
 use Rattle.bits.specs.Below.{anyBelow}
 use Rattle.bits.specs.Bits.{has}
-use Rattle.views.specs.Board.{authorAt, forkedAt}
-use Rattle.views.proofs.Testing.{marked-start, marked-more, marked-end}
+use Rattle.relations.specs.PlaceTests.{authorAt, forkedAt}
+use Rattle.views.proofs.Marking.{marked-start, marked-more, marked-end}
 use Rattle.views.proofs.marks.marked.Statement.{statement}
 use Rattle.views.proofs.marks.marked.Tie as tie
 

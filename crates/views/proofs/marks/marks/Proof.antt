@@ -11,7 +11,8 @@ use Rattle.bits.specs.Below.{upTo}
 use Rattle.bits.specs.Bits.{has}
 use Rattle.views.specs.Pieces.{Lists}
 use Rattle.views.proofs.Inserting.{renamed}
-use Rattle.views.proofs.Testing.{marks-end, upTo-more, upTo-start}
+use Rattle.views.proofs.Marking.{marks-end}
+use Rattle.views.proofs.Keeping.{upTo-more, upTo-start}
 use Rattle.views.proofs.marks.marks.Statement.{statement}
 use Rattle.views.proofs.marks.marks.Tie as tie
 

@@ -8,7 +8,7 @@ use denote.Ref.{now}
 use Rattle.format.specs.Decode.{decode}
 use Rattle.bits.specs.Bits.{including}
 use Rattle.fields.specs.Fields.{authorIn}
-use Rattle.views.proofs.Testing.{author-added, author-kept}
+use Rattle.views.proofs.Marking.{author-added, author-kept}
 use Rattle.views.proofs.marks.with_author.Statement.{statement}
 use Rattle.views.proofs.marks.with_author.Tie as tie
 

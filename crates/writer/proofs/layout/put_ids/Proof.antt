@@ -6,9 +6,9 @@ use mathlib.Core.List.{List}
 use native.Mathlib.Omega.{arith}
 use borrow.Author.Needs.{needs}
 use lib.ListN.{length, getD, drop}
-use Rattle.report.specs.Text.{Prints}
+use Rattle.printing.specs.Page.{Prints}
 use Rattle.views.specs.Pieces.{placesIn}
-use Rattle.report.proofs.Printing.{both, nothing, same-text}
+use Rattle.printing.proofs.Printing.{both, nothing, same-text}
 use Rattle.views.proofs.Inserting.{next, ended, below}
 use Rattle.writer.proofs.Laying.{idsOf, ids-next, ids-end}
 use Rattle.writer.proofs.layout.put_ids.Statement.{statement}

@@ -2,7 +2,7 @@
 -- Assumes nothing.
 use borrow.Author.Needs.{needs}
 use Rattle.format.specs.Update.{encodeOperation}
-use Rattle.report.proofs.Printing.{both}
+use Rattle.printing.proofs.Printing.{both}
 use Rattle.writer.proofs.layout.put_insert.Statement.{statement}
 use Rattle.writer.proofs.layout.put_insert.Tie as tie
 

@@ -3,7 +3,7 @@
 use native.Mathlib.Omega.{arith}
 use borrow.Author.Needs.{needs}
 use denote.Ref.{now}
-use Rattle.report.proofs.Printing.{same-text}
+use Rattle.printing.proofs.Printing.{same-text}
 use Rattle.writer.proofs.Laying.{for-add, for-remove, for-insert, for-delete, good-remove}
 use Rattle.writer.proofs.layout.put_operation.Statement.{statement}
 use Rattle.writer.proofs.layout.put_operation.Tie as tie

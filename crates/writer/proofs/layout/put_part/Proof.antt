@@ -1,7 +1,7 @@
 -- `put_part` meets its contract.
 -- Assumes nothing.
 use borrow.Author.Needs.{needs}
-use Rattle.report.proofs.Printing.{both}
+use Rattle.printing.proofs.Printing.{both}
 use Rattle.writer.proofs.layout.put_part.Statement.{statement}
 use Rattle.writer.proofs.layout.put_part.Tie as tie
 

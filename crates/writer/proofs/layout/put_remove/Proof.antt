@@ -2,7 +2,7 @@
 -- Assumes nothing.
 use borrow.Author.Needs.{needs}
 use denote.Ref.{now}
-use Rattle.report.proofs.Printing.{both, same-text}
+use Rattle.printing.proofs.Printing.{both, same-text}
 use Rattle.writer.proofs.Laying.{remove-bytes}
 use Rattle.writer.proofs.layout.put_remove.Statement.{statement}
 use Rattle.writer.proofs.layout.put_remove.Tie as tie

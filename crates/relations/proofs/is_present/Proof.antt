@@ -1,0 +1,36 @@
+-- `is_present` meets its contract.
+-- Assumes nothing.
+use Prim.Native.Nat.{ℕ}
+use mathlib.Core.Path.{ap, _∙_}
+use mathlib.Core.List.{List}
+use borrow.Author.Needs.{needs}
+use borrow.Author.Tests.{not-true, not-false}
+use denote.Ref.{now}
+use Rattle.format.specs.Decode.{decode}
+use Rattle.fields.specs.Fields.{testOf, isAnyAdd}
+use Rattle.relations.proofs.Testing.{present-none, present-other, present-add}
+use Rattle.relations.proofs.is_present.Statement.{statement}
+use Rattle.relations.proofs.is_present.Tie as tie
+
+pub is-present-spec : {M : Type 1} → statement M
+is-present-spec =
+    tie.close
+    (tie.spec
+    (λ c. search needs)
+    (λ c. search needs)
+    (λ c κs. search needs)
+    (λ c.
+    let args = c .before .before .before .before .args in
+    present-none (args .t1) (now (args .store)) (args .k) (c .before .has-standing .ensures) (not-true _ (c .if1 .taken)))
+    (λ c κs. search needs)
+    (λ c κs. search needs)
+    (λ c κs. search needs)
+    (λ c.
+    let args = c .before .before .before .before .before .before .before .before .args in
+    let standing = c .before .before .before .before .before .has-standing in
+    let if1 = c .before .before .before .before .if1 in
+    present-add (args .t1) (now (args .store)) (args .k) (standing .ensures) (not-false _ (if1 .left)) (c .before .before .is-add .ensures ∙ ap (λ (b : List ℕ). testOf isAnyAdd (decode b)) (c .before .before .before .stored .ensures)) (c .before .if2 .taken) (c .some-held .ensures))
+    (λ c.
+    let args = c .before .before .before .before .before .before .before .args in
+    let standing = c .before .before .before .before .has-standing in
+    present-other (args .t1) (now (args .store)) (args .k) (standing .ensures) (not-false _ (c .before .before .before .if1 .left)) (c .before .is-add .ensures ∙ ap (λ (b : List ℕ). testOf isAnyAdd (decode b)) (c .before .before .stored .ensures)) (c .if2 .left)))

@@ -1,0 +1,2 @@
+pub mod PlaceTests
+pub mod Related

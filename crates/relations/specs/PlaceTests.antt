@@ -1,0 +1,64 @@
+-- What a ledger and its store say of one place, for every ledger: its standing, whether it is a head, whether it marks its author, and whether the set or the
+-- list shows it.
+-- Assumes nothing.
+use Prim.Native.Nat.{ℕ}
+use mathlib.Core.List.{List}
+use mathlib.Core.Bool.{Bool, not, _&&_}
+use lib.Dec.{eqb}
+use Rattle.format.specs.Update.{Id}
+use Rattle.format.specs.Decode.{Decoded, decode}
+use Rattle.rules.specs.Settle.{names, deletes}
+use Rattle.bits.specs.Below.{anyBelow}
+use Rattle.bits.specs.Bits.{has}
+use Rattle.state.specs.declared.Ledger.{Ledger}
+use Rattle.state.specs.State.{placeAt, storedAt, isHeld, isWaiting, isVoid}
+use Rattle.fields.specs.Fields.{testOf, authorIn, isAnyAdd}
+
+module _ (l : Ledger) (s : List ℕ) where
+  abbrev pub idAt : ℕ → Id
+  idAt k = placeAt l k .id
+
+  abbrev pub decodedAt : ℕ → Decoded
+  decodedAt k = decode (storedAt l s k)
+
+  unfoldable pub heldAt : ℕ → Bool
+  heldAt k = isHeld (placeAt l k .standing)
+
+  unfoldable pub waitingAt : ℕ → Bool
+  waitingAt k = isWaiting (placeAt l k .standing)
+
+  unfoldable pub voidAt : ℕ → Bool
+  voidAt k = isVoid (placeAt l k .standing)
+
+  unfoldable pub authorAt : ℕ → ℕ
+  authorAt k = authorIn (decodedAt k)
+
+  -- heads
+  unfoldable pub coveredAt : ℕ → Bool
+  coveredAt k = anyBelow (l .used) (λ (q : ℕ). heldAt q && has (placeAt l q .ancestors) k)
+
+  unfoldable pub headAt : ℕ → Bool
+  headAt k = heldAt k && not (coveredAt k)
+
+  -- marks: q is another held place of r's author, neither an ancestor of the other
+  unfoldable pub forkedWith : ℕ → ℕ → Bool
+  forkedWith r q =
+      heldAt q && (eqb (authorAt r) (authorAt q)
+      && (not (eqb r q) && (not (has (placeAt l q .ancestors) r) && not (has (placeAt l r .ancestors) q))))
+
+  unfoldable pub forkedAt : ℕ → Bool
+  forkedAt r = heldAt r && anyBelow (l .used) (forkedWith r)
+
+  -- the set: an Add that no held Remove names
+  unfoldable pub removedAt : Id → Bool
+  removedAt i = anyBelow (l .used) (λ (q : ℕ). heldAt q && testOf (names i) (decodedAt q))
+
+  unfoldable pub presentAt : ℕ → Bool
+  presentAt k = heldAt k && (testOf isAnyAdd (decodedAt k) && not (removedAt (idAt k)))
+
+  -- the list: an entry that no held Delete names
+  unfoldable pub deletedAt : Id → Bool
+  deletedAt i = anyBelow (l .used) (λ (q : ℕ). heldAt q && testOf (deletes i) (decodedAt q))
+
+  unfoldable pub shownAt : ℕ → Bool
+  shownAt k = not (deletedAt (idAt k))

@@ -1,0 +1,123 @@
+// The words and the lines of the report, printed on a page that the caller lends.
+ghost use mathlib.Core.Path.{_≡_};
+ghost use Prim.Native.Nat.{_+_, _≤_, _<_};
+ghost use lib.ListN.{length, take};
+ghost use mathlib.Core.List.{_++_};
+ghost use Rattle.format.specs.Decode.{decode};
+ghost use Rattle.rules.specs.Report.{ascii, hex, bytesLine, markLine};
+ghost use Rattle.printing.specs.Page.{Prints, farthest};
+ghost use Rattle.wording.specs.Lines.{wordOf, updateLineBy, lineBy};
+use printing::digits;
+use printing::put;
+
+// The parts of the report.
+pub enum Part {
+    Held,
+    Heads,
+    Waiting,
+    Void,
+    Marks,
+    Set,
+    List,
+}
+
+// The first line of a part, and spaces up to the longest one.
+fn padded_word(part: Part) -> [u8; 9]
+    ensures { λ r. ⌜ take (length (wordOf part)) r ≡ wordOf part ⌝ }
+{
+    match part {
+        Part::Held => *b"(held\n   ",
+        Part::Heads => *b"(heads\n  ",
+        Part::Waiting => *b"(waiting\n",
+        Part::Void => *b"(void\n   ",
+        Part::Marks => *b"(marks\n  ",
+        Part::Set => *b"(set\n    ",
+        Part::List => *b"(list\n   ",
+    }
+}
+
+// The length of that line.
+fn word_length(part: Part) -> usize
+    ensures { λ r. ⌜ (r ≡ length (wordOf part)) × (r ≤ 9) ⌝ }
+{
+    match part {
+        Part::Held => 6,
+        Part::Heads => 7,
+        Part::Waiting => 9,
+        Part::Void => 6,
+        Part::Marks => 7,
+        Part::Set => 5,
+        Part::List => 6,
+    }
+}
+
+// Prints the first line of a part.
+pub fn word(part: Part, page: &mut [u8], at: usize) -> usize
+    requires { ⌜ at ≤ farthest ⌝ }
+    ensures prints { λ r. ⌜ Prints (now (page .entry)) at (wordOf part) (now (page .exit)) r ⌝ }
+    ensures small { λ r. ⌜ r ≤ at + 10 ⌝ }
+{
+    let padded = padded_word(part);
+    let length = word_length(part);
+    put(page, at, &padded[..length])
+}
+
+// A line of bytes.
+fn bytes_line(bytes: &[u8], page: &mut [u8], at: usize) -> usize
+    requires { ⌜ (at + 100 ≤ farthest) × (length (now bytes) ≤ 32) ⌝ }
+    ensures prints { λ r. ⌜ Prints (now (page .entry)) at (bytesLine (now (bytes .entry))) (now (page .exit)) r ⌝ }
+    ensures small { λ r. ⌜ r ≤ at + 100 ⌝ }
+{
+    let opened = put(page, at, b"(");
+    let shown = digits::hex(page, opened, bytes);
+    put(page, shown, b")\n")
+}
+
+// The opening bracket and the id.
+fn open_id(id: &[u8], page: &mut [u8], at: usize) -> usize
+    requires { ⌜ (at + 100 ≤ farthest) × (length (now id) ≤ 32) ⌝ }
+    ensures prints { λ r. ⌜ Prints (now (page .entry)) at (ascii "(" ++ hex (now (id .entry))) (now (page .exit)) r ⌝ }
+    ensures small { λ r. ⌜ r ≤ at + 65 ⌝ }
+{
+    let opened = put(page, at, b"(");
+    digits::hex(page, opened, id)
+}
+
+// The id and the author of an update's bytes.
+fn update_line(id: &[u8], b: &[u8], page: &mut [u8], at: usize) -> usize
+    requires { ⌜ (at + 100 ≤ farthest) × (length (now id) ≤ 32) ⌝ }
+    ensures prints { λ r. ⌜ Prints (now (page .entry)) at (updateLineBy (now (id .entry)) (decode (now (b .entry)))) (now (page .exit)) r ⌝ }
+    ensures small { λ r. ⌜ r ≤ at + 100 ⌝ }
+{
+    let author = fields::author_of(b);
+    let identified = open_id(id, page, at);
+    let spaced = put(page, identified, b" ");
+    let named = digits::decimal(page, spaced, author);
+    put(page, named, b")\n")
+}
+
+// A marked author.
+fn mark_line(author: usize, page: &mut [u8], at: usize) -> usize
+    requires { ⌜ (at + 100 ≤ farthest) × (author < 64) ⌝ }
+    ensures prints { λ r. ⌜ Prints (now (page .entry)) at (markLine author) (now (page .exit)) r ⌝ }
+    ensures small { λ r. ⌜ r ≤ at + 100 ⌝ }
+{
+    let opened = put(page, at, b"(");
+    let named = digits::decimal(page, opened, author as u8);
+    put(page, named, b")\n")
+}
+
+// The line in a part of an update with this id and these bytes, or of author k.
+pub fn line_by(id: &[u8], b: &[u8], part: Part, k: usize, page: &mut [u8], at: usize) -> usize
+    requires { ⌜ (at + 100 ≤ farthest) × (length (now id) ≤ 32) × (k < 64) ⌝ }
+    ensures prints { λ r. ⌜ Prints (now (page .entry)) at (lineBy part (now (id .entry)) (decode (now (b .entry))) k) (now (page .exit)) r ⌝ }
+    ensures small { λ r. ⌜ r ≤ at + 100 ⌝ }
+{
+    match part {
+        Part::Held | Part::Waiting | Part::Void => update_line(id, b, page, at),
+        Part::Heads => bytes_line(id, page, at),
+        Part::Marks => mark_line(k, page, at),
+        Part::Set => bytes_line(fields::tag_of(b), page, at),
+        Part::List => bytes_line(fields::value_of(b), page, at),
+    }
+}
