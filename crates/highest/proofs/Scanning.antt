@@ -18,7 +18,7 @@ use Rattle.state.specs.declared.Found.the-variants.{At, Nowhere}
 use Rattle.state.specs.declared.Standing.{Standing}
 use Rattle.state.specs.declared.Standing.the-variants.{Held, Waiting, Void}
 use Rattle.state.specs.State.{placeAt, foundOf, isHeld}
-use Rattle.views.specs.Board.{idAt, decodedAt, heldAt, authorAt, rankAt}
+use Rattle.relations.specs.PlaceTests.{idAt, decodedAt, heldAt, authorAt, rankAt}
 use Rattle.highest.specs.Top.{ownAt, higher, betterThan, topBelow}
 
 -- the author's own held places

@@ -8,7 +8,7 @@ use mathlib.Core.Bool.{Bool, true, cond, _&&_, _||_}
 use lib.Dec.{ltb, eqb}
 use Rattle.keys.specs.Order.{before}
 use Rattle.state.specs.declared.Ledger.{Ledger}
-use Rattle.views.specs.Board.{idAt, heldAt, authorAt, rankAt}
+use Rattle.relations.specs.PlaceTests.{idAt, heldAt, authorAt, rankAt}
 
 module _ (l : Ledger) (s : List ℕ) where
   -- the held place k is the author's

@@ -13,7 +13,7 @@ use lib.Dec.{eqb}
 use Rattle.keys.specs.Order.{before}
 use Rattle.keys.specs.Member.{_∈_, keep}
 use Rattle.keys.specs.Sort.{sort}
-use Rattle.keys.specs.BoolLaws.{true-false, not-true→false, and-true→, and-true}
+use Rattle.keys.specs.BoolLaws.{true-false, not-true→false, and-true→, and-true, and-agrees}
 use Rattle.keys.specs.OrderLaws.{before-irrefl, before-trans}
 use Rattle.keys.specs.MemberLaws.{∈-cast, ∈-map, map-∈, ∈-keep, keep-∈, keep-none, member→∈, ∈→member}
 use Rattle.keys.specs.DistinctLaws.{distinct-keep, distinct-keys, distinct-same-length}
@@ -32,11 +32,9 @@ use Rattle.bits.specs.BitsLaws.{count-within}
 use Rattle.state.specs.declared.Ledger.{Ledger}
 use Rattle.state.specs.State.{placeAt}
 use Rattle.state.specs.Stands.{ident, Stands}
-use Rattle.relations.specs.PlaceTests.{idAt, heldAt, authorAt}
-use Rattle.views.specs.Board.{rankAt, order}
-use Rattle.views.specs.ListFacts.{and-agrees}
-use Rattle.views.specs.PlaceLaws.{from-used, to-used, places-distinct}
-use Rattle.views.specs.RowLaws.{rowAt, row-id, order-∈, ∈-order, table-rows, held-agrees, author-agrees, above-agrees}
+use Rattle.relations.specs.PlaceTests.{idAt, heldAt, authorAt, rankAt, order}
+use Rattle.relations.specs.PlaceLaws.{from-used, to-used, places-distinct}
+use Rattle.relations.specs.RowLaws.{rowAt, row-id, order-∈, ∈-order, table-rows, held-agrees, author-agrees, above-agrees}
 use Rattle.highest.specs.Top.{ownAt, higher, betterThan, topBelow}
 
 module _ (l : Ledger) (s : List ℕ) where

@@ -1,5 +1,5 @@
 -- Tests by cases. Assumes nothing.
-use mathlib.Core.Path.{_≡_, refl, sym, _∙_}
+use mathlib.Core.Path.{_≡_, refl, sym, _∙_, ap}
 use mathlib.Core.Logic.{_⊎_, inl, inr}
 use mathlib.Core.Bool.{Bool, true, false, _&&_, _||_, true≢false, false≢true}
 
@@ -43,3 +43,12 @@ and-true→ false b e = absurd (false≢true e)
 pub and-true : (a b : Bool) → a ≡ true → b ≡ true → (a && b) ≡ true
 and-true true b p q = q
 and-true false b p q = absurd (false≢true p)
+
+-- both tests agree, the second where the first passes
+pub and-agrees : (a : Bool) {a′ b b′ : Bool} → a ≡ a′ → (a′ ≡ true → b ≡ b′) → (a && b) ≡ (a′ && b′)
+and-agrees true {a′} {b} {b′} e h = step a′ e h
+  where
+    step : (c : Bool) → true ≡ c → (c ≡ true → b ≡ b′) → b ≡ (c && b′)
+    step true p g = g refl
+    step false p g = absurd (false≢true (sym p))
+and-agrees false {a′} {b} {b′} e h = ap (λ (c : Bool). c && b′) e

@@ -21,8 +21,7 @@ use Rattle.state.specs.declared.Found.the-variants.{At, Nowhere}
 use Rattle.state.specs.State.{placeAt, foundOf}
 use Rattle.state.proofs.FindLaws.{found-at}
 use Rattle.views.specs.declared.Places.{Places}
-use Rattle.relations.specs.PlaceTests.{headAt}
-use Rattle.views.specs.Board.{order}
+use Rattle.relations.specs.PlaceTests.{headAt, order}
 use Rattle.views.specs.Pieces.{placesIn, ins, small, Sound, Lists}
 use Rattle.views.proofs.Inserting.{length-is, passed, ins-end}
 use Rattle.highest.specs.Top.{topBelow}

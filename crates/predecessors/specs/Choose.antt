@@ -13,8 +13,7 @@ use Rattle.bits.specs.Below.{firstBelow}
 use Rattle.bits.specs.Bits.{has}
 use Rattle.state.specs.declared.Ledger.{Ledger}
 use Rattle.state.specs.State.{placeAt}
-use Rattle.relations.specs.PlaceTests.{headAt}
-use Rattle.views.specs.Board.{order}
+use Rattle.relations.specs.PlaceTests.{headAt, order}
 use Rattle.highest.specs.Top.{topBelow}
 
 module _ (l : Ledger) (s : List ℕ) where

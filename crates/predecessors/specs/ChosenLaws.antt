@@ -26,9 +26,8 @@ use Rattle.bits.specs.Bits.{has}
 use Rattle.state.specs.declared.Ledger.{Ledger}
 use Rattle.state.specs.State.{placeAt}
 use Rattle.state.specs.Stands.{ident, Stands}
-use Rattle.relations.specs.PlaceTests.{idAt, heldAt, coveredAt, headAt}
-use Rattle.views.specs.Board.{order}
-use Rattle.views.specs.RowLaws.{rowAt, row-id, order-∈, order-ascending, table-rows, above-agrees, head-agrees, same-agrees}
+use Rattle.relations.specs.PlaceTests.{idAt, heldAt, coveredAt, headAt, order}
+use Rattle.relations.specs.RowLaws.{rowAt, row-id, order-∈, order-ascending, table-rows, above-agrees, head-agrees, same-agrees}
 use Rattle.highest.specs.Top.{topBelow}
 use Rattle.highest.specs.TopLaws.{RankedBy, top-right}
 use Rattle.predecessors.specs.Choose.{headsOf, aboveAt, eightWith, eightFor, chosenPlaces}

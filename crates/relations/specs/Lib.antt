@@ -1,2 +1,4 @@
 pub mod PlaceTests
 pub mod Related
+pub mod PlaceLaws
+pub mod RowLaws

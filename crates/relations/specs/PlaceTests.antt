@@ -1,15 +1,16 @@
--- What a ledger and its store say of one place, for every ledger: its standing, whether it is a head, whether it marks its author, and whether the set or the
--- list shows it.
+-- What a ledger and its store say of its places, for every ledger: their order; and of one its standing, its rank, whether it is a head, whether it marks its
+-- author, and whether the set or the list shows it.
 -- Assumes nothing.
 use Prim.Native.Nat.{ℕ}
 use mathlib.Core.List.{List}
 use mathlib.Core.Bool.{Bool, not, _&&_}
 use lib.Dec.{eqb}
+use Rattle.keys.specs.Sort.{sort}
 use Rattle.format.specs.Update.{Id}
 use Rattle.format.specs.Decode.{Decoded, decode}
 use Rattle.rules.specs.Settle.{names, deletes}
-use Rattle.bits.specs.Below.{anyBelow}
-use Rattle.bits.specs.Bits.{has}
+use Rattle.bits.specs.Below.{anyBelow, upTo}
+use Rattle.bits.specs.Bits.{has, count}
 use Rattle.state.specs.declared.Ledger.{Ledger}
 use Rattle.state.specs.State.{placeAt, storedAt, isHeld, isWaiting, isVoid}
 use Rattle.fields.specs.Fields.{testOf, authorIn, isAnyAdd}
@@ -32,6 +33,13 @@ module _ (l : Ledger) (s : List ℕ) where
 
   unfoldable pub authorAt : ℕ → ℕ
   authorAt k = authorIn (decodedAt k)
+
+  unfoldable pub rankAt : ℕ → ℕ
+  rankAt k = count (placeAt l k .ancestors)
+
+  -- the taken places, ascending by id
+  unfoldable pub order : List ℕ
+  order = sort idAt (upTo (l .used))
 
   -- heads
   unfoldable pub coveredAt : ℕ → Bool

@@ -11,8 +11,8 @@ use Rattle.rules.specs.Report.{codes, ascii, bytesLine, markLine, part}
 use Rattle.state.specs.declared.Ledger.{Ledger}
 use Rattle.wording.specs.declared.Part.{Part}
 use Rattle.wording.specs.declared.Part.the-variants.{Held, Heads, Waiting, Void, Marks, Set, List as Entries}
-use Rattle.relations.specs.PlaceTests.{idAt, decodedAt, authorAt}
-use Rattle.views.specs.Board.{order, marksOf, tagAt, tagOrder, entriesOf, valueAt}
+use Rattle.relations.specs.PlaceTests.{idAt, decodedAt, authorAt, order}
+use Rattle.views.specs.Board.{marksOf, tagAt, tagOrder, entriesOf, valueAt}
 use Rattle.report.specs.Text.{updateLineAt, textOf}
 use Rattle.wording.specs.Lines.{wordOf, lineBy}
 use Rattle.report.specs.Parts.{passes, lineOf, linesOf, partOf, standings, readOffs}

@@ -11,13 +11,13 @@ use Rattle.rules.specs.Settle.{Row, Table, isHeld, isWaiting, isVoid, heldRow, 
 use Rattle.rules.specs.Report.{ascii, hex, decimal, updateLine, idLine, bytesLine}
 use Rattle.state.specs.declared.Ledger.{Ledger}
 use Rattle.state.specs.Stands.{ident, Stands}
-use Rattle.relations.specs.PlaceTests.{idAt, heldAt, waitingAt, voidAt, headAt, shownAt}
-use Rattle.views.specs.Board.{order, tagAt, tagOrder, entriesOf, valueAt}
+use Rattle.relations.specs.PlaceTests.{idAt, heldAt, waitingAt, voidAt, headAt, shownAt, order}
+use Rattle.views.specs.Board.{tagAt, tagOrder, entriesOf, valueAt}
 use Rattle.report.specs.Text.{updateLineAt}
 use Rattle.views.specs.ListFacts.{concatMap-map, concatMap-keep-map}
 use Rattle.views.specs.BoardLaws.{tags-agree}
 use Rattle.views.specs.ListedLaws.{values-agree}
-use Rattle.views.specs.RowLaws.{rowAt, row-id, order-∈, table-rows, held-agrees, waiting-agrees, void-agrees, author-agrees, head-agrees}
+use Rattle.relations.specs.RowLaws.{rowAt, row-id, order-∈, table-rows, held-agrees, waiting-agrees, void-agrees, author-agrees, head-agrees}
 
 module _ {l : Ledger} {s : List ℕ} {us : List Update} (stands : Stands l s us) where
   -- the lines of the rows that pass a test

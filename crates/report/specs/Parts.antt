@@ -6,8 +6,8 @@ use mathlib.Core.Bool.{Bool, true}
 use Rattle.keys.specs.Member.{keep, concatMap}
 use Rattle.rules.specs.Report.{ascii, bytesLine, markLine}
 use Rattle.state.specs.declared.Ledger.{Ledger}
-use Rattle.relations.specs.PlaceTests.{idAt, heldAt, waitingAt, voidAt, headAt, shownAt}
-use Rattle.views.specs.Board.{order, marksOf, tagAt, tagOrder, entriesOf, valueAt}
+use Rattle.relations.specs.PlaceTests.{idAt, heldAt, waitingAt, voidAt, headAt, shownAt, order}
+use Rattle.views.specs.Board.{marksOf, tagAt, tagOrder, entriesOf, valueAt}
 use Rattle.wording.specs.declared.Part.{Part}
 use Rattle.wording.specs.declared.Part.the-variants.{Held, Heads, Waiting, Void, Marks, Set, List as Entries}
 use Rattle.wording.specs.Lines.{wordOf}

@@ -5,8 +5,8 @@ use mathlib.Core.List.{List, _++_}
 use Rattle.keys.specs.Member.{keep}
 use Rattle.rules.specs.Report.{ascii, hex, decimal, bytesLine, markLine, part}
 use Rattle.state.specs.declared.Ledger.{Ledger}
-use Rattle.relations.specs.PlaceTests.{idAt, authorAt, heldAt, waitingAt, voidAt, headAt, shownAt}
-use Rattle.views.specs.Board.{order, marksOf, tagOrder, tagAt, entriesOf, valueAt}
+use Rattle.relations.specs.PlaceTests.{idAt, authorAt, heldAt, waitingAt, voidAt, headAt, shownAt, order}
+use Rattle.views.specs.Board.{marksOf, tagOrder, tagAt, entriesOf, valueAt}
 
 module _ (l : Ledger) (s : List ℕ) where
   unfoldable pub updateLineAt : ℕ → List ℕ

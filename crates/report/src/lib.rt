@@ -4,7 +4,7 @@ ghost use Rattle.report.specs.Text.{textOf};
 ghost use Rattle.printing.specs.Page.{Prints};
 ghost use Rattle.views.specs.Pieces.{Lists};
 ghost use Rattle.report.specs.Parts.{standings, readOffs};
-ghost use Rattle.views.specs.Board.{order as orderOf};
+ghost use Rattle.relations.specs.PlaceTests.{order as orderOf};
 
 mod parts;
 

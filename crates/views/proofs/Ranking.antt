@@ -17,9 +17,9 @@ use Rattle.keys.specs.MemberLaws.{keep-append, keep-length}
 use Rattle.rules.specs.Standing.{beginning}
 use Rattle.state.specs.declared.Ledger.{Ledger}
 use Rattle.state.specs.State.{placeAt}
-use Rattle.relations.specs.PlaceTests.{decodedAt, heldAt}
+use Rattle.relations.specs.PlaceTests.{decodedAt, heldAt, rankAt, order}
 use Rattle.relations.specs.Related.{rankedIn}
-use Rattle.views.specs.Board.{insertAt, rankAt, order, byRank, after, putBy, put, putAll, entriesOf}
+use Rattle.views.specs.Board.{insertAt, byRank, after, putBy, put, putAll, entriesOf}
 use Rattle.fields.specs.Fields.{anchorIn}
 use Rattle.views.specs.declared.Places.{Places}
 use Rattle.views.specs.Pieces.{placesIn, ins, Sound, Lists, ranked}

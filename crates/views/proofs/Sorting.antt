@@ -20,8 +20,8 @@ use Rattle.keys.specs.declared.Order.the-variants.{Less, Equal, Greater}
 use Rattle.bits.specs.Below.{upTo}
 use Rattle.state.specs.declared.Ledger.{Ledger}
 use Rattle.views.specs.declared.Key.the-variants.{Id, Tag}
-use Rattle.relations.specs.PlaceTests.{idAt}
-use Rattle.views.specs.Board.{order, tagAt, tagOrder, after}
+use Rattle.relations.specs.PlaceTests.{idAt, order}
+use Rattle.views.specs.Board.{tagAt, tagOrder, after}
 use Rattle.views.specs.Pieces.{ins, candidate, sortedBy}
 
 -- one place further

@@ -12,17 +12,12 @@ use Rattle.format.specs.Update.{Id, maxAuthor}
 use Rattle.rules.specs.Standing.{beginning}
 use Rattle.rules.specs.Settle.{isInsert}
 use Rattle.bits.specs.Below.{anyBelow, upTo}
-use Rattle.bits.specs.Bits.{count, wordBits}
+use Rattle.bits.specs.Bits.{wordBits}
 use Rattle.state.specs.declared.Ledger.{Ledger}
-use Rattle.state.specs.State.{placeAt}
 use Rattle.fields.specs.Fields.{testOf, tagIn, valueIn, anchorIn}
-use Rattle.relations.specs.PlaceTests.{idAt, decodedAt, heldAt, authorAt, forkedAt, presentAt}
+use Rattle.relations.specs.PlaceTests.{idAt, decodedAt, heldAt, authorAt, rankAt, order, forkedAt, presentAt}
 
 module _ (l : Ledger) (s : List ℕ) where
-  -- the taken places, ascending by id
-  unfoldable pub order : List ℕ
-  order = sort (idAt l s) (upTo (l .used))
-
   -- marks
   unfoldable pub markedAt : ℕ → Bool
   markedAt a = anyBelow (l .used) (λ (r : ℕ). eqb (authorAt l s r) a && forkedAt l s r)
@@ -43,13 +38,10 @@ module _ (l : Ledger) (s : List ℕ) where
   unfoldable pub insertAt : ℕ → Bool
   insertAt k = heldAt l s k && testOf isInsert (decodedAt l s k)
 
-  unfoldable pub rankAt : ℕ → ℕ
-  rankAt k = count (placeAt l k .ancestors)
-
   -- those of rank below n
   unfoldable pub byRank : ℕ → List ℕ
   byRank zero = []
-  byRank (suc n) = byRank n ++ keep (λ (k : ℕ). insertAt k && eqb (rankAt k) n) order
+  byRank (suc n) = byRank n ++ keep (λ (k : ℕ). insertAt k && eqb (rankAt l s k) n) (order l s)
 
   -- e right after the first entry whose id is a; at the end where there is none
   unfoldable pub after : Id → ℕ → List ℕ → List ℕ

@@ -11,7 +11,7 @@ use borrow.Author.Tests.{eqb-true, eq-eqb}
 use Rattle.keys.specs.Member.{_∈_, keep, any, concatMap}
 use Rattle.keys.specs.Ascending.{Ascending}
 use Rattle.keys.specs.Sort.{sort}
-use Rattle.keys.specs.BoolLaws.{and-true→, and-true}
+use Rattle.keys.specs.BoolLaws.{and-true→, and-true, and-agrees}
 use Rattle.keys.specs.MemberLaws.{∈-cast, ∈-map, map-∈, ∈-keep, keep-∈, keep-map, keep-cong, map-cong, ∈-concatMap, concatMap-∈}
 use Rattle.keys.specs.SortLaws.{sort-unique, same-sort, sort-map, ascending-keep}
 use Rattle.format.specs.Update.{Id, maxAuthor, Operation, Add, Remove, Insert, Delete, Update}
@@ -22,11 +22,11 @@ use Rattle.bits.specs.BelowLaws.{anyBelow→, anyBelow←, upTo-∈, ∈-upTo, 
 use Rattle.state.specs.declared.Ledger.{Ledger}
 use Rattle.fields.specs.Fields.{testOf, isAnyAdd, tagIn}
 use Rattle.state.specs.Stands.{ident, updateAt, Stands}
-use Rattle.relations.specs.PlaceTests.{idAt, decodedAt, authorAt, heldAt, forkedAt, removedAt, presentAt}
-use Rattle.views.specs.Board.{order, markedAt, marksOf, tagAt, tagOrder}
-use Rattle.views.specs.ListFacts.{and-agrees, concatMap-keep-map}
-use Rattle.views.specs.PlaceLaws.{from-used, to-used, place-in, place-decoded, place-author, place-test}
-use Rattle.views.specs.RowLaws.{rowAt, row-id, order-∈, ∈-order, table-rows, held-agrees, author-agrees, op-agrees, fork-agrees, op-test-agrees}
+use Rattle.relations.specs.PlaceTests.{idAt, decodedAt, authorAt, heldAt, forkedAt, removedAt, presentAt, order}
+use Rattle.views.specs.Board.{markedAt, marksOf, tagAt, tagOrder}
+use Rattle.views.specs.ListFacts.{concatMap-keep-map}
+use Rattle.relations.specs.PlaceLaws.{from-used, to-used, place-in, place-decoded, place-author, place-test}
+use Rattle.relations.specs.RowLaws.{rowAt, row-id, order-∈, ∈-order, table-rows, held-agrees, author-agrees, op-agrees, fork-agrees, op-test-agrees}
 
 any-add : {o : Operation} {t : List ℕ} → o ≡ Add t → isAnyAdd o ≡ true
 unfolding isAnyAdd

@@ -1,19 +1,10 @@
--- Two tests that agree, and lists under a map.
+-- Lists under a map.
 -- Assumes nothing.
-use mathlib.Core.Path.{_≡_, refl, sym, _∙_, ap}
+use mathlib.Core.Path.{_≡_, refl, _∙_, ap}
 use mathlib.Core.List.{List, [], _∷_, _++_, map}
-use mathlib.Core.Bool.{Bool, true, false, _&&_, false≢true}
+use mathlib.Core.Bool.{Bool}
 use Rattle.keys.specs.Member.{_∈_, keep, concatMap}
 use Rattle.keys.specs.MemberLaws.{keep-cong, keep-map, keep-∈, concatMap-cong}
-
--- both tests agree, the second where the first passes
-pub and-agrees : (a : Bool) {a′ b b′ : Bool} → a ≡ a′ → (a′ ≡ true → b ≡ b′) → (a && b) ≡ (a′ && b′)
-and-agrees true {a′} {b} {b′} e h = step a′ e h
-  where
-    step : (c : Bool) → true ≡ c → (c ≡ true → b ≡ b′) → b ≡ (c && b′)
-    step true p g = g refl
-    step false p g = absurd (false≢true (sym p))
-and-agrees false {a′} {b} {b′} e h = ap (λ (c : Bool). c && b′) e
 
 -- lists under a map
 module _ {A B C : Type 0} where

@@ -35,10 +35,10 @@ use Rattle.state.specs.declared.Ledger.{Ledger}
 use Rattle.state.specs.State.{placeAt}
 use Rattle.fields.specs.Fields.{testOf, anchorOf, anchorIn, valueIn}
 use Rattle.state.specs.Stands.{ident, updateAt, Stands}
-use Rattle.relations.specs.PlaceTests.{idAt, decodedAt, heldAt, deletedAt, shownAt}
-use Rattle.views.specs.Board.{order, insertAt, rankAt, byRank, entriesOf, valueAt}
-use Rattle.views.specs.PlaceLaws.{from-used, to-used, place-of, place-id, same-place, places-distinct, place-decoded, place-test, held-at→, →held-at, above-at→, →above-at}
-use Rattle.views.specs.RowLaws.{order-∈, ∈-order, order-ascending}
+use Rattle.relations.specs.PlaceTests.{idAt, decodedAt, heldAt, deletedAt, shownAt, order, rankAt}
+use Rattle.views.specs.Board.{insertAt, byRank, entriesOf, valueAt}
+use Rattle.relations.specs.PlaceLaws.{from-used, to-used, place-of, place-id, same-place, places-distinct, place-decoded, place-test, held-at→, →held-at, above-at→, →above-at}
+use Rattle.relations.specs.RowLaws.{order-∈, ∈-order, order-ascending}
 use Rattle.views.specs.EntryLaws.{anchorAt, atStart, underAt, among, Walked, Descending, descending-nil, descending-cons, Rooted, IsWalk, put-all}
 
 module _ {l : Ledger} {s : List ℕ} {us : List Update} (stands : Stands l s us) where

@@ -34,8 +34,8 @@ use Rattle.state.specs.Stands.{ident, updateAt, Stands}
 use Rattle.state.specs.FindLaws.{find-right, find-none}
 use Rattle.judging.specs.GatherLaws.{AllHeld, gathered-word, gathered-void→, gathered-ready←, gathered-direct→, gathered-direct←, gathered-above→, gathered-above←}
 use Rattle.relations.specs.PlaceTests.{heldAt}
-use Rattle.views.specs.PlaceLaws.{place-in, place-of, place-id, place-test}
-use Rattle.views.specs.RowLaws.{rowAt, row-id, above-agrees, op-agrees}
+use Rattle.relations.specs.PlaceLaws.{place-in, place-of, place-id, place-test}
+use Rattle.relations.specs.RowLaws.{rowAt, row-id, above-agrees, op-agrees}
 use Rattle.highest.specs.TopLaws.{decides, row-at, at-row}
 
 module _ {l : Ledger} {s : List ℕ} {us : List Update} (stands : Stands l s us) where

@@ -12,7 +12,7 @@ use Rattle.keys.specs.Order.{same, ascending}
 use Rattle.keys.specs.Member.{_∈_, member, any}
 use Rattle.keys.specs.Distinct.{Distinct, distinct-nil, distinct-cons, Identifies}
 use Rattle.keys.specs.Ascending.{Ascending}
-use Rattle.keys.specs.BoolLaws.{test-ext}
+use Rattle.keys.specs.BoolLaws.{test-ext, and-agrees}
 use Rattle.keys.specs.OrderLaws.{same→eq, eq→same, ne→same-false}
 use Rattle.keys.specs.MemberLaws.{∈-cases, ∈-cast, ∈-map, map-∈, member→∈, ∈→member, any→∈, ∈→any, map-cong}
 use Rattle.keys.specs.DistinctLaws.{distinct-eq}
@@ -34,10 +34,8 @@ use Rattle.state.specs.State.{placeAt, isHeld as placeHeld, isWaiting as placeW
 use Rattle.fields.specs.Fields.{testOf}
 use Rattle.state.specs.Stands.{ident, noUpdate, updateAt, Stands}
 use Rattle.state.specs.Verdicts.{verdictOf}
-use Rattle.relations.specs.PlaceTests.{idAt, heldAt, waitingAt, voidAt, authorAt, decodedAt, coveredAt, headAt, forkedWith, forkedAt}
-use Rattle.views.specs.Board.{order}
-use Rattle.views.specs.ListFacts.{and-agrees}
-use Rattle.views.specs.PlaceLaws.{from-used, to-used, place-in, place-of, place-id, same-place, place-author, place-test, above-at→, →above-at}
+use Rattle.relations.specs.PlaceTests.{idAt, heldAt, waitingAt, voidAt, authorAt, decodedAt, coveredAt, headAt, forkedWith, forkedAt, order}
+use Rattle.relations.specs.PlaceLaws.{from-used, to-used, place-in, place-of, place-id, same-place, place-author, place-test, above-at→, →above-at}
 
 -- the row of an id
 noRow : Row
