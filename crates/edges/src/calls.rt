@@ -4,18 +4,18 @@ use crate::show::answered;
 use crate::show::decimal;
 use crate::show::digest;
 use crate::show::text;
-use crate::slots::bytes_of;
-use crate::slots::set;
-use crate::slots::slot;
-use crate::words::byte;
-use crate::words::field;
-use crate::words::number;
 use format::part_of;
 use ledger::Answer;
 use ledger::Kind;
 use ledger::Ledger;
 use ledger::Reported;
 use ledger::Wrote;
+use script::byte;
+use script::bytes_of;
+use script::number;
+use script::set;
+use script::slot;
+use script::word;
 use state::PLACES;
 
 // Offers an update.
@@ -31,8 +31,8 @@ fn offer(l: Ledger, store: &mut [u8], update: &[u8]) -> Ledger {
 pub fn offers(l: Ledger, store: &mut [u8], slots: &[u8], line: &[u8]) -> Ledger {
     let mut next = l;
     let mut k: usize = 1;
-    while k < line.len() && 0 < field(line, k, b' ').len() {
-        next = offer(next, store, bytes_of(slots, slot(line, k, b' ')));
+    while k < line.len() && 0 < word(line, k).len() {
+        next = offer(next, store, bytes_of(slots, slot(word(line, k))));
         k += 1;
     }
     next
@@ -87,16 +87,19 @@ fn ask_for(l: Ledger, store: &[u8], request: &[u8], out: &mut [u8]) -> Wrote {
     )
 }
 
+// Puts a written update in a slot, and prints its length and id.
+fn written(slots: &mut [u8], s: usize, update: &[u8]) {
+    set(slots, s, update);
+    text(b"(written ");
+    decimal(update.len());
+    text(b" ");
+    digest(update);
+}
+
 // Writes what a slot asks for, and puts what was written in its place.
 pub fn write(l: Ledger, store: &[u8], slots: &mut [u8], out: &mut [u8], s: usize) {
     match ask_for(l, store, bytes_of(slots, s), out) {
-        Wrote::Written(n) => {
-            set(slots, s, part_of(out, 0, n));
-            text(b"(written ");
-            decimal(n);
-            text(b" ");
-            digest(part_of(out, 0, n));
-        }
+        Wrote::Written(n) => written(slots, s, part_of(out, 0, n)),
         Wrote::Refused(r) => answered(Answer::Refused(r)),
     }
 }
@@ -104,12 +107,12 @@ pub fn write(l: Ledger, store: &[u8], slots: &mut [u8], out: &mut [u8], s: usize
 // The ledger with another count of taken places, and another length and other ancestors in a place.
 pub fn changed(l: Ledger, line: &[u8]) -> Ledger {
     let mut next = l;
-    next.used = number(line, 1, b' ');
-    let k = number(line, 2, b' ');
+    next.used = number(word(line, 1));
+    let k = number(word(line, 2));
     if k < PLACES {
         let mut p = next.places[k];
-        p.length = number(line, 3, b' ');
-        p.ancestors = number(line, 4, b' ') as u64;
+        p.length = number(word(line, 3));
+        p.ancestors = number(word(line, 4)) as u64;
         next.places[k] = p;
     }
     next

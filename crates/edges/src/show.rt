@@ -1,4 +1,6 @@
 // Answers, as the lines that the command prints for them.
+use copies::Compared;
+use format::Reading;
 use ledger::Answer;
 use ledger::Asked;
 use ledger::Refusal;
@@ -62,6 +64,33 @@ pub fn asked(a: Asked) {
     text(b")\n");
 }
 
+// What two copies that are compared answer.
+pub fn compared(c: Compared) {
+    text(b"(");
+    match c {
+        Compared::Same { length } => {
+            text(b"same ");
+            decimal(length);
+        }
+        Compared::Different { first, second } => {
+            text(b"different ");
+            decimal(first);
+            text(b" ");
+            decimal(second);
+        }
+        Compared::Refused(r) => refused(r),
+    }
+    text(b")\n");
+}
+
+// What bytes are read as.
+pub fn read(r: Reading) {
+    match r {
+        Reading::Update(_) => text(b"(ok)\n"),
+        Reading::Refused(m) => answered(Answer::Refused(Refusal::Malformed(m))),
+    }
+}
+
 // The SHA-256 of bytes, in hexadecimal digits, and the end of the line.
 pub fn digest(s: &[u8]) {
     let d = sha256::digest(s);
@@ -71,4 +100,12 @@ pub fn digest(s: &[u8]) {
         i += 1;
     }
     text(b")\n");
+}
+
+// The SHA-256 of the output buffer and of the store.
+pub fn view(store: &[u8], out: &[u8]) {
+    text(b"(buffer ");
+    digest(out);
+    text(b"(store ");
+    digest(store);
 }

@@ -3,8 +3,8 @@
 use Prim.Native.Nat.{_≤_, _-_}
 use borrow.Author.Needs.{needs}
 use lib.ListN.{length}
-use Rattle.edges.proofs.words.field.Statement.{statement}
-use Rattle.edges.proofs.words.field.Tie as tie
+use Rattle.script.proofs.words.field.Statement.{statement}
+use Rattle.script.proofs.words.field.Tie as tie
 
 abbrev Inv-loop : tie.InvT-loop
 Inv-loop s k x at₀ i₀ at i = (at ≤ length s) × (i ≤ k)

@@ -4,8 +4,8 @@ use mathlib.Core.Path.{_≡_}
 use Prim.Native.Nat.{_≤_, _-_}
 use borrow.Author.Needs.{needs}
 use lib.ListN.{length}
-use Rattle.edges.proofs.slots.repeat.Statement.{statement}
-use Rattle.edges.proofs.slots.repeat.Tie as tie
+use Rattle.script.proofs.slots.repeat.Statement.{statement}
+use Rattle.script.proofs.slots.repeat.Tie as tie
 
 abbrev Inv-loop : tie.InvT-loop
 Inv-loop slots₀ at b n end₀ slots end = (at ≤ end) × (length slots ≡ length slots₀)
