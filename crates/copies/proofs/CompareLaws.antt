@@ -12,7 +12,7 @@ use Rattle.ledger.specs.declared.Reported.the-variants.{Written, Refused as Not
 use Rattle.ledger.specs.Report.{Reporting}
 use Rattle.copies.specs.declared.Compared.{Compared}
 use Rattle.copies.specs.declared.Compared.the-variants.{Same, Different, Refused}
-use Rattle.replicas.specs.LengthLaws.{report-within, written-length}
+use Rattle.copies.specs.LengthLaws.{report-within, written-length}
 use Rattle.copies.specs.Check.{OneCopy, comparedOf, SecondChecking, refused, compared, Checking, first-refused, checking}
 
 module _ {s s′ o o′ : List ℕ} {bs : List (List ℕ)} {r : Reported} (c : OneCopy bs s o r s′ o′) where

@@ -2,5 +2,5 @@ pub mod Sets
 pub mod Copies
 pub mod SetLaws
 pub mod StoredLaws
-pub mod LengthLaws
 pub mod FitLaws
+pub mod CheckLaws

@@ -6,7 +6,7 @@ use denote.Ref.{now}
 use lib.ListN.{length, take}
 use Rattle.ledger.specs.Ask.{freshLedger}
 use Rattle.ledger.specs.Calls.{Calls, done}
-use Rattle.replicas.specs.LengthLaws.{calls-length}
+use Rattle.copies.specs.LengthLaws.{calls-length}
 use Rattle.copies.proofs.OfferAll.{bytes, offered-next, offered-all}
 use Rattle.copies.proofs.offer_all.Statement.{statement}
 use Rattle.copies.proofs.offer_all.Tie as tie

@@ -15,13 +15,13 @@ use Rattle.ledger.specs.declared.Reported.the-variants.{Written}
 use Rattle.ledger.specs.Ask.{freshLedger}
 use Rattle.ledger.specs.Calls.{Calls, stored, offers-stand}
 use Rattle.ledger.specs.Report.{Reporting}
 use Rattle.copies.specs.declared.Compared.{Compared}
 use Rattle.copies.specs.declared.Compared.the-variants.{Same, Different, Refused}
 use Rattle.replicas.specs.Sets.{setOf, reportFor, Fits, NoCollision}
 use Rattle.replicas.specs.Copies.{Copy, SideBySide, side-by-side}
-use Rattle.replicas.specs.LengthLaws.{reported-store, written-length}
+use Rattle.copies.specs.LengthLaws.{reported-store, written-length}
 use Rattle.replicas.specs.FitLaws.{report-answers}
 use Rattle.copies.specs.Check.{comparedOf, Checking, first-refused, second-refused, compared}
 
 -- the lengths of the two full reports, by the answer
 unfoldable pub firstLength : Compared → ℕ
