@@ -9,7 +9,7 @@ use Rattle.state.specs.declared.Ledger.{Ledger}
 use Rattle.refusals.specs.declared.Refusal.{Refusal}
 use Rattle.ledger.specs.declared.Reported.{Reported}
 use Rattle.ledger.specs.declared.Reported.the-variants.{Written, Refused as NotReported}
-use Rattle.ledger.specs.Ask.{freshLedger}
+use Rattle.state.specs.State.{freshLedger}
 use Rattle.ledger.specs.Calls.{Calls}
 use Rattle.ledger.specs.Report.{Reporting}
 use Rattle.copies.specs.declared.Compared.{Compared}

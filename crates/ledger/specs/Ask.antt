@@ -1,14 +1,12 @@
--- What the entries `fresh` and `standing` yield.
+-- What the entry `standing` yields.
 -- Assumes nothing.
 use Prim.Native.Nat.{ℕ}
 use mathlib.Core.List.{List}
 use mathlib.Core.Option.{Option, none, some}
 use mathlib.Core.Bool.{cond}
-use lib.ListN.{replicate}
 use Rattle.format.specs.Update.{Id}
 use Rattle.state.specs.declared.Ledger.{Ledger}
-use Rattle.state.specs.declared.Standing.the-variants.{Held}
-use Rattle.state.specs.State.{places, placeAt, findIn}
+use Rattle.state.specs.State.{placeAt, findIn}
 use Rattle.state.specs.Row1.{sound}
 use Rattle.refusals.specs.declared.Refusal.the-variants.{Unfit}
 use Rattle.ledger.specs.declared.Asked.{Asked}
@@ -21,8 +19,3 @@ askedAt l (some k) = Is (placeAt l k .standing)
 
 unfoldable pub askedOf : Ledger → List ℕ → Id → Asked
 askedOf l s i = cond (sound l s) (askedAt l (findIn l i)) (NotAsked Unfit)
-
--- a fresh ledger: no place taken
-unfoldable pub freshLedger : Ledger
-freshLedger =
-    record { used = 0; places = replicate places (record { id = replicate 32 0; length = 0; ancestors = 0; standing = Held }) }

@@ -21,14 +21,14 @@ use Rattle.rules.specs.LeastSets.{held-stored, void-stored, held-not-void}
 use Rattle.state.specs.declared.Ledger.{Ledger}
 use Rattle.state.specs.declared.Standing.the-variants.{Held as IsHeld, Waiting as IsWaiting, Void as IsVoid}
 use Rattle.state.specs.declared.Standing.{Standing}
-use Rattle.state.specs.State.{places, storeLength, placeAt, findIn}
+use Rattle.state.specs.State.{places, storeLength, placeAt, findIn, freshLedger}
 use Rattle.state.specs.Stands.{ident, updateAt, Stands}
 use Rattle.state.specs.FindLaws.{stored-at, place-of, find-right, find-all, find-none}
 use Rattle.state.specs.TakeLaws.{stands-sound, fresh-stands}
 use Rattle.offering.specs.declared.Offered.{Offered}
 use Rattle.ledger.specs.declared.Asked.the-variants.{Is, Unknown}
 use Rattle.offering.specs.Offer.{Offering, unfit, malformed, known, full, taken}
-use Rattle.ledger.specs.Ask.{askedAt, askedOf, freshLedger}
+use Rattle.ledger.specs.Ask.{askedAt, askedOf}
 
 -- "Each offer is handed the ledger and store that the one before left": offers of the byte strings, one after the other, each with what the entry
 -- `offer` ensures

@@ -2,7 +2,7 @@
 // alone. The bookkeeping goes in by value and the new one comes back; the updates' bytes lie in a store that the caller lends.
 ghost use mathlib.Core.Path.{_≡_};
 ghost use Rattle.offering.specs.Offer.{Offering};
-ghost use Rattle.ledger.specs.Ask.{askedOf, freshLedger};
+ghost use Rattle.ledger.specs.Ask.{askedOf};
 ghost use Rattle.ledger.specs.Report.{Reporting};
 ghost use Rattle.writing.specs.Write.{Writing};
 use format::Malformed;
@@ -17,6 +17,7 @@ use state::Found;
 pub use state::Ledger;
 pub use state::Standing;
 use state::find::find;
+pub use state::fresh;
 use survey::sound;
 pub use writer::Kind;
 pub use writing::Wrote;
@@ -27,22 +28,6 @@ pub enum Asked {
     Is(Standing),
     Unknown,
     Refused(Refusal),
-}
-
-// A ledger with no place taken.
-pub fn fresh() -> Ledger
-    ensures { λ r. ⌜ r ≡ freshLedger ⌝ }
-{
-    let free = state::Place {
-        id: [0u8; 32],
-        length: 0,
-        ancestors: 0,
-        standing: Standing::Held,
-    };
-    Ledger {
-        used: 0,
-        places: [free; state::PLACES],
-    }
 }
 
 // Offers bytes of any length. A well-formed update with a new id takes the next place, and all stored updates are settled. Every other offer leaves the

@@ -9,10 +9,9 @@ use lib.ListN.{length, take}
 use Rattle.keys.specs.Order.{same}
 use Rattle.keys.specs.OrderLaws.{same→eq, eq→same}
 use Rattle.state.specs.declared.Ledger.{Ledger}
-use Rattle.state.specs.State.{storeLength}
+use Rattle.state.specs.State.{storeLength, freshLedger}
 use Rattle.refusals.specs.declared.Refusal.{Refusal}
 use Rattle.ledger.specs.declared.Reported.the-variants.{Written}
-use Rattle.ledger.specs.Ask.{freshLedger}
 use Rattle.ledger.specs.Calls.{Calls, stored, offers-stand}
 use Rattle.ledger.specs.Report.{Reporting}
 use Rattle.copies.specs.declared.Compared.{Compared}

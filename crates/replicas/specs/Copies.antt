@@ -13,11 +13,10 @@ use Rattle.format.specs.Update.{Update}
 use Rattle.rules.specs.Report.{reportOf}
 use Rattle.rules.specs.ReportLaws.{same-report, report-shows-set}
 use Rattle.state.specs.declared.Ledger.{Ledger}
-use Rattle.state.specs.State.{storeLength}
+use Rattle.state.specs.State.{storeLength, freshLedger}
 use Rattle.state.specs.Stands.{ident, Stands}
 use Rattle.ledger.specs.declared.Reported.{Reported}
 use Rattle.ledger.specs.declared.Reported.the-variants.{Written}
-use Rattle.ledger.specs.Ask.{freshLedger}
 use Rattle.ledger.specs.Calls.{Calls, stored, offers-stand}
 use Rattle.ledger.specs.Report.{Reporting, unfit, short, written}
 use Rattle.replicas.specs.Sets.{setOf, reportFor, Fits, NoCollision}

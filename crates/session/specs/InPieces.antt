@@ -5,9 +5,8 @@ use Prim.Native.Nat.{ℕ}
 use mathlib.Core.List.{List, [], _++_}
 use lib.ListN.{length, take}
 use Rattle.state.specs.declared.Ledger.{Ledger}
-use Rattle.state.specs.State.{storeLength}
+use Rattle.state.specs.State.{storeLength, freshLedger}
 use Rattle.state.specs.TakeLaws.{fresh-stands}
-use Rattle.ledger.specs.Ask.{freshLedger}
 use Rattle.reading.specs.Reading.{maxLine}
 use Rattle.input.specs.KeepLaws.{keeps-none}
 use Rattle.session.specs.declared.Fed.{Fed}

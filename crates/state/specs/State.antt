@@ -4,7 +4,7 @@ use Prim.Native.Nat.{ℕ, _+_, _*_}
 use mathlib.Core.List.{List, [], _++_}
 use mathlib.Core.Option.{Option, none, some}
 use mathlib.Core.Bool.{Bool, true, false}
-use lib.ListN.{length, getD, set, take, drop}
+use lib.ListN.{length, getD, set, take, drop, replicate}
 use Rattle.keys.specs.Order.{same}
 use Rattle.format.specs.Update.{Id, maxLength}
 use Rattle.format.specs.Decode.{part}
@@ -22,6 +22,11 @@ places = 64
 
 abbrev pub storeLength : ℕ
 storeLength = 34112
+
+-- "a fresh ledger, no place taken"
+unfoldable pub freshLedger : Ledger
+freshLedger =
+    record { used = 0; places = replicate places (record { id = replicate 32 0; length = 0; ancestors = 0; standing = Held }) }
 
 -- what a place that is not there reads as
 abbrev pub noPlace : Place

@@ -4,7 +4,7 @@ pub mod store;
 
 ghost use mathlib.Core.Path.{_≡_};
 ghost use Prim.Native.Nat.{_+_, _<_};
-ghost use Rattle.state.specs.State.{withTaken, withStanding};
+ghost use Rattle.state.specs.State.{freshLedger, withTaken, withStanding};
 
 // How many places a ledger has.
 pub const PLACES: usize = 64;
@@ -37,6 +37,22 @@ pub struct Ledger {
 pub enum Found {
     At(usize),
     Nowhere,
+}
+
+// A ledger with no place taken.
+pub fn fresh() -> Ledger
+    ensures { λ r. ⌜ r ≡ freshLedger ⌝ }
+{
+    let free = Place {
+        id: [0u8; 32],
+        length: 0,
+        ancestors: 0,
+        standing: Standing::Held,
+    };
+    Ledger {
+        used: 0,
+        places: [free; PLACES],
+    }
 }
 
 impl Ledger {

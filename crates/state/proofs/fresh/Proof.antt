@@ -1,9 +1,9 @@
 -- `fresh` meets its contract.
 -- Assumes nothing.
 use mathlib.Core.Path.{refl}
-use Rattle.ledger.specs.Ask.{freshLedger}
-use Rattle.ledger.proofs.fresh.Statement.{statement}
-use Rattle.ledger.proofs.fresh.Tie as tie
+use Rattle.state.specs.State.{freshLedger}
+use Rattle.state.proofs.fresh.Statement.{statement}
+use Rattle.state.proofs.fresh.Tie as tie
 
 returns : tie.Need-returns
 unfolding freshLedger
