@@ -27,9 +27,9 @@ use Rattle.state.specs.State.{places, placeAt, countOf, isHeld, isVoid}
 use Rattle.state.specs.Stands.{ident, noUpdate, updateAt, Stands}
 use Rattle.state.specs.FindLaws.{stored-at, find-right}
 use Rattle.state.specs.TakeLaws.{stands-sound}
-use Rattle.writer.specs.declared.Kind.{Kind}
-use Rattle.writer.specs.declared.Kind.the-variants.{Add as AnAdd}
-use Rattle.writer.specs.Operations.{operationFor, badNamed, unorderedNamed}
+use Rattle.operations.specs.declared.Kind.{Kind}
+use Rattle.operations.specs.declared.Kind.the-variants.{Add as AnAdd}
+use Rattle.operations.specs.Operations.{operationFor, badNamed, unorderedNamed}
 use Rattle.refusals.specs.declared.Refusal.{Refusal}
 use Rattle.refusals.specs.declared.Refusal.the-variants.{Unfit, Malformed as Bad, Full, Short, Invalid}
 use Rattle.offering.specs.declared.Answer.the-variants.{Taken}

@@ -12,6 +12,7 @@ pub use offering::Answer;
 pub use offering::Offered;
 use offering::left;
 use offering::offer_formed;
+pub use operations::Kind;
 pub use refusals::Refusal;
 use state::Found;
 pub use state::Ledger;
@@ -19,7 +20,6 @@ pub use state::Standing;
 use state::find::find;
 pub use state::fresh;
 use survey::sound;
-pub use writer::Kind;
 pub use writing::Wrote;
 use writing::write_asked;
 
@@ -103,10 +103,10 @@ pub fn write(
     if MAX_AUTHOR < author {
         return Wrote::Refused(Refusal::Malformed(Malformed::Author));
     }
-    if writer::bad_named(kind, named) {
+    if operations::bad_named(kind, named) {
         return Wrote::Refused(Refusal::Malformed(Malformed::Layout));
     }
-    if writer::unordered_named(kind, named) {
+    if operations::unordered_named(kind, named) {
         return Wrote::Refused(Refusal::Malformed(Malformed::Unordered));
     }
     write_asked(ledger, store, author, kind, tag, id, named, out)

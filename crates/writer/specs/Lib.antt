@@ -1,4 +1,3 @@
-pub mod Operations
 pub mod Written
 pub mod JudgedLaws
 pub mod ChooseRight

@@ -4,52 +4,15 @@ ghost use mathlib.Core.Bool.{false};
 ghost use Prim.Native.Nat.{_≤_};
 ghost use Rattle.format.specs.Update.{encode};
 ghost use Rattle.printing.specs.Page.{Prints};
+ghost use Rattle.operations.specs.Operations.{operationFor, badNamed};
 ghost use Rattle.writer.specs.Written.{writtenAt};
-ghost use Rattle.writer.specs.Operations.{operationFor, badNamed, unorderedNamed};
 
 mod layout;
 
-use format::bounds::ID_LENGTH;
+use operations::Kind;
+use operations::put_operation;
 use predecessors::chosen;
 use state::Ledger;
-
-// The kind of a written operation.
-pub enum Kind {
-    Add,
-    Remove,
-    Insert,
-    Delete,
-}
-
-// Whether the named ids' bytes are not a multiple of 32, or over 256.
-pub fn bad_named(kind: Kind, named: &[u8]) -> bool
-    ensures { λ r. ⌜ r ≡ badNamed kind (now (named .entry)) ⌝ }
-{
-    match kind {
-        Kind::Add => false,
-        Kind::Remove => {
-            if named.len() % ID_LENGTH == 0 {
-                layout::MAX_NAMED_LENGTH < named.len()
-            } else {
-                true
-            }
-        }
-        Kind::Insert => false,
-        Kind::Delete => false,
-    }
-}
-
-// Whether the named ids are not strictly ascending.
-pub fn unordered_named(kind: Kind, named: &[u8]) -> bool
-    ensures { λ r. ⌜ r ≡ unorderedNamed kind (now (named .entry)) ⌝ }
-{
-    match kind {
-        Kind::Add => false,
-        Kind::Remove => !format::ascends(named, 0, named.len() / ID_LENGTH),
-        Kind::Insert => false,
-        Kind::Delete => false,
-    }
-}
 
 // Prints the new update at the start of the page: at most 533 bytes.
 pub fn compose(
@@ -69,5 +32,5 @@ pub fn compose(
     let places = chosen(l, store, author);
     let start = layout::put_header(author, places.count, page);
     let end = layout::put_ids(l, places, page, start);
-    layout::put_operation(kind, tag, id, named, page, end)
+    put_operation(kind, tag, id, named, page, end)
 }

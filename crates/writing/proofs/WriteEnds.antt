@@ -17,8 +17,8 @@ use Rattle.judging.specs.declared.Judgement.the-variants.{Holds, Fails, Waits}
 use Rattle.judging.specs.Judge.{judgeDecoded}
 use Rattle.state.specs.Stands.{ident, Stands}
 use Rattle.printing.specs.Page.{Prints}
-use Rattle.writer.specs.declared.Kind.{Kind}
-use Rattle.writer.specs.Operations.{operationFor}
+use Rattle.operations.specs.declared.Kind.{Kind}
+use Rattle.operations.specs.Operations.{operationFor}
 use Rattle.writer.specs.Written.{writtenAt}
 use Rattle.writer.specs.ChooseRight.{chosen-right, writable-holds, unwritable-fails}
 use Rattle.refusals.specs.declared.Refusal.the-variants.{Short, Invalid}

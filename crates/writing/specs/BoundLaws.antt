@@ -16,10 +16,10 @@ use Rattle.rules.specs.WritingLaws.{written-bounded}
 use Rattle.state.specs.declared.Ledger.{Ledger}
 use Rattle.state.specs.Stands.{ident, Stands}
 use Rattle.state.specs.FindLaws.{ident-length}
-use Rattle.writer.specs.declared.Kind.{Kind}
-use Rattle.writer.specs.declared.Kind.the-variants.{Add as AnAdd, Remove as ARemove, Insert as AnInsert, Delete as ADelete}
-use Rattle.writer.specs.Operations.{operationFor, badNamed, unorderedNamed}
-use Rattle.writer.proofs.Laying.{good-remove}
+use Rattle.operations.specs.declared.Kind.{Kind}
+use Rattle.operations.specs.declared.Kind.the-variants.{Add as AnAdd, Remove as ARemove, Insert as AnInsert, Delete as ADelete}
+use Rattle.operations.specs.Operations.{operationFor, badNamed, unorderedNamed}
+use Rattle.operations.proofs.ByKind.{good-remove}
 
 -- what rows 8 and 9 let through is laid out
 pub operation-bounded : (k : Kind) (t : List ℕ) (i : Id) (named : List ℕ) → length t ≡ tagLength → length i ≡ idLength

@@ -11,8 +11,8 @@ use Rattle.rules.specs.Writing.{writtenOf, writableOf}
 use Rattle.state.specs.declared.Ledger.{Ledger}
 use Rattle.state.specs.Row1.{sound}
 use Rattle.state.specs.Stands.{ident, Stands}
-use Rattle.writer.specs.declared.Kind.{Kind}
-use Rattle.writer.specs.Operations.{operationFor, badNamed, unorderedNamed}
+use Rattle.operations.specs.declared.Kind.{Kind}
+use Rattle.operations.specs.Operations.{operationFor, badNamed, unorderedNamed}
 use Rattle.refusals.specs.declared.Refusal.the-variants.{Unfit, Malformed as Bad, Short, Invalid}
 use Rattle.writing.specs.declared.Wrote.{Wrote}
 use Rattle.writing.specs.declared.Wrote.the-variants.{Written, Refused}

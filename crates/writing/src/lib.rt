@@ -3,10 +3,10 @@ ghost use Rattle.writing.specs.Write.{Writing, WellAsked};
 use format::bounds::MAX_LENGTH;
 use judging::Judgement;
 use judging::judge_bytes;
+use operations::Kind;
 use printing::put;
 use refusals::Refusal;
 use state::Ledger;
-use writer::Kind;
 
 // What the writer answers: how many bytes of the output buffer the update takes.
 pub enum Wrote {

@@ -4,7 +4,7 @@ use native.Mathlib.Omega.{arith}
 use borrow.Author.Needs.{needs}
 use denote.Ref.{now}
 use Rattle.printing.proofs.Printing.{both, same-text}
-use Rattle.writer.specs.Operations.{operationFor}
+use Rattle.operations.specs.Operations.{operationFor}
 use Rattle.writer.proofs.Laying.{update-bytes}
 use Rattle.writer.proofs.compose.Statement.{statement}
 use Rattle.writer.proofs.compose.Tie as tie

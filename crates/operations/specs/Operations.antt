@@ -8,8 +8,8 @@ use lib.Dec.{eqb, ltb}
 use Rattle.keys.specs.Order.{ascending}
 use Rattle.format.specs.Update.{Id, maxNamed, idLength, Operation, Add, Remove, Insert, Delete}
 use Rattle.format.specs.Decode.{idsAt}
-use Rattle.writer.specs.declared.Kind.{Kind}
-use Rattle.writer.specs.declared.Kind.the-variants.{Add as AnAdd, Remove as ARemove, Insert as AnInsert, Delete as ADelete}
+use Rattle.operations.specs.declared.Kind.{Kind}
+use Rattle.operations.specs.declared.Kind.the-variants.{Add as AnAdd, Remove as ARemove, Insert as AnInsert, Delete as ADelete}
 
 -- the operation of a kind: a tag or value of 16 bytes, an anchor or deleted id of 32, and the named ids as bytes; a kind does not look at what it does not have
 unfoldable pub operationFor : Kind → List ℕ → Id → List ℕ → Operation

@@ -2,8 +2,8 @@
 -- Assumes nothing.
 use borrow.Author.Needs.{needs}
 use Rattle.format.specs.Update.{encodeOperation}
-use Rattle.writer.proofs.layout.put_add.Statement.{statement}
-use Rattle.writer.proofs.layout.put_add.Tie as tie
+use Rattle.operations.proofs.put_add.Statement.{statement}
+use Rattle.operations.proofs.put_add.Tie as tie
 
 pub put-add-spec : {M : Type 1} → statement M
 unfolding encodeOperation

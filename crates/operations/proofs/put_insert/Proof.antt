@@ -3,8 +3,8 @@
 use borrow.Author.Needs.{needs}
 use Rattle.format.specs.Update.{encodeOperation}
 use Rattle.printing.proofs.Printing.{both}
-use Rattle.writer.proofs.layout.put_insert.Statement.{statement}
-use Rattle.writer.proofs.layout.put_insert.Tie as tie
+use Rattle.operations.proofs.put_insert.Statement.{statement}
+use Rattle.operations.proofs.put_insert.Tie as tie
 
 pub put-insert-spec : {M : Type 1} → statement M
 unfolding encodeOperation

@@ -4,9 +4,9 @@ use native.Mathlib.Omega.{arith}
 use borrow.Author.Needs.{needs}
 use denote.Ref.{now}
 use Rattle.printing.proofs.Printing.{same-text}
-use Rattle.writer.proofs.Laying.{for-add, for-remove, for-insert, for-delete, good-remove}
-use Rattle.writer.proofs.layout.put_operation.Statement.{statement}
-use Rattle.writer.proofs.layout.put_operation.Tie as tie
+use Rattle.operations.proofs.ByKind.{for-add, for-remove, for-insert, for-delete, good-remove}
+use Rattle.operations.proofs.put_operation.Statement.{statement}
+use Rattle.operations.proofs.put_operation.Tie as tie
 
 pub put-operation-spec : {M : Type 1} → statement M
 put-operation-spec =

@@ -2,8 +2,8 @@
 -- Assumes nothing.
 use borrow.Author.Needs.{needs}
 use Rattle.format.specs.Update.{encodeOperation}
-use Rattle.writer.proofs.layout.put_delete.Statement.{statement}
-use Rattle.writer.proofs.layout.put_delete.Tie as tie
+use Rattle.operations.proofs.put_delete.Statement.{statement}
+use Rattle.operations.proofs.put_delete.Tie as tie
 
 pub put-delete-spec : {M : Type 1} → statement M
 unfolding encodeOperation

@@ -2,8 +2,8 @@
 -- Assumes nothing.
 use borrow.Author.Needs.{needs}
 use Rattle.printing.proofs.Printing.{both}
-use Rattle.writer.proofs.layout.put_part.Statement.{statement}
-use Rattle.writer.proofs.layout.put_part.Tie as tie
+use Rattle.operations.proofs.put_part.Statement.{statement}
+use Rattle.operations.proofs.put_part.Tie as tie
 
 pub put-part-spec : {M : Type 1} → statement M
 put-part-spec =

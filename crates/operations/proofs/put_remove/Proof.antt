@@ -3,9 +3,9 @@
 use borrow.Author.Needs.{needs}
 use denote.Ref.{now}
 use Rattle.printing.proofs.Printing.{both, same-text}
-use Rattle.writer.proofs.Laying.{remove-bytes}
-use Rattle.writer.proofs.layout.put_remove.Statement.{statement}
-use Rattle.writer.proofs.layout.put_remove.Tie as tie
+use Rattle.operations.proofs.ByKind.{remove-bytes}
+use Rattle.operations.proofs.put_remove.Statement.{statement}
+use Rattle.operations.proofs.put_remove.Tie as tie
 
 pub put-remove-spec : {M : Type 1} → statement M
 put-remove-spec =

@@ -2,9 +2,9 @@
 -- Assumes nothing.
 use borrow.Author.Needs.{needs}
 use denote.Ref.{now}
-use Rattle.writer.proofs.Laying.{unordered-add, unordered-remove, unordered-insert, unordered-delete}
-use Rattle.writer.proofs.unordered_named.Statement.{statement}
-use Rattle.writer.proofs.unordered_named.Tie as tie
+use Rattle.operations.proofs.ByKind.{unordered-add, unordered-remove, unordered-insert, unordered-delete}
+use Rattle.operations.proofs.unordered_named.Statement.{statement}
+use Rattle.operations.proofs.unordered_named.Tie as tie
 
 pub unordered-named-spec : {M : Type 1} → statement M
 unordered-named-spec =

@@ -2,9 +2,9 @@
 -- Assumes nothing.
 use borrow.Author.Needs.{needs}
 use denote.Ref.{now}
-use Rattle.writer.proofs.Laying.{bad-add, bad-long, bad-odd, bad-insert, bad-delete}
-use Rattle.writer.proofs.bad_named.Statement.{statement}
-use Rattle.writer.proofs.bad_named.Tie as tie
+use Rattle.operations.proofs.ByKind.{bad-add, bad-long, bad-odd, bad-insert, bad-delete}
+use Rattle.operations.proofs.bad_named.Statement.{statement}
+use Rattle.operations.proofs.bad_named.Tie as tie
 
 pub bad-named-spec : {M : Type 1} → statement M
 bad-named-spec =

@@ -1,0 +1,128 @@
+// What a written update is to do: the kinds of operation, what they ask of the named ids, and their bytes.
+ghost use mathlib.Core.Path.{_≡_};
+ghost use mathlib.Core.Bool.{false};
+ghost use mathlib.Core.List.{_∷_};
+ghost use Prim.Native.Nat.{_+_, _/_, _%_, _≤_};
+ghost use lib.ListN.{length};
+ghost use Rattle.format.specs.Update.{idLength, Add, Remove, Insert, Delete, encodeOperation};
+ghost use Rattle.format.specs.Decode.{idsAt};
+ghost use Rattle.printing.specs.Page.{Prints};
+ghost use Rattle.operations.specs.Operations.{operationFor, badNamed, unorderedNamed};
+use format::bounds::ADD;
+use format::bounds::DELETE;
+use format::bounds::ID_LENGTH;
+use format::bounds::INSERT;
+use format::bounds::REMOVE;
+use printing::put;
+
+// How many bytes of named ids there are at most.
+const MAX_NAMED_LENGTH: usize = 256;
+
+// The kind of a written operation.
+pub enum Kind {
+    Add,
+    Remove,
+    Insert,
+    Delete,
+}
+
+// Whether the named ids' bytes are not a multiple of 32, or over 256.
+pub fn bad_named(kind: Kind, named: &[u8]) -> bool
+    ensures { λ r. ⌜ r ≡ badNamed kind (now (named .entry)) ⌝ }
+{
+    match kind {
+        Kind::Add => false,
+        Kind::Remove => {
+            if named.len() % ID_LENGTH == 0 {
+                MAX_NAMED_LENGTH < named.len()
+            } else {
+                true
+            }
+        }
+        Kind::Insert => false,
+        Kind::Delete => false,
+    }
+}
+
+// Whether the named ids are not strictly ascending.
+pub fn unordered_named(kind: Kind, named: &[u8]) -> bool
+    ensures { λ r. ⌜ r ≡ unorderedNamed kind (now (named .entry)) ⌝ }
+{
+    match kind {
+        Kind::Add => false,
+        Kind::Remove => !format::ascends(named, 0, named.len() / ID_LENGTH),
+        Kind::Insert => false,
+        Kind::Delete => false,
+    }
+}
+
+// The byte of a kind and the bytes after it.
+fn put_part(kind: u8, part: &[u8], page: &mut [u8], at: usize) -> usize
+    requires { ⌜ at ≤ 3000 ⌝ }
+    ensures { λ r. ⌜ Prints (now (page .entry)) at (kind ∷ now (part .entry)) (now (page .exit)) r ⌝ }
+{
+    let byte = [kind];
+    let body = put(page, at, &byte);
+    put(page, body, part)
+}
+
+// The bytes of an Add.
+fn put_add(tag: [u8; 16], page: &mut [u8], at: usize) -> usize
+    requires { ⌜ at ≤ 3000 ⌝ }
+    ensures prints { λ r. ⌜ Prints (now (page .entry)) at (encodeOperation (Add tag)) (now (page .exit)) r ⌝ }
+    ensures small { λ r. ⌜ r ≡ at + 17 ⌝ }
+{
+    put_part(ADD, &tag, page, at)
+}
+
+// The bytes of a Remove.
+fn put_remove(tag: [u8; 16], named: &[u8], page: &mut [u8], at: usize) -> usize
+    requires { ⌜ (at ≤ 3000) × (length (now named) % 32 ≡ 0) × (length (now named) ≤ 256) ⌝ }
+    ensures prints { λ r. ⌜ Prints (now (page .entry)) at (encodeOperation (Remove tag (idsAt (now (named .entry)) 0 (length (now (named .entry)) / idLength)))) (now (page .exit)) r ⌝ }
+    ensures small { λ r. ⌜ r ≤ at + 274 ⌝ }
+{
+    let tagged = put_part(REMOVE, &tag, page, at);
+    let count = [(named.len() / ID_LENGTH) as u8];
+    let counted = put(page, tagged, &count);
+    put(page, counted, named)
+}
+
+// The bytes of an Insert.
+fn put_insert(anchor: [u8; 32], value: [u8; 16], page: &mut [u8], at: usize) -> usize
+    requires { ⌜ at ≤ 3000 ⌝ }
+    ensures prints { λ r. ⌜ Prints (now (page .entry)) at (encodeOperation (Insert anchor value)) (now (page .exit)) r ⌝ }
+    ensures small { λ r. ⌜ r ≡ at + 49 ⌝ }
+{
+    let anchored = put_part(INSERT, &anchor, page, at);
+    put(page, anchored, &value)
+}
+
+// The bytes of a Delete.
+fn put_delete(deleted: [u8; 32], page: &mut [u8], at: usize) -> usize
+    requires { ⌜ at ≤ 3000 ⌝ }
+    ensures prints { λ r. ⌜ Prints (now (page .entry)) at (encodeOperation (Delete deleted)) (now (page .exit)) r ⌝ }
+    ensures small { λ r. ⌜ r ≡ at + 33 ⌝ }
+{
+    put_part(DELETE, &deleted, page, at)
+}
+
+// The kind byte and the bytes of an operation.
+pub fn put_operation(
+    kind: Kind,
+    tag: [u8; 16],
+    id: [u8; 32],
+    named: &[u8],
+    page: &mut [u8],
+    at: usize,
+) -> usize
+    requires { ⌜ (at ≤ 3000) × (badNamed kind (now named) ≡ false) ⌝ }
+    ensures prints { λ r. ⌜ Prints (now (page .entry)) at (encodeOperation (operationFor kind tag id (now (named .entry)))) (now (page .exit)) r ⌝ }
+    ensures small { λ r. ⌜ r ≤ at + 274 ⌝ }
+{
+    match kind {
+        Kind::Add => put_add(tag, page, at),
+        Kind::Remove => put_remove(tag, named, page, at),
+        Kind::Insert => put_insert(id, tag, page, at),
+        Kind::Delete => put_delete(id, page, at),
+    }
+}
