@@ -5,8 +5,6 @@ use mathlib.Core.Path.{_≡_, refl, sym, ap, _∙_}
 use mathlib.Core.List.{List, [], _∷_, _++_, append-assoc}
 use denote.Enum.Declared.{tagOf}
 use types.Run.{OneOf, miss}
-use lib.ListN.{length, take}
-use lib.Seq.{take-at}
 use Rattle.format.specs.Update.{Id}
 use Rattle.format.specs.Decode.{Decoded}
 use Rattle.rules.specs.Report.{codes, ascii, hex, decimal, bytesLine, markLine}
@@ -67,16 +65,5 @@ word-bytes Marks = refl
 word-bytes Set = refl
 word-bytes Entries = refl
 
-word-is : {p q : Part} → p ≡ q → bytesOf q ≡ wordOf p
+pub word-is : {p q : Part} → p ≡ q → bytesOf q ≡ wordOf p
 word-is {p} {q} e = word-bytes q ∙ ap wordOf (sym e)
-
-pub word-length : {p q : Part} → p ≡ q → length (bytesOf q) ≡ length (wordOf p)
-word-length e = ap length (word-is e)
-
--- with spaces after it
-pub padded-is : {p q : Part} (rest : List ℕ) → p ≡ q → take (length (wordOf p)) (bytesOf q ++ rest) ≡ wordOf p
-padded-is {p} rest e = ap (λ (x : List ℕ). take (length (wordOf p)) (x ++ rest)) (word-is e) ∙ take-at (wordOf p) rest (length (wordOf p)) refl
-
--- a word cut from it
-pub cut : (bs : List ℕ) {w : List ℕ} {n m : ℕ} → n ≡ m → take m bs ≡ w → take n bs ≡ w
-cut bs e f = ap (λ (k : ℕ). take k bs) e ∙ f

@@ -1,7 +1,6 @@
 // The words and the lines of the report, printed on a page that the caller lends.
-ghost use mathlib.Core.Path.{_≡_};
 ghost use Prim.Native.Nat.{_+_, _≤_, _<_};
-ghost use lib.ListN.{length, take};
+ghost use lib.ListN.{length};
 ghost use mathlib.Core.List.{_++_};
 ghost use Rattle.format.specs.Decode.{decode};
 ghost use Rattle.rules.specs.Report.{ascii, hex, bytesLine, markLine};
@@ -21,45 +20,21 @@ pub enum Part {
     List,
 }
 
-// The first line of a part, and spaces up to the longest one.
-fn padded_word(part: Part) -> [u8; 9]
-    ensures { λ r. ⌜ take (length (wordOf part)) r ≡ wordOf part ⌝ }
-{
-    match part {
-        Part::Held => *b"(held\n   ",
-        Part::Heads => *b"(heads\n  ",
-        Part::Waiting => *b"(waiting\n",
-        Part::Void => *b"(void\n   ",
-        Part::Marks => *b"(marks\n  ",
-        Part::Set => *b"(set\n    ",
-        Part::List => *b"(list\n   ",
-    }
-}
-
-// The length of that line.
-fn word_length(part: Part) -> usize
-    ensures { λ r. ⌜ (r ≡ length (wordOf part)) × (r ≤ 9) ⌝ }
-{
-    match part {
-        Part::Held => 6,
-        Part::Heads => 7,
-        Part::Waiting => 9,
-        Part::Void => 6,
-        Part::Marks => 7,
-        Part::Set => 5,
-        Part::List => 6,
-    }
-}
-
 // Prints the first line of a part.
 pub fn word(part: Part, page: &mut [u8], at: usize) -> usize
     requires { ⌜ at ≤ farthest ⌝ }
     ensures prints { λ r. ⌜ Prints (now (page .entry)) at (wordOf part) (now (page .exit)) r ⌝ }
     ensures small { λ r. ⌜ r ≤ at + 10 ⌝ }
 {
-    let padded = padded_word(part);
-    let length = word_length(part);
-    put(page, at, &padded[..length])
+    match part {
+        Part::Held => put(page, at, b"(held\n"),
+        Part::Heads => put(page, at, b"(heads\n"),
+        Part::Waiting => put(page, at, b"(waiting\n"),
+        Part::Void => put(page, at, b"(void\n"),
+        Part::Marks => put(page, at, b"(marks\n"),
+        Part::Set => put(page, at, b"(set\n"),
+        Part::List => put(page, at, b"(list\n"),
+    }
 }
 
 // A line of bytes.
