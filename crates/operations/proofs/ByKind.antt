@@ -10,11 +10,11 @@ use lib.Dec.{ltb, eqb}
 use lib.ListN.{length}
 use lib.Seq.{take-all}
 use Rattle.keys.specs.Order.{ascending}
-use Rattle.format.specs.Update.{Id, Add, Remove, Insert, Delete, encodeOperation}
+use Rattle.format.specs.Update.{Id, Remove, encodeOperation}
 use Rattle.format.specs.Decode.{idsAt}
 use Rattle.format.specs.Parts.{ids-length, ids-joined}
 use Rattle.operations.specs.declared.Kind.{Kind}
-use Rattle.operations.specs.declared.Kind.the-variants.{Add as AnAdd, Remove as ARemove, Insert as AnInsert, Delete as ADelete}
+use Rattle.operations.specs.declared.Kind.the-variants.{Remove as ARemove}
 use Rattle.operations.specs.Operations.{operationFor, badNamed, unorderedNamed}
 
 pub remove-bytes : (t named : List ℕ) → length named % 32 ≡ 0
@@ -25,43 +25,18 @@ remove-bytes t named h =
     (sym (ids-length named 0 (length named / 32)))
     (sym (ids-joined named 0 (length named / 32) ∙ take-all (32 * (length named / 32)) named (omega arith)))
 
-module _ (t : List ℕ) (i : Id) (named : List ℕ) where
-  abbrev bytesFor : Kind → List ℕ
-  bytesFor q = encodeOperation (operationFor q t i named)
-
-  pub for-add : {k : Kind} → k ≡ AnAdd → encodeOperation (Add t) ≡ encodeOperation (operationFor k t i named)
-  unfolding operationFor
-  for-add e = ap bytesFor (sym e)
-
-  pub for-remove : {k : Kind} → k ≡ ARemove → encodeOperation (Remove t (idsAt named 0 (length named / 32))) ≡ encodeOperation (operationFor k t i named)
-  unfolding operationFor
-  for-remove e = ap bytesFor (sym e)
-
-  pub for-insert : {k : Kind} → k ≡ AnInsert → encodeOperation (Insert i t) ≡ encodeOperation (operationFor k t i named)
-  unfolding operationFor
-  for-insert e = ap bytesFor (sym e)
-
-  pub for-delete : {k : Kind} → k ≡ ADelete → encodeOperation (Delete i) ≡ encodeOperation (operationFor k t i named)
-  unfolding operationFor
-  for-delete e = ap bytesFor (sym e)
+pub for-kind : (t : List ℕ) (i : Id) (named : List ℕ) {k q : Kind} → k ≡ q
+    → encodeOperation (operationFor q t i named) ≡ encodeOperation (operationFor k t i named)
+for-kind t i named e = ap (λ (q : Kind). encodeOperation (operationFor q t i named)) (sym e)
 
 -- the named ids' bytes
 module _ {k : Kind} (named : List ℕ) where
-  pub bad-add : k ≡ AnAdd → false ≡ badNamed k named
-  unfolding badNamed
-  bad-add e = ap (λ (q : Kind). badNamed q named) (sym e)
-
-  pub bad-insert : k ≡ AnInsert → false ≡ badNamed k named
-  unfolding badNamed
-  bad-insert e = ap (λ (q : Kind). badNamed q named) (sym e)
-
-  pub bad-delete : k ≡ ADelete → false ≡ badNamed k named
-  unfolding badNamed
-  bad-delete e = ap (λ (q : Kind). badNamed q named) (sym e)
+  pub bad-kind : {q : Kind} → k ≡ q → badNamed q named ≡ badNamed k named
+  bad-kind e = ap (λ (q : Kind). badNamed q named) (sym e)
 
   remove-by : k ≡ ARemove → {b : Bool} → eqb (length named % 32) 0 ≡ b → (not b || ltb 256 (length named)) ≡ badNamed k named
   unfolding badNamed
-  remove-by e f = ap (λ (b : Bool). not b || ltb 256 (length named)) (sym f) ∙ ap (λ (q : Kind). badNamed q named) (sym e)
+  remove-by e f = ap (λ (b : Bool). not b || ltb 256 (length named)) (sym f) ∙ bad-kind e
 
   pub bad-long : k ≡ ARemove → length named % 32 ≡ 0 → ltb 256 (length named) ≡ badNamed k named
   bad-long e f = remove-by e (eq-eqb (length named % 32) 0 f)
@@ -76,18 +51,9 @@ module _ {k : Kind} (named : List ℕ) where
       go true f = (eqb-true (length named % 32) 0 f, ltb-false 256 (length named) (remove-by e f ∙ g))
       go false f = let z : true ≡ false = remove-by e f ∙ g in let y : _≡_ {A = ℕ} 0 1 = cc in absurd (omega arith)
 
-  pub unordered-add : k ≡ AnAdd → false ≡ unorderedNamed k named
-  unfolding unorderedNamed
-  unordered-add e = ap (λ (q : Kind). unorderedNamed q named) (sym e)
-
-  pub unordered-insert : k ≡ AnInsert → false ≡ unorderedNamed k named
-  unfolding unorderedNamed
-  unordered-insert e = ap (λ (q : Kind). unorderedNamed q named) (sym e)
-
-  pub unordered-delete : k ≡ ADelete → false ≡ unorderedNamed k named
-  unfolding unorderedNamed
-  unordered-delete e = ap (λ (q : Kind). unorderedNamed q named) (sym e)
+  pub unordered-kind : {q : Kind} → k ≡ q → unorderedNamed q named ≡ unorderedNamed k named
+  unordered-kind e = ap (λ (q : Kind). unorderedNamed q named) (sym e)
 
   pub unordered-remove : k ≡ ARemove → {b : Bool} → b ≡ ascending (idsAt named 0 (length named / 32)) → not b ≡ unorderedNamed k named
   unfolding unorderedNamed
-  unordered-remove e f = ap not f ∙ ap (λ (q : Kind). unorderedNamed q named) (sym e)
+  unordered-remove e f = ap not f ∙ unordered-kind e

@@ -151,32 +151,27 @@ module _ {l : Ledger} {s : List ℕ} {us : List Update} (stands : Stands l s us)
       step void p IsWaiting q = absurd (stands .settled .waiting-right k h q .not-void (subst (Void ident us) e (decides .void-right r m p)))
       step void p IsVoid q = refl
 
+  -- so are tests of the two that agree
+  test-agrees : (p : Verdict → Bool) (q : Standing → Bool) → p held ≡ q IsHeld → p waiting ≡ q IsWaiting → p void ≡ q IsVoid
+      → (k : ℕ) → k < length us → p (rowAt us k .verdict) ≡ q (placeAt l k .standing)
+  test-agrees p q e f g k h = ap p (verdict-agrees h) ∙ step (placeAt l k .standing)
+    where
+      step : (t : Standing) → p (verdictOf t) ≡ q t
+      step IsHeld = e
+      step IsWaiting = f
+      step IsVoid = g
+
   pub held-agrees : (k : ℕ) → k < length us → heldRow (rowAt us k) ≡ heldAt l s k
   unfolding heldRow heldAt isHeld placeHeld
-  held-agrees k h = ap isHeld (verdict-agrees h) ∙ step (placeAt l k .standing)
-    where
-      step : (t : Standing) → isHeld (verdictOf t) ≡ placeHeld t
-      step IsHeld = refl
-      step IsWaiting = refl
-      step IsVoid = refl
+  held-agrees = test-agrees isHeld placeHeld refl refl refl
 
   pub waiting-agrees : (k : ℕ) → k < length us → isWaiting (rowAt us k .verdict) ≡ waitingAt l s k
   unfolding waitingAt isWaiting placeWaiting
-  waiting-agrees k h = ap isWaiting (verdict-agrees h) ∙ step (placeAt l k .standing)
-    where
-      step : (t : Standing) → isWaiting (verdictOf t) ≡ placeWaiting t
-      step IsHeld = refl
-      step IsWaiting = refl
-      step IsVoid = refl
+  waiting-agrees = test-agrees isWaiting placeWaiting refl refl refl
 
   pub void-agrees : (k : ℕ) → k < length us → isVoid (rowAt us k .verdict) ≡ voidAt l s k
   unfolding voidAt isVoid placeVoid
-  void-agrees k h = ap isVoid (verdict-agrees h) ∙ step (placeAt l k .standing)
-    where
-      step : (t : Standing) → isVoid (verdictOf t) ≡ placeVoid t
-      step IsHeld = refl
-      step IsWaiting = refl
-      step IsVoid = refl
+  void-agrees = test-agrees isVoid placeVoid refl refl refl
 
   -- the ids above a held row are those of the places in its word
   pub above-agrees : {j k : ℕ} → j < length us → k < length us → heldAt l s k ≡ true → member (rowAt us j .id) (rowAt us k .above) ≡ has (placeAt l k .ancestors) j

@@ -2,11 +2,13 @@
 -- Assumes nothing.
 use borrow.Author.Needs.{needs}
 use denote.Ref.{now}
-use Rattle.operations.proofs.ByKind.{bad-add, bad-long, bad-odd, bad-insert, bad-delete}
+use Rattle.operations.specs.Operations.{badNamed}
+use Rattle.operations.proofs.ByKind.{bad-kind, bad-long, bad-odd}
 use Rattle.operations.proofs.bad_named.Statement.{statement}
 use Rattle.operations.proofs.bad_named.Tie as tie
 
 pub bad-named-spec : {M : Type 1} → statement M
+unfolding badNamed
 bad-named-spec =
     tie.close
     (tie.spec
@@ -16,7 +18,7 @@ bad-named-spec =
     (λ c. search needs)
     (λ c.
     let args = c .before .before .args in
-    bad-add (now (args .named)) (c .enum-told .given .1))
+    bad-kind (now (args .named)) (c .enum-told .given .1))
     (λ c.
     let args = c .before .before .before .args in
     bad-long (now (args .named)) (c .before .enum-told2 .given .1) (c .if1 .taken))
@@ -25,7 +27,7 @@ bad-named-spec =
     bad-odd (now (args .named)) (c .before .enum-told2 .given .1) (c .if1 .left))
     (λ c.
     let args = c .before .before .args in
-    bad-insert (now (args .named)) (c .enum-told3 .given .1))
+    bad-kind (now (args .named)) (c .enum-told3 .given .1))
     (λ c.
     let args = c .before .before .args in
-    bad-delete (now (args .named)) (c .enum-told4 .given .1)))
+    bad-kind (now (args .named)) (c .enum-told4 .given .1)))
