@@ -20,10 +20,10 @@ use Rattle.state.specs.declared.Ledger.{Ledger}
 use Rattle.state.specs.declared.Found.the-variants.{At, Nowhere}
 use Rattle.state.specs.State.{placeAt, foundOf}
 use Rattle.state.proofs.FindLaws.{found-at}
-use Rattle.views.specs.declared.Places.{Places}
+use Rattle.orders.specs.declared.Places.{Places}
 use Rattle.relations.specs.PlaceTests.{headAt, order}
-use Rattle.views.specs.Pieces.{placesIn, ins, small, Sound, Lists}
-use Rattle.views.proofs.Inserting.{length-is, passed, ins-end}
+use Rattle.orders.specs.Pieces.{placesIn, ins, small, Sound, Lists}
+use Rattle.orders.proofs.Inserting.{length-is, passed, ins-end}
 use Rattle.highest.specs.Top.{topBelow}
 use Rattle.predecessors.specs.Choose.{headsOf, aboveAt, eightWith, eightFor, chosenPlaces}
 

@@ -11,14 +11,14 @@ ghost use Rattle.bits.specs.Below.{firstBelow};
 ghost use Rattle.bits.specs.Bits.{has};
 ghost use Rattle.state.specs.State.{placeAt, foundOf};
 ghost use Rattle.relations.specs.PlaceTests.{headAt};
-ghost use Rattle.views.specs.Pieces.{placesIn, Sound, Lists};
+ghost use Rattle.orders.specs.Pieces.{placesIn, Sound, Lists};
 ghost use Rattle.predecessors.specs.Choose.{headsOf, aboveAt, eightFor, chosenPlaces};
 use highest::top;
+use orders::Key;
+use orders::Places;
+use orders::sorted;
 use state::Found;
 use state::Ledger;
-use views::Key;
-use views::Places;
-use views::sorted;
 
 // How many predecessors an update has at most: format::bounds::MAX_PREDECESSORS.
 const NAMED_HEADS: usize = 8;

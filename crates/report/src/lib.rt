@@ -2,19 +2,19 @@
 ghost use Prim.Native.Nat.{_≤_};
 ghost use Rattle.report.specs.Text.{textOf};
 ghost use Rattle.printing.specs.Page.{Prints};
-ghost use Rattle.views.specs.Pieces.{Lists};
+ghost use Rattle.orders.specs.Pieces.{Lists};
 ghost use Rattle.report.specs.Parts.{standings, readOffs};
 ghost use Rattle.relations.specs.PlaceTests.{order as orderOf};
 
 mod parts;
 
+use orders::Key;
+use orders::Places;
+use orders::sorted;
 use printing::put;
 use state::Ledger;
-use views::Key;
-use views::Places;
 use views::list;
 use views::marks;
-use views::sorted;
 use wording::Part;
 
 // The parts that go by standing.

@@ -7,14 +7,14 @@ ghost use Rattle.printing.specs.Page.{Prints, farthest};
 ghost use Rattle.report.specs.Parts.{passes, lineOf, linesOf, partOf};
 ghost use Rattle.relations.specs.Related.{decodedIn};
 ghost use Rattle.wording.specs.Lines.{lineBy};
-ghost use Rattle.views.specs.Pieces.{placesIn, Sound};
+ghost use Rattle.orders.specs.Pieces.{placesIn, Sound};
+use orders::Places;
 use printing::put;
 use state::Ledger;
 use state::Place;
 use state::Standing;
 use state::store::stored;
 use survey::has_standing;
-use views::Places;
 use wording::Part;
 
 // The line in a part of the place, k, or of author k.

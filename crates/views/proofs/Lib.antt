@@ -1,5 +1,3 @@
-pub mod Inserting
-pub mod Keeping
-pub mod Sorting
 pub mod Marking
+pub mod Following
 pub mod Ranking

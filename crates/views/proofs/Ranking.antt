@@ -21,10 +21,11 @@ use Rattle.relations.specs.PlaceTests.{decodedAt, heldAt, rankAt, order}
 use Rattle.relations.specs.Related.{rankedIn}
 use Rattle.views.specs.Board.{insertAt, byRank, after, putBy, put, putAll, entriesOf}
 use Rattle.fields.specs.Fields.{anchorIn}
-use Rattle.views.specs.declared.Places.{Places}
-use Rattle.views.specs.Pieces.{placesIn, ins, Sound, Lists, ranked}
-use Rattle.views.proofs.Inserting.{renamed}
-use Rattle.views.proofs.Keeping.{keep-no, keep-one}
+use Rattle.orders.specs.declared.Places.{Places}
+use Rattle.orders.specs.Pieces.{placesIn, ins, Sound, Lists}
+use Rattle.views.specs.Ranked.{ranked}
+use Rattle.orders.proofs.Inserting.{renamed}
+use Rattle.orders.proofs.Keeping.{keep-no, keep-one}
 
 counted : (b : Bool) (x : ℕ) (xs : List ℕ) → length (cond b (x ∷ xs) xs) ≡ cond b (suc (length xs)) (length xs)
 counted true x xs = refl

@@ -23,6 +23,8 @@ use Rattle.state.specs.declared.Ledger.{Ledger}
 use Rattle.fields.specs.Fields.{testOf, isAnyAdd, tagIn}
 use Rattle.state.specs.Stands.{ident, updateAt, Stands}
 use Rattle.relations.specs.PlaceTests.{idAt, decodedAt, authorAt, heldAt, forkedAt, removedAt, presentAt, order}
+use Rattle.orders.specs.declared.Key.the-variants.{Tag}
+use Rattle.orders.specs.Pieces.{sortedBy}
 use Rattle.views.specs.Board.{markedAt, marksOf, tagAt, tagOrder}
 use Rattle.views.specs.ListFacts.{concatMap-keep-map}
 use Rattle.relations.specs.PlaceLaws.{from-used, to-used, place-in, place-decoded, place-author, place-test}
@@ -134,3 +136,8 @@ module _ {l : Ledger} {s : List ℕ} {us : List Update} (stands : Stands l s us)
       (sym (ap (λ (T : Table). concatMap (λ (r : Row). tagsOf (r .update .op)) (keep kept T)) (table-rows stands)
       ∙ concatMap-keep-map (λ (r : Row). tagsOf (r .update .op)) kept (rowAt us) (λ (k : ℕ). tagsOf (updateAt us k .op)) keptAt (order l s)
       (λ k m. kept-agrees k (order-∈ stands m)) (λ k m. ap tagsOf (op-agrees stands (order-∈ stands m)))))
+
+-- the places of the set are those listed by tag
+pub sorted-tags : (l : Ledger) (s : List ℕ) → sortedBy l s Tag ≡ tagOrder l s
+unfolding sortedBy tagOrder tagAt
+sorted-tags l s = refl

@@ -1,5 +1,5 @@
 pub mod Board
-pub mod Pieces
+pub mod Ranked
 pub mod ListFacts
 pub mod BoardLaws
 pub mod EntryLaws

@@ -8,8 +8,8 @@ ghost use Rattle.keys.specs.Member.{keep};
 ghost use Rattle.bits.specs.Bits.{has};
 ghost use Rattle.relations.specs.PlaceTests.{authorAt, forkedAt};
 ghost use Rattle.views.specs.Board.{markedAt, marksOf};
-ghost use Rattle.views.specs.Pieces.{placesIn, Sound, Lists};
-use crate::Places;
+ghost use Rattle.orders.specs.Pieces.{placesIn, Sound, Lists};
+use orders::Places;
 use state::Ledger;
 use state::store::stored;
 

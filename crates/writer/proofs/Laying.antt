@@ -9,10 +9,10 @@ use Rattle.format.specs.Update.{Operation, encodeOperation, encode}
 use Rattle.format.specs.Parts.{joined}
 use Rattle.state.specs.declared.Ledger.{Ledger}
 use Rattle.state.specs.State.{placeAt}
-use Rattle.views.specs.declared.Places.{Places}
+use Rattle.orders.specs.declared.Places.{Places}
 use Rattle.relations.specs.PlaceTests.{idAt}
-use Rattle.views.specs.Pieces.{placesIn, Lists}
-use Rattle.views.proofs.Inserting.{length-is}
+use Rattle.orders.specs.Pieces.{placesIn, Lists}
+use Rattle.orders.proofs.Inserting.{length-is}
 use Rattle.predecessors.specs.Choose.{chosenPlaces}
 use Rattle.writer.specs.Written.{writtenAt}
 

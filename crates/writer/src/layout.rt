@@ -5,11 +5,11 @@ ghost use Prim.Native.Nat.{ℕ, _+_, _*_, _≤_, _<_};
 ghost use Rattle.format.specs.Parts.{joined};
 ghost use Rattle.state.specs.State.{placeAt};
 ghost use Rattle.printing.specs.Page.{Prints};
-ghost use Rattle.views.specs.Pieces.{placesIn, Sound};
+ghost use Rattle.orders.specs.Pieces.{placesIn, Sound};
 use format::bounds::VERSION;
+use orders::Places;
 use printing::put;
 use state::Ledger;
-use views::Places;
 
 // The version, the author and the count of predecessors.
 pub fn put_header(author: u8, count: usize, page: &mut [u8]) -> usize

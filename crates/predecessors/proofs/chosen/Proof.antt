@@ -5,7 +5,7 @@ use native.Mathlib.Omega.{arith}
 use borrow.Author.Needs.{needs}
 use denote.Ref.{now}
 use Rattle.state.proofs.FindLaws.{found-at, found-nowhere}
-use Rattle.views.proofs.Inserting.{renamed}
+use Rattle.orders.proofs.Inserting.{renamed}
 use Rattle.highest.specs.Top.{topBelow}
 use Rattle.predecessors.proofs.Choosing.{chosen-few, chosen-many, chosen-lowest}
 use Rattle.predecessors.proofs.chosen.Statement.{statement}

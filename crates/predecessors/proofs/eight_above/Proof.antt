@@ -7,7 +7,7 @@ use lib.ListN.{length}
 use denote.Ref.{now}
 use Rattle.bits.specs.Below.{firstBelow}
 use Rattle.state.proofs.FindLaws.{found-at, found-nowhere}
-use Rattle.views.proofs.Inserting.{renamed, below}
+use Rattle.orders.proofs.Inserting.{renamed, below}
 use Rattle.predecessors.specs.Choose.{headsOf, aboveAt}
 use Rattle.predecessors.proofs.Choosing.{eight-none, eight-low, eight-high, found-below}
 use Rattle.predecessors.proofs.eight_above.Statement.{statement}

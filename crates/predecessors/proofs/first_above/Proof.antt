@@ -6,7 +6,7 @@ use mathlib.Core.Option.{none}
 use borrow.Author.Needs.{needs}
 use denote.Ref.{now}
 use Rattle.bits.specs.Below.{firstBelow}
-use Rattle.views.proofs.Inserting.{below}
+use Rattle.orders.proofs.Inserting.{below}
 use Rattle.predecessors.specs.Choose.{aboveAt}
 use Rattle.predecessors.proofs.Choosing.{above-start, above-more, above-found, above-none}
 use Rattle.predecessors.proofs.first_above.Statement.{statement}

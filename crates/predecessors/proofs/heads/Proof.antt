@@ -8,9 +8,9 @@ use borrow.Author.Needs.{needs}
 use denote.Ref.{now}
 use Rattle.keys.specs.Member.{keep}
 use Rattle.relations.specs.PlaceTests.{headAt}
-use Rattle.views.specs.Pieces.{placesIn, Lists}
-use Rattle.views.proofs.Inserting.{renamed, below}
-use Rattle.views.proofs.Sorting.{sorted-ids}
+use Rattle.orders.specs.Pieces.{placesIn, Lists}
+use Rattle.orders.proofs.Inserting.{renamed, below}
+use Rattle.orders.proofs.Sorting.{sorted-ids}
 use Rattle.predecessors.proofs.Choosing.{heads-start, heads-more, heads-end}
 use Rattle.predecessors.proofs.heads.Statement.{statement}
 use Rattle.predecessors.proofs.heads.Tie as tie

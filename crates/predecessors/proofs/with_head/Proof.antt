@@ -5,9 +5,9 @@ use native.Mathlib.Omega.{arith}
 use borrow.Author.Needs.{needs}
 use denote.Ref.{now}
 use Rattle.relations.specs.PlaceTests.{headAt}
-use Rattle.views.specs.Pieces.{placesIn}
-use Rattle.views.proofs.Inserting.{renamed, ins-end}
-use Rattle.views.proofs.Keeping.{keep-yes, keep-nothing}
+use Rattle.orders.specs.Pieces.{placesIn}
+use Rattle.orders.proofs.Inserting.{renamed, ins-end}
+use Rattle.orders.proofs.Keeping.{keep-yes, keep-nothing}
 use Rattle.predecessors.proofs.with_head.Statement.{statement}
 use Rattle.predecessors.proofs.with_head.Tie as tie
 

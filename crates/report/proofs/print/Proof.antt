@@ -3,9 +3,9 @@
 use borrow.Author.Needs.{needs}
 use denote.Ref.{now}
 use Rattle.printing.proofs.Printing.{both, same-text}
-use Rattle.views.proofs.Inserting.{renamed}
+use Rattle.orders.proofs.Inserting.{renamed}
 use Rattle.report.proofs.TextLaws.{text-is}
-use Rattle.views.proofs.Sorting.{sorted-ids}
+use Rattle.orders.proofs.Sorting.{sorted-ids}
 use Rattle.report.proofs.print.Statement.{statement}
 use Rattle.report.proofs.print.Tie as tie
 

@@ -7,7 +7,7 @@ use denote.Ref.{now}
 use Rattle.report.specs.Parts.{partOf}
 use Rattle.printing.proofs.Printing.{both, same-text}
 use Rattle.report.proofs.TextLaws.{read-offs-is}
-use Rattle.views.proofs.Sorting.{sorted-tags}
+use Rattle.views.specs.BoardLaws.{sorted-tags}
 use Rattle.wording.specs.declared.Part.the-variants.{Marks, Set, List as Entries}
 use Rattle.report.proofs.print_read_offs.Statement.{statement}
 use Rattle.report.proofs.print_read_offs.Tie as tie

@@ -9,10 +9,10 @@ use lib.ListN.{length, getD, drop}
 use denote.Ref.{now}
 use Rattle.format.specs.Decode.{part}
 use Rattle.printing.specs.Page.{Prints}
-use Rattle.views.specs.Pieces.{placesIn}
+use Rattle.orders.specs.Pieces.{placesIn}
 use Rattle.report.specs.Parts.{linesOf}
 use Rattle.printing.proofs.Printing.{both, nothing, same-text}
-use Rattle.views.proofs.Inserting.{next, ended, below}
+use Rattle.orders.proofs.Inserting.{next, ended, below}
 use Rattle.report.proofs.TextLaws.{lines-next, lines-end}
 use Rattle.report.proofs.parts.lines.Statement.{statement}
 use Rattle.report.proofs.parts.lines.Tie as tie

@@ -3,7 +3,7 @@
 use native.Mathlib.Omega.{arith}
 use borrow.Author.Needs.{needs}
 use denote.Ref.{now}
-use Rattle.views.specs.Pieces.{placesIn}
+use Rattle.orders.specs.Pieces.{placesIn}
 use Rattle.printing.proofs.Printing.{both, same-text}
 use Rattle.report.proofs.TextLaws.{part-is}
 use Rattle.report.proofs.parts.print.Statement.{statement}

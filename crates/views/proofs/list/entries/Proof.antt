@@ -9,8 +9,9 @@ use lib.ListN.{length}
 use denote.Ref.{now}
 use Rattle.keys.specs.Member.{keep}
 use Rattle.views.specs.Board.{putAll, byRank}
-use Rattle.views.specs.Pieces.{placesIn, Lists, ranked}
-use Rattle.views.proofs.Inserting.{length-is, renamed}
+use Rattle.orders.specs.Pieces.{placesIn, Lists}
+use Rattle.views.specs.Ranked.{ranked}
+use Rattle.orders.proofs.Inserting.{length-is, renamed}
 use Rattle.views.proofs.Ranking.{rank-room, rank-start, rank-next, rank-end, rank-zero, rank-count}
 use Rattle.views.proofs.list.entries.Statement.{statement}
 use Rattle.views.proofs.list.entries.Tie as tie

@@ -8,9 +8,9 @@ use borrow.Author.Needs.{needs}
 use lib.ListN.{getD, take, drop}
 use denote.Ref.{now}
 use Rattle.views.specs.Board.{after}
-use Rattle.views.specs.Pieces.{placesIn}
-use Rattle.views.proofs.Inserting.{next, passed, ended, below}
-use Rattle.views.proofs.Sorting.{after-here, after-later, after-none}
+use Rattle.orders.specs.Pieces.{placesIn}
+use Rattle.orders.proofs.Inserting.{next, passed, ended, below}
+use Rattle.views.proofs.Following.{after-here, after-later, after-none}
 use Rattle.views.proofs.list.index_after.Statement.{statement}
 use Rattle.views.proofs.list.index_after.Tie as tie
 

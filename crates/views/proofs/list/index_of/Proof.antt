@@ -7,7 +7,7 @@ use borrow.Author.Needs.{needs}
 use denote.Ref.{now}
 use Rattle.format.specs.Decode.{decode}
 use Rattle.fields.specs.Fields.{anchorIn}
-use Rattle.views.specs.Pieces.{placesIn}
+use Rattle.orders.specs.Pieces.{placesIn}
 use Rattle.views.proofs.Ranking.{put-first, put-after}
 use Rattle.views.proofs.list.index_of.Statement.{statement}
 use Rattle.views.proofs.list.index_of.Tie as tie

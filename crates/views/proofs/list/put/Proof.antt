@@ -1,6 +1,6 @@
 -- `put` meets its contract.
 -- Assumes nothing.
-use Rattle.views.proofs.Inserting.{renamed}
+use Rattle.orders.proofs.Inserting.{renamed}
 use Rattle.views.proofs.list.put.Statement.{statement}
 use Rattle.views.proofs.list.put.Tie as tie
 

@@ -9,10 +9,11 @@ use lib.ListN.{length, getD, drop}
 use denote.Ref.{now}
 use Rattle.keys.specs.Member.{keep}
 use Rattle.views.specs.Board.{putAll}
-use Rattle.views.specs.Pieces.{placesIn, Sound, ranked}
-use Rattle.views.proofs.Inserting.{next, ended, below}
+use Rattle.orders.specs.Pieces.{placesIn, Sound}
+use Rattle.views.specs.Ranked.{ranked}
+use Rattle.orders.proofs.Inserting.{next, ended, below}
 use Rattle.views.proofs.Ranking.{ranked-is, Met, met-put, met-left, put-next, room-next, put-end, room-end}
-use Rattle.views.proofs.Keeping.{keep-one}
+use Rattle.orders.proofs.Keeping.{keep-one}
 use Rattle.views.proofs.list.put_rank.Statement.{statement}
 use Rattle.views.proofs.list.put_rank.Tie as tie
 

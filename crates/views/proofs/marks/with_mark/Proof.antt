@@ -4,9 +4,9 @@ use mathlib.Core.Path.{_∙_}
 use native.Mathlib.Omega.{arith}
 use borrow.Author.Needs.{needs}
 use Rattle.bits.specs.Bits.{has}
-use Rattle.views.specs.Pieces.{placesIn}
-use Rattle.views.proofs.Inserting.{renamed, ins-end}
-use Rattle.views.proofs.Keeping.{keep-yes, keep-nothing}
+use Rattle.orders.specs.Pieces.{placesIn}
+use Rattle.orders.proofs.Inserting.{renamed, ins-end}
+use Rattle.orders.proofs.Keeping.{keep-yes, keep-nothing}
 use Rattle.views.proofs.marks.with_mark.Statement.{statement}
 use Rattle.views.proofs.marks.with_mark.Tie as tie
 

@@ -7,9 +7,9 @@ use native.Mathlib.Omega.{arith}
 use borrow.Author.Needs.{needs}
 use lib.ListN.{length, getD, drop}
 use Rattle.printing.specs.Page.{Prints}
-use Rattle.views.specs.Pieces.{placesIn}
+use Rattle.orders.specs.Pieces.{placesIn}
 use Rattle.printing.proofs.Printing.{both, nothing, same-text}
-use Rattle.views.proofs.Inserting.{next, ended, below}
+use Rattle.orders.proofs.Inserting.{next, ended, below}
 use Rattle.writer.proofs.Laying.{idsOf, ids-next, ids-end}
 use Rattle.writer.proofs.layout.put_ids.Statement.{statement}
 use Rattle.writer.proofs.layout.put_ids.Tie as tie

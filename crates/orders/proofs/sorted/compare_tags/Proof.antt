@@ -7,8 +7,8 @@ use borrow.Author.Needs.{needs}
 use Rattle.keys.specs.Compare.{orderOf}
 use Rattle.format.specs.Decode.{decode}
 use Rattle.fields.specs.Fields.{tagIn}
-use Rattle.views.proofs.sorted.compare_tags.Statement.{statement}
-use Rattle.views.proofs.sorted.compare_tags.Tie as tie
+use Rattle.orders.proofs.sorted.compare_tags.Statement.{statement}
+use Rattle.orders.proofs.sorted.compare_tags.Tie as tie
 
 pub compare-tags-spec : {M : Type 1} → statement M
 compare-tags-spec =

@@ -5,10 +5,10 @@ use mathlib.Core.Bool.{Bool, cond}
 use borrow.Author.Needs.{needs}
 use denote.Ref.{now}
 use Rattle.keys.specs.Sort.{insert}
-use Rattle.views.specs.Pieces.{placesIn, keyOf}
-use Rattle.views.proofs.Inserting.{renamed}
-use Rattle.views.proofs.sorted.insert_listed.Statement.{statement}
-use Rattle.views.proofs.sorted.insert_listed.Tie as tie
+use Rattle.orders.specs.Pieces.{placesIn, keyOf}
+use Rattle.orders.proofs.Inserting.{renamed}
+use Rattle.orders.proofs.sorted.insert_listed.Statement.{statement}
+use Rattle.orders.proofs.sorted.insert_listed.Tie as tie
 
 pub insert-listed-spec : {M : Type 1} → statement M
 insert-listed-spec =

@@ -2,7 +2,7 @@
 ghost use mathlib.Core.Path.{_≡_};
 ghost use mathlib.Core.List.{[]};
 ghost use Prim.Native.Nat.{_+_, _≤_, _<_};
-ghost use Rattle.views.specs.Pieces.{placesIn, ins, Sound, Lists};
+ghost use Rattle.orders.specs.Pieces.{placesIn, ins, Sound, Lists};
 use crate::Places;
 use state::PLACES;
 

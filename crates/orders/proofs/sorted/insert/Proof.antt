@@ -8,11 +8,11 @@ use borrow.Author.Needs.{needs}
 use lib.ListN.{getD, take, drop}
 use denote.Ref.{now}
 use Rattle.keys.specs.Sort.{insert}
-use Rattle.views.specs.Pieces.{placesIn, keyOf}
-use Rattle.views.proofs.Inserting.{next, passed, ended, below, renamed}
-use Rattle.views.proofs.Sorting.{less, equal, greater, over}
-use Rattle.views.proofs.sorted.insert.Statement.{statement}
-use Rattle.views.proofs.sorted.insert.Tie as tie
+use Rattle.orders.specs.Pieces.{placesIn, keyOf}
+use Rattle.orders.proofs.Inserting.{next, passed, ended, below, renamed}
+use Rattle.orders.proofs.Sorting.{less, equal, greater, over}
+use Rattle.orders.proofs.sorted.insert.Statement.{statement}
+use Rattle.orders.proofs.sorted.insert.Tie as tie
 
 abbrev Inv-loop : tie.InvT-loop
 Inv-loop store key j l places count own i₀ i =

@@ -5,11 +5,11 @@ use mathlib.Core.Path.{sym}
 use native.Mathlib.Omega.{arith}
 use borrow.Author.Needs.{needs}
 use denote.Ref.{now}
-use Rattle.views.specs.Pieces.{Lists, keyOf, candidate, sortedBy}
-use Rattle.views.proofs.Inserting.{renamed}
-use Rattle.views.proofs.Sorting.{from, from-end, from-step, from-all}
-use Rattle.views.proofs.sorted.sorted.Statement.{statement}
-use Rattle.views.proofs.sorted.sorted.Tie as tie
+use Rattle.orders.specs.Pieces.{Lists, keyOf, candidate, sortedBy}
+use Rattle.orders.proofs.Inserting.{renamed}
+use Rattle.orders.proofs.Sorting.{from, from-end, from-step, from-all}
+use Rattle.orders.proofs.sorted.sorted.Statement.{statement}
+use Rattle.orders.proofs.sorted.sorted.Tie as tie
 
 abbrev Inv-loop : tie.InvT-loop
 Inv-loop l store key places₀ k₀ places k =

@@ -14,10 +14,10 @@ use Rattle.state.specs.declared.Ledger.{Ledger}
 use Rattle.state.specs.declared.Place.{Place}
 use Rattle.state.specs.State.{places, placeAt}
 use Rattle.relations.specs.PlaceTests.{presentAt}
-use Rattle.relations.specs.Related.{decodedIn, rankedIn}
-use Rattle.views.specs.declared.Places.{Places}
-use Rattle.views.specs.declared.Key.{Key}
-use Rattle.views.specs.declared.Key.the-variants.{Id, Tag}
+use Rattle.relations.specs.Related.{decodedIn}
+use Rattle.orders.specs.declared.Places.{Places}
+use Rattle.orders.specs.declared.Key.{Key}
+use Rattle.orders.specs.declared.Key.the-variants.{Id, Tag}
 
 -- the places of a list
 abbrev pub placesIn : Places → List ℕ
@@ -48,10 +48,6 @@ keyIn s Id p k = p .id
 keyIn s Tag p k = tagIn (decodedIn s p k)
 
 module _ (l : Ledger) (s : List ℕ) where
-  -- k holds a held Insert with n ancestors
-  unfoldable pub ranked : ℕ → ℕ → Bool
-  ranked n k = rankedIn s n (placeAt l k) k
-
   -- what an ascending list goes by, the places that it lists, and the list
   abbrev pub keyOf : Key → ℕ → List ℕ
   keyOf y k = keyIn s y (placeAt l k) k

@@ -5,10 +5,10 @@ use mathlib.Core.Path.{_≡_, refl, _∙_}
 use native.Mathlib.Omega.{arith}
 use borrow.Author.Needs.{needs}
 use lib.ListN.{length, length-set}
-use Rattle.views.specs.Pieces.{ins}
-use Rattle.views.proofs.Inserting.{carry, inserted}
-use Rattle.views.proofs.Places.insert.Statement.{statement}
-use Rattle.views.proofs.Places.insert.Tie as tie
+use Rattle.orders.specs.Pieces.{ins}
+use Rattle.orders.proofs.Inserting.{carry, inserted}
+use Rattle.orders.proofs.Places.insert.Statement.{statement}
+use Rattle.orders.proofs.Places.insert.Tie as tie
 
 abbrev Inv-loop : tie.InvT-loop
 Inv-loop at k count items₀ carried₀ i₀ items carried i = (i ≤ count) × (length items ≡ 64) × (ins i carried items ≡ ins at k items₀)

@@ -3,10 +3,10 @@
 use mathlib.Core.Path.{sym, ap, _∙_}
 use borrow.Author.Needs.{needs}
 use denote.Ref.{now}
-use Rattle.views.specs.declared.Key.{Key}
-use Rattle.views.specs.Pieces.{candidate}
-use Rattle.views.proofs.sorted.candidate.Statement.{statement}
-use Rattle.views.proofs.sorted.candidate.Tie as tie
+use Rattle.orders.specs.declared.Key.{Key}
+use Rattle.orders.specs.Pieces.{candidate}
+use Rattle.orders.proofs.sorted.candidate.Statement.{statement}
+use Rattle.orders.proofs.sorted.candidate.Tie as tie
 
 pub candidate-spec : {M : Type 1} → statement M
 candidate-spec =

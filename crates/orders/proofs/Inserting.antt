@@ -12,8 +12,8 @@ use lib.ListN.{length, getD, set, take, drop, length-set, drop-of-length-le}
 use lib.Seq.{length-take-le, take-suc, take-suc-set, drop-set-lt, drop-cons, getD-take, take-append-add, take-all}
 use Rattle.keys.specs.Member.{all}
 use Rattle.keys.specs.BoolLaws.{and-true, and-true→}
-use Rattle.views.specs.declared.Places.{Places}
-use Rattle.views.specs.Pieces.{placesIn, ins, small, Sound, Lists}
+use Rattle.orders.specs.declared.Places.{Places}
+use Rattle.orders.specs.Pieces.{placesIn, ins, small, Sound, Lists}
 
 -- the list with c put before the index i does not change where c takes the place of the i-th element, and that goes on
 pub carry : (ys : List ℕ) (i c : ℕ) → i < length ys → ins (i + 1) (getD ys i 0) (set ys i c) ≡ ins i c ys
@@ -50,6 +50,10 @@ module _ (p : ℕ → Bool) where
   all-get [] i a h = absurd (omega arith)
   all-get (x ∷ xs) zero a h = and-true→ (p x) (all p xs) a .0
   all-get (x ∷ xs) (suc i) a h = all-get xs i (and-true→ (p x) (all p xs) a .1) (omega arith)
+
+-- one place further
+pub shift : (xs zs : List ℕ) (i y : ℕ) → take (i + 1) xs ≡ take i xs ++ (y ∷ []) → take i xs ++ (y ∷ zs) ≡ take (i + 1) xs ++ zs
+shift xs zs i y e = sym (ap (λ (a : List ℕ). a ++ zs) e ∙ append-assoc (take i xs) (y ∷ []) zs)
 
 -- the places by another name
 pub renamed : {o : Places} {xs ys : List ℕ} → xs ≡ ys → Lists o xs → Lists o ys

@@ -1,9 +1,9 @@
--- A list of places met one after the other: putting a place by its key, or after an id; and the numbers below n.
+-- A list of places met one after the other: putting a place by its key; and the numbers below n.
 -- Assumes nothing.
 use Prim.Native.Nat.{ℕ, zero, suc, _+_, _-_, _≤_, _<_}
 use mathlib.Core.Path.{_≡_, refl, sym, ap, _∙_}
 use mathlib.Core.Logic.{⊎-elim}
-use mathlib.Core.List.{List, [], _∷_, _++_, append-assoc}
+use mathlib.Core.List.{List, [], _∷_, _++_}
 use mathlib.Core.Bool.{Bool, true, false, cond}
 use native.Mathlib.Nat.{le-of-suc-le-suc, eq-or-lt-of-le}
 use native.Mathlib.Numerals.{add-one}
@@ -19,14 +19,10 @@ use Rattle.keys.specs.declared.Order.{Order}
 use Rattle.keys.specs.declared.Order.the-variants.{Less, Equal, Greater}
 use Rattle.bits.specs.Below.{upTo}
 use Rattle.state.specs.declared.Ledger.{Ledger}
-use Rattle.views.specs.declared.Key.the-variants.{Id, Tag}
+use Rattle.orders.specs.declared.Key.the-variants.{Id}
 use Rattle.relations.specs.PlaceTests.{idAt, order}
-use Rattle.views.specs.Board.{tagAt, tagOrder, after}
-use Rattle.views.specs.Pieces.{ins, candidate, sortedBy}
-
--- one place further
-shift : (xs zs : List ℕ) (i y : ℕ) → take (i + 1) xs ≡ take i xs ++ (y ∷ []) → take i xs ++ (y ∷ zs) ≡ take (i + 1) xs ++ zs
-shift xs zs i y e = sym (ap (λ (a : List ℕ). a ++ zs) e ∙ append-assoc (take i xs) (y ∷ []) zs)
+use Rattle.orders.specs.Pieces.{ins, candidate, sortedBy}
+use Rattle.orders.proofs.Inserting.{shift}
 
 module _ (key : ℕ → List ℕ) (x : ℕ) where
   abbrev byOrder : Order → ℕ → List ℕ → List ℕ
@@ -64,26 +60,6 @@ module _ (key : ℕ → List ℕ) (x : ℕ) where
     pub over : drop i xs ≡ [] → ins i x xs ≡ insert key x xs
     unfolding insert
     over d = sym (inv ∙ ap (λ (r : List ℕ). take i xs ++ insert key x r) d ∙ ap (λ (r : List ℕ). take i xs ++ (x ∷ r)) (sym d))
-
-module _ (l : Ledger) (s a : List ℕ) (e : ℕ) (xs : List ℕ) (i y : ℕ) (inv : after l s a e xs ≡ take i xs ++ after l s a e (drop i xs)) where
-  meets : {b : Bool} → drop i xs ≡ y ∷ drop (i + 1) xs → same (idAt l s y) a ≡ b →
-      after l s a e xs ≡ take i xs ++ cond b (y ∷ e ∷ drop (i + 1) xs) (y ∷ after l s a e (drop (i + 1) xs))
-  unfolding after
-  meets d h =
-      inv
-      ∙ ap (λ (r : List ℕ). take i xs ++ after l s a e r) d
-      ∙ ap (λ (b : Bool). take i xs ++ cond b (y ∷ e ∷ drop (i + 1) xs) (y ∷ after l s a e (drop (i + 1) xs))) h
-
-  pub after-here : drop i xs ≡ y ∷ drop (i + 1) xs → take (i + 1) xs ≡ take i xs ++ (y ∷ []) → same (idAt l s y) a ≡ true → ins (i + 1) e xs ≡ after l s a e xs
-  after-here d t h = sym (meets d h ∙ shift xs (e ∷ drop (i + 1) xs) i y t)
-
-  pub after-later : drop i xs ≡ y ∷ drop (i + 1) xs → take (i + 1) xs ≡ take i xs ++ (y ∷ []) → same (idAt l s y) a ≡ false →
-      after l s a e xs ≡ take (i + 1) xs ++ after l s a e (drop (i + 1) xs)
-  after-later d t h = meets d h ∙ shift xs (after l s a e (drop (i + 1) xs)) i y t
-
-  pub after-none : drop i xs ≡ [] → ins i e xs ≡ after l s a e xs
-  unfolding after
-  after-none d = sym (inv ∙ ap (λ (r : List ℕ). take i xs ++ after l s a e r) d ∙ ap (λ (r : List ℕ). take i xs ++ (e ∷ r)) (sym d))
 
 -- the numbers below n
 pub upTo-length : (n : ℕ) → length (upTo n) ≡ n
@@ -140,12 +116,8 @@ module _ (key : ℕ → List ℕ) (p : ℕ → Bool) (n : ℕ) where
   pub from-all : (k : ℕ) → k ≤ 0 → from k ≡ sort key (keep p (upTo n))
   from-all k h = let e : k ≡ 0 = omega arith in ap from e
 
--- the places by id, and those of the set by tag
+-- the places by id
 module _ (l : Ledger) (s : List ℕ) where
   pub sorted-ids : sortedBy l s Id ≡ order l s
   unfolding sortedBy order
   sorted-ids = ap (sort (idAt l s)) (keep-all (candidate l s Id) (upTo (l .used)) (λ x m. refl))
-
-  pub sorted-tags : sortedBy l s Tag ≡ tagOrder l s
-  unfolding sortedBy tagOrder tagAt
-  sorted-tags = refl

@@ -4,10 +4,10 @@ use mathlib.Core.Path.{sym, ap, _∙_}
 use borrow.Author.Needs.{needs}
 use denote.Ref.{now}
 use Rattle.keys.specs.Compare.{orderOf}
-use Rattle.views.specs.declared.Key.{Key}
-use Rattle.views.specs.Pieces.{keyIn}
-use Rattle.views.proofs.sorted.compare.Statement.{statement}
-use Rattle.views.proofs.sorted.compare.Tie as tie
+use Rattle.orders.specs.declared.Key.{Key}
+use Rattle.orders.specs.Pieces.{keyIn}
+use Rattle.orders.proofs.sorted.compare.Statement.{statement}
+use Rattle.orders.proofs.sorted.compare.Tie as tie
 
 pub compare-spec : {M : Type 1} → statement M
 compare-spec =

@@ -5,7 +5,7 @@ ghost use Prim.Native.Nat.{_+_, _≤_, _<_};
 ghost use Rattle.keys.specs.Compare.{orderOf};
 ghost use Rattle.keys.specs.Sort.{insert as insertBy};
 ghost use Rattle.fields.specs.Fields.{tagIn};
-ghost use Rattle.views.specs.Pieces.{placesIn, Sound, Lists, keyIn, keyOf, candidate as candidateOf, sortedBy};
+ghost use Rattle.orders.specs.Pieces.{placesIn, Sound, Lists, keyIn, keyOf, candidate as candidateOf, sortedBy};
 ghost use Rattle.relations.specs.Related.{decodedIn};
 use crate::Key;
 use crate::Places;

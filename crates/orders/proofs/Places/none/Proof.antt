@@ -3,8 +3,8 @@
 use mathlib.Core.Path.{refl}
 use native.Mathlib.Omega.{arith}
 use Rattle.keys.specs.Member.{all}
-use Rattle.views.proofs.Places.none.Statement.{statement}
-use Rattle.views.proofs.Places.none.Tie as tie
+use Rattle.orders.proofs.Places.none.Statement.{statement}
+use Rattle.orders.proofs.Places.none.Tie as tie
 
 returns : tie.Need-returns
 unfolding all

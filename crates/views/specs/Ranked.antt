@@ -1,0 +1,13 @@
+-- The places that are put together: the held Inserts of one rank.
+-- Assumes nothing.
+use Prim.Native.Nat.{ℕ}
+use mathlib.Core.List.{List}
+use mathlib.Core.Bool.{Bool}
+use Rattle.state.specs.declared.Ledger.{Ledger}
+use Rattle.state.specs.State.{placeAt}
+use Rattle.relations.specs.Related.{rankedIn}
+
+module _ (l : Ledger) (s : List ℕ) where
+  -- k holds a held Insert with n ancestors
+  unfoldable pub ranked : ℕ → ℕ → Bool
+  ranked n k = rankedIn s n (placeAt l k) k
