@@ -41,7 +41,7 @@ pub fn fill(s: &mut [u8]) {
 // The commands that only print.
 fn print(slots: &[u8], c: usize, line: &[u8]) {
     match c {
-        READ => show::read(format::read(bytes_of(slots, slot(word(line, 1))))),
+        READ => show::read(parsing::read(bytes_of(slots, slot(word(line, 1))))),
         COMPARE => compare(slots, word(line, 1), word(line, 2)),
         HEADING => {
             text(line);

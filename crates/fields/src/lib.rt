@@ -30,7 +30,7 @@ pub struct Layout {
 fn layout_of(b: &[u8]) -> Layout
     ensures { λ r. ⌜ Laid (now (b .entry)) r (decode (now (b .entry))) ⌝ }
 {
-    match format::read(b) {
+    match parsing::read(b) {
         Reading::Update(u) => {
             let operation = u.operation;
             match operation {

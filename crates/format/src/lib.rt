@@ -1,24 +1,15 @@
-// One update: from its bytes to the offsets of its fields, or the refusal (rows 2 to 9 of document 01's table), and the parts of the bytes
+// One update: the offsets of its fields in the bytes, or the refusal (rows 2 to 9 of document 01's table), and the parts of the bytes
 // that the offsets name.
 ghost use mathlib.Core.Path.{_≡_};
-ghost use Rattle.format.specs.Decode.{decode};
-ghost use Rattle.format.specs.Reading.{decodedOf, readingOf, numberOf};
+ghost use Rattle.format.specs.Reading.{numberOf};
 
-mod body;
 pub mod bounds;
 mod ids;
 
-use bounds::MAX_AUTHOR;
-use bounds::MAX_LENGTH;
-use bounds::MAX_PREDECESSORS;
-use bounds::MIN_LENGTH;
-use bounds::VERSION;
 pub use ids::ascends;
 pub use ids::named;
 pub use ids::part_of;
 pub use ids::predecessor;
-use reader::byte_past;
-use reader::wide;
 
 // The offsets of an operation's fields.
 pub enum Operation {
@@ -79,30 +70,4 @@ impl Malformed {
 pub enum Reading {
     Update(Parsed),
     Refused(Malformed),
-}
-
-// Reads an update of any length: the number of the first row that applies, or the offsets.
-pub fn read(s: &[u8]) -> Reading
-    ensures decoded { λ r. ⌜ decodedOf (now (s .entry)) r ≡ decode (now (s .entry)) ⌝ }
-    ensures offsets { λ r. ⌜ r ≡ readingOf (now (s .entry)) ⌝ }
-{
-    if s.len() < MIN_LENGTH {
-        return Reading::Refused(Malformed::Length);
-    }
-    if MAX_LENGTH < s.len() {
-        return Reading::Refused(Malformed::Length);
-    }
-    let version = byte_past(s, 0);
-    if version != VERSION {
-        return Reading::Refused(Malformed::Version);
-    }
-    let author = byte_past(s, 1);
-    if MAX_AUTHOR < author {
-        return Reading::Refused(Malformed::Author);
-    }
-    let count = byte_past(s, 2);
-    if MAX_PREDECESSORS < count {
-        return Reading::Refused(Malformed::Predecessors);
-    }
-    body::read(s, author, wide(count))
 }

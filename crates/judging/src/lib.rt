@@ -227,7 +227,7 @@ pub fn judge_bytes(l: Ledger, store: &[u8], b: &[u8]) -> Judgement
     requires { ⌜ l .used ≤ 64 ⌝ }
     ensures { λ r. ⌜ r ≡ judgeDecoded l (now (store .entry)) (decode (now (b .entry))) ⌝ }
 {
-    match format::read(b) {
+    match parsing::read(b) {
         Reading::Update(u) => judge_update(l, store, b, u),
         Reading::Refused(_) => Judgement::Waits,
     }

@@ -38,7 +38,7 @@ pub fn offer(ledger: Ledger, store: &mut [u8], update: &[u8]) -> Offered
     if !sound(ledger, store) {
         return left(ledger, Answer::Refused(Refusal::Unfit));
     }
-    match format::read(update) {
+    match parsing::read(update) {
         Reading::Refused(m) => left(ledger, Answer::Refused(Refusal::Malformed(m))),
         Reading::Update(_) => offer_formed(ledger, store, update),
     }

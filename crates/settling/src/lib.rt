@@ -38,7 +38,7 @@ fn waits(p: Place) -> bool
 fn follows(b: &[u8], id: &[u8]) -> bool
     ensures { λ r. ⌜ r ≡ followsIn (now (id .entry)) (decode (now (b .entry))) ⌝ }
 {
-    match format::read(b) {
+    match parsing::read(b) {
         Reading::Update(u) => fields::among(b, FIRST_PREDECESSOR, u.count, id),
         Reading::Refused(_) => false,
     }

@@ -4,11 +4,11 @@ use mathlib.Core.Path.{_≡_}
 use native.Mathlib.Omega.{arith}
 use borrow.Author.Needs.{needs}
 use denote.Ref.{now}
 use Rattle.format.specs.Decode.{kindOf}
 use Rattle.format.specs.Laws.{add-length, insert-length, delete-length}
-use Rattle.format.proofs.BodyTests.{other-ends}
-use Rattle.format.proofs.body.wrong_layout.Statement.{statement}
-use Rattle.format.proofs.body.wrong_layout.Tie as tie
+use Rattle.parsing.proofs.BodyTests.{other-ends}
+use Rattle.parsing.proofs.body.wrong_layout.Statement.{statement}
+use Rattle.parsing.proofs.body.wrong_layout.Tie as tie
 
 pub wrong-layout-spec : {M : Type 1} → statement M
 wrong-layout-spec =

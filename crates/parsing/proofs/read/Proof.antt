@@ -8,12 +8,12 @@ use mathlib.Core.Bool.{false}
 use native.Mathlib.Omega.{arith}
 use borrow.Author.Needs.{needs}
 use denote.Ref.{now}
 use Rattle.format.specs.Decode.{authorOf, countOf, row2, row3, row4, decode}
 use Rattle.format.specs.Reading.{decodedOf, readingOf, reading-decodes}
 use Rattle.format.specs.declared.Reading.{Reading}
-use Rattle.format.proofs.Chain.{row2-short, row2-long, row2-no, row3-yes, row3-no, row4-yes, row4-no, row5-yes, row5-no}
-use Rattle.format.proofs.read.Statement.{statement}
-use Rattle.format.proofs.read.Tie as tie
+use Rattle.parsing.proofs.Chain.{row2-short, row2-long, row2-no, row3-yes, row3-no, row4-yes, row4-no, row5-yes, row5-no}
+use Rattle.parsing.proofs.read.Statement.{statement}
+use Rattle.parsing.proofs.read.Tie as tie
 
 -- both clauses, from the second
 both : (b : List ℕ) (r : Reading) → r ≡ readingOf b → (decodedOf b r ≡ decode b) × (r ≡ readingOf b)

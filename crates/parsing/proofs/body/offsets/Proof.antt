@@ -6,9 +6,9 @@ use native.Mathlib.Omega.{arith}
 use borrow.Author.Needs.{needs}
 use lib.ListN.{getD}
 use denote.Ref.{now}
-use Rattle.format.proofs.BodyTests.{add-offsets, remove-offsets, insert-offsets, delete-offsets}
-use Rattle.format.proofs.body.offsets.Statement.{statement}
-use Rattle.format.proofs.body.offsets.Tie as tie
+use Rattle.parsing.proofs.BodyTests.{add-offsets, remove-offsets, insert-offsets, delete-offsets}
+use Rattle.parsing.proofs.body.offsets.Statement.{statement}
+use Rattle.parsing.proofs.body.offsets.Tie as tie
 
 pub offsets-spec : {M : Type 1} → statement M
 offsets-spec =

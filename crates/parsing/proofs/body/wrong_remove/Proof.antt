@@ -6,11 +6,11 @@ use native.Mathlib.Omega.{arith}
 use borrow.Author.Needs.{needs}
 use lib.ListN.{getD}
 use denote.Ref.{now}
 use Rattle.format.specs.Decode.{namedCountOf}
 use Rattle.format.specs.Laws.{remove-length}
-use Rattle.format.proofs.BodyTests.{count-missing, count-large, remove-ends}
-use Rattle.format.proofs.body.wrong_remove.Statement.{statement}
-use Rattle.format.proofs.body.wrong_remove.Tie as tie
+use Rattle.parsing.proofs.BodyTests.{count-missing, count-large, remove-ends}
+use Rattle.parsing.proofs.body.wrong_remove.Statement.{statement}
+use Rattle.parsing.proofs.body.wrong_remove.Tie as tie
 
 -- the byte that was read is the count
 count : (c : tie.After-byte-past) → c .byte-past .result ≡ namedCountOf (now (c .before .before .before .args .s))

@@ -4,9 +4,9 @@ use mathlib.Core.Path.{refl, sym, _∙_}
 use borrow.Author.Needs.{needs}
 use borrow.Author.Tests.{not-true, not-false}
 use denote.Ref.{now}
-use Rattle.format.proofs.BodyTests.{preds-unordered, named-decide, none-decide}
-use Rattle.format.proofs.body.ordered.Statement.{statement}
-use Rattle.format.proofs.body.ordered.Tie as tie
+use Rattle.parsing.proofs.BodyTests.{preds-unordered, named-decide, none-decide}
+use Rattle.parsing.proofs.body.ordered.Statement.{statement}
+use Rattle.parsing.proofs.body.ordered.Tie as tie
 
 pub ordered-spec : {M : Type 1} → statement M
 ordered-spec =

@@ -8,11 +8,11 @@ use native.Mathlib.Omega.{arith}
 use borrow.Author.Needs.{needs}
 use lib.ListN.{getD}
 use denote.Ref.{now}
 use Rattle.format.specs.Decode.{kindOf, row6, row7}
 use Rattle.format.specs.Places.{AtBody}
-use Rattle.format.proofs.Chain.{row6-yes, row6-no, row7-low, row7-high, row7-no, row8-yes, row9-yes, no-row}
-use Rattle.format.proofs.body.read.Statement.{statement}
-use Rattle.format.proofs.body.read.Tie as tie
+use Rattle.parsing.proofs.Chain.{row6-yes, row6-no, row7-low, row7-high, row7-no, row8-yes, row9-yes, no-row}
+use Rattle.parsing.proofs.body.read.Statement.{statement}
+use Rattle.parsing.proofs.body.read.Tie as tie
 
 -- the bytes, as the place behind row 6 has them
 abbrev bytes : tie.Else1 → List ℕ

@@ -1,0 +1,2 @@
+pub mod BodyTests
+pub mod Chain

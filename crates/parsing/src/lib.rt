@@ -1,0 +1,42 @@
+// Reads one update: from its bytes to the offsets of its fields, or the refusal (rows 2 to 9 of document 01's table).
+ghost use mathlib.Core.Path.{_≡_};
+ghost use Rattle.format.specs.Decode.{decode};
+ghost use Rattle.format.specs.Reading.{decodedOf, readingOf};
+
+mod body;
+
+use format::Malformed;
+use format::Reading;
+use format::bounds::MAX_AUTHOR;
+use format::bounds::MAX_LENGTH;
+use format::bounds::MAX_PREDECESSORS;
+use format::bounds::MIN_LENGTH;
+use format::bounds::VERSION;
+use reader::byte_past;
+use reader::wide;
+
+// Reads an update of any length: the number of the first row that applies, or the offsets.
+pub fn read(s: &[u8]) -> Reading
+    ensures decoded { λ r. ⌜ decodedOf (now (s .entry)) r ≡ decode (now (s .entry)) ⌝ }
+    ensures offsets { λ r. ⌜ r ≡ readingOf (now (s .entry)) ⌝ }
+{
+    if s.len() < MIN_LENGTH {
+        return Reading::Refused(Malformed::Length);
+    }
+    if MAX_LENGTH < s.len() {
+        return Reading::Refused(Malformed::Length);
+    }
+    let version = byte_past(s, 0);
+    if version != VERSION {
+        return Reading::Refused(Malformed::Version);
+    }
+    let author = byte_past(s, 1);
+    if MAX_AUTHOR < author {
+        return Reading::Refused(Malformed::Author);
+    }
+    let count = byte_past(s, 2);
+    if MAX_PREDECESSORS < count {
+        return Reading::Refused(Malformed::Predecessors);
+    }
+    body::read(s, author, wide(count))
+}
