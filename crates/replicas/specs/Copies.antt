@@ -13,7 +13,8 @@ use Rattle.format.specs.Update.{Update}
 use Rattle.rules.specs.Report.{reportOf}
 use Rattle.rules.specs.ReportLaws.{same-report, report-shows-set}
 use Rattle.state.specs.declared.Ledger.{Ledger}
-use Rattle.state.specs.State.{storeLength, freshLedger}
+use Rattle.state.specs.State.{storeLength, Book}
+use Rattle.state.specs.View.{bookOf, freshLedger}
 use Rattle.state.specs.Stands.{ident, Stands}
 use Rattle.ledger.specs.declared.Reported.{Reported}
 use Rattle.ledger.specs.declared.Reported.the-variants.{Written}
@@ -34,7 +35,7 @@ pub record Copy (bs : List (List ℕ)) (full : List ℕ) : Type 0 where
   pub buffer : List ℕ
   pub buffer-after : List ℕ
   pub answer : ℕ
-  pub reported : Reporting ledger store buffer (Written answer) buffer-after
+  pub reported : Reporting (bookOf ledger) store buffer (Written answer) buffer-after
   pub shown : full ≡ take answer buffer-after
 
 pub record SideBySide (xs ys : List (List ℕ)) (first second : List ℕ) : Type 0 where
@@ -44,7 +45,7 @@ pub record SideBySide (xs ys : List (List ℕ)) (first second : List ℕ) : Type
   pub second-right : second ≡ reportFor (setOf ys)
 
 -- the full report of a copy is the report of the updates stored
-shown : {l : Ledger} {s o o′ : List ℕ} {r : Reported} (us : List Update) → Stands l s us → Reporting l s o r o′
+shown : {l : Book} {s o o′ : List ℕ} {r : Reported} (us : List Update) → Stands l s us → Reporting l s o r o′
     → (n : ℕ) → r ≡ Written n → take n o′ ≡ reportOf ident us
 shown us h (unfit e) n q = let z : _≡_ {A = ℕ} 0 1 = cc in absurd (omega arith)
 shown us h (short text e t k) n q = let z : _≡_ {A = ℕ} 0 1 = cc in absurd (omega arith)
