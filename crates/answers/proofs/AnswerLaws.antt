@@ -14,7 +14,7 @@ use Rattle.state.specs.declared.Standing.the-variants.{Held, Waiting, Void}
 use Rattle.refusals.specs.declared.Refusal.{Refusal}
 use Rattle.refusals.specs.declared.Refusal.the-variants.{Unfit, Malformed as Bad, Full, Short, Invalid}
 use Rattle.offering.specs.declared.Answer.the-variants.{Taken, Known, Refused}
-use Rattle.offering.specs.Words.{standingWord, answerText}
+use Rattle.offering.specs.Words.{verdictWord, standingWord, valuesText, answerText}
 use Rattle.refusals.specs.Numbers.{refusalNumber}
 
 -- a standing's word in bytes
@@ -24,7 +24,7 @@ bytesOf Waiting = 119 ∷ 97 ∷ 105 ∷ 116 ∷ 105 ∷ 110 ∷ 103 ∷ []
 bytesOf Void = 118 ∷ 111 ∷ 105 ∷ 100 ∷ []
 
 word-bytes : (v : Standing) → bytesOf v ≡ standingWord v
-unfolding standingWord ascii codes
+unfolding verdictWord ascii codes
 word-bytes Held = refl
 word-bytes Waiting = refl
 word-bytes Void = refl
@@ -38,16 +38,16 @@ pub taken-text : (v : Standing) (h w : ℕ) →
     (40 ∷ 116 ∷ 97 ∷ 107 ∷ 101 ∷ 110 ∷ 32 ∷ [])
     ++ (standingWord v ++ ((32 ∷ []) ++ (decimal h ++ ((32 ∷ []) ++ (decimal w ++ (41 ∷ 10 ∷ []))))))
     ≡ answerText (Taken v h w)
-unfolding answerText ascii codes
+unfolding valuesText ascii codes
 taken-text v h w = refl
 
 pub known-text : (v : Standing) → (40 ∷ 107 ∷ 110 ∷ 111 ∷ 119 ∷ 110 ∷ 32 ∷ []) ++ (standingWord v ++ (41 ∷ 10 ∷ [])) ≡ answerText (Known v)
-unfolding answerText ascii codes
+unfolding valuesText ascii codes
 known-text v = refl
 
 pub refused-text : (r : Refusal) (n : ℕ) → n ≡ refusalNumber r →
     (40 ∷ 114 ∷ 101 ∷ 102 ∷ 117 ∷ 115 ∷ 101 ∷ 100 ∷ 32 ∷ []) ++ (decimal n ++ (41 ∷ 10 ∷ [])) ≡ answerText (Refused r)
-unfolding answerText ascii codes
+unfolding valuesText ascii codes
 refused-text r n e = ap (λ (k : ℕ). 40 ∷ 114 ∷ 101 ∷ 102 ∷ 117 ∷ 115 ∷ 101 ∷ 100 ∷ 32 ∷ (decimal k ++ (41 ∷ 10 ∷ []))) e
 
 -- the numbers of the refusals have at most two digits

@@ -8,8 +8,7 @@ use lib.ListN.{length, take}
 use Rattle.rules.specs.Report.{ascii}
 use Rattle.printing.specs.Page.{Prints}
 use Rattle.reading.specs.Line.{lineIn}
-use Rattle.offering.specs.declared.Answer.{Answer}
-use Rattle.offering.specs.declared.Answer.the-variants.{Taken, Known, Refused}
+use Rattle.offering.specs.Values.{OfferValues, takenAs, knownAs, refusedAs}
 use Rattle.answers.specs.declared.Begun.{Begun}
 use Rattle.answers.specs.declared.Begun.the-variants.{Unread, Offers}
 
@@ -18,10 +17,10 @@ abbrev pub maxAnswer : ℕ
 maxAnswer = 22
 
 -- the counts have at most two digits
-abbrev pub Printable : Answer → Type 0
-Printable (Taken v h w) = (h < 100) × (w < 100)
-Printable (Known v) = Unit {0}
-Printable (Refused r) = Unit {0}
+abbrev pub Printable : OfferValues → Type 0
+Printable (takenAs v h w) = (h < 100) × (w < 100)
+Printable (knownAs v) = Unit {0}
+Printable (refusedAs n) = Unit {0}
 
 -- a line that is not read has its answer printed; the bytes of an offer are put into the update buffer
 pub data Begins (buffer : List ℕ) (fill : ℕ) (out : List ℕ) : Begun → List ℕ → List ℕ → Type 0 where

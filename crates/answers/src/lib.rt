@@ -2,6 +2,7 @@
 ghost use Prim.Native.Nat.{_+_, _≤_, _<_};
 ghost use lib.ListN.{length};
 ghost use Rattle.printing.specs.Page.{Prints};
+ghost use Rattle.offering.specs.Values.{offerValues};
 ghost use Rattle.offering.specs.Words.{standingWord, answerText};
 ghost use Rattle.offering.specs.declared.Answer.the-variants.{Taken, Known, Refused};
 ghost use Rattle.answers.specs.Answers.{maxAnswer, Printable, Begins};
@@ -70,7 +71,7 @@ fn print_refused(page: &mut [u8], refusal: Refusal) -> usize
 
 // The text of an answer.
 pub fn print_answer(page: &mut [u8], answer: Answer) -> usize
-    requires { ⌜ Printable answer ⌝ }
+    requires { ⌜ Printable (offerValues answer) ⌝ }
     ensures prints { λ r. ⌜ Prints (now (page .entry)) 0 (answerText answer) (now (page .exit)) r ⌝ }
     ensures small { λ r. ⌜ r ≤ maxAnswer ⌝ }
 {

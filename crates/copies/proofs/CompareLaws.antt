@@ -7,14 +7,15 @@ use mathlib.Core.Bool.{true, false}
 use lib.ListN.{length, take}
 use Rattle.keys.specs.Order.{same}
 use Rattle.refusals.specs.declared.Refusal.{Refusal}
+use Rattle.refusals.specs.Numbers.{refusalNumber}
 use Rattle.ledger.specs.declared.Reported.{Reported}
 use Rattle.ledger.specs.declared.Reported.the-variants.{Written, Refused as NotReported}
 use Rattle.state.specs.View.{bookOf}
-use Rattle.ledger.specs.Report.{Reporting}
+use Rattle.ledger.specs.Report.{reportValues, Reporting}
 use Rattle.copies.specs.declared.Compared.{Compared}
-use Rattle.copies.specs.declared.Compared.the-variants.{Same, Different, Refused}
-use Rattle.copies.specs.LengthLaws.{report-within, written-length}
-use Rattle.copies.specs.Check.{OneCopy, comparedOf, SecondChecking, refused, compared, Checking, first-refused, checking}
+use Rattle.copies.specs.declared.Compared.the-variants.{Same, Different, FirstUnreported, SecondUnreported}
+use Rattle.copies.specs.LengthLaws.{report-within, written-length, refused-leaves}
+use Rattle.copies.specs.Check.{OneCopy, comparedOf, SecondChecking, unreported, compared, Checking, first-unreported, checking}
 
 module _ {s s′ o o′ : List ℕ} {bs : List (List ℕ)} {r : Reported} (c : OneCopy bs s o r s′ o′) where
   answered : {x : Reported} → r ≡ x → Reporting (bookOf (c .ledger)) s′ o x o′
@@ -22,21 +23,29 @@ module _ {s s′ o o′ : List ℕ} {bs : List (List ℕ)} {r : Reported} (c : O
 
   -- a report that is written lies within the buffer
   pub copy-within : {n : ℕ} → r ≡ Written n → n ≤ length o′
-  copy-within {n} q = report-within (c .reports) n q
+  copy-within {n} q = report-within (c .reports) n (ap reportValues q)
 
   pub copy-length : {n : ℕ} → r ≡ Written n → n ≡ length (take n o′)
-  copy-length {n} q = sym (written-length (c .reports) n q)
+  copy-length {n} q = sym (written-length (c .reports) n (ap reportValues q))
 
-  pub first-not : {ys : List (List ℕ)} {t p : List ℕ} {e : Refusal} → r ≡ NotReported e → Checking bs ys s t o p (Refused e) s′ t o′ p
-  first-not {e = e} q = first-refused e (c .calls) (answered q)
+  -- where there is no report, the buffer is as it was
+  silent : {e : Refusal} → r ≡ NotReported e → o′ ≡ o
+  silent {e} q = refused-leaves (c .reports) (refusalNumber e) (ap reportValues q)
+
+  pub first-not : {ys : List (List ℕ)} {t p : List ℕ} {e : Refusal} → r ≡ NotReported e → Checking bs ys s t o p (FirstUnreported e) s′ t o′ p
+  first-not {ys} {t} {p} {e} q =
+      subst (λ (x : List ℕ). Checking bs ys s t o p (FirstUnreported e) s′ t x p) (sym (silent q))
+      (first-unreported e (c .calls) (subst (λ (x : List ℕ). Reporting (bookOf (c .ledger)) s′ o (NotReported e) x) (silent q) (answered q)))
 
   pub both : {ys : List (List ℕ)} {t p : List ℕ} {n : ℕ} → r ≡ Written n → {a : Compared} {t′ p′ : List ℕ}
       → SecondChecking (take n o′) ys t p a t′ p′ → Checking bs ys s t o p a s′ t′ o′ p′
   both {n = n} q k = checking n (c .calls) (answered q) k
 
   module _ {first : List ℕ} where
-    pub second-not : {e : Refusal} → r ≡ NotReported e → SecondChecking first bs s o (Refused e) s′ o′
-    second-not {e} q = refused e (c .calls) (answered q)
+    pub second-not : {e : Refusal} → r ≡ NotReported e → SecondChecking first bs s o (SecondUnreported e) s′ o′
+    second-not {e} q =
+        subst (λ (x : List ℕ). SecondChecking first bs s o (SecondUnreported e) s′ x) (sym (silent q))
+        (unreported e (c .calls) (subst (λ (x : List ℕ). Reporting (bookOf (c .ledger)) s′ o (NotReported e) x) (silent q) (answered q)))
 
     module _ {n : ℕ} (q : r ≡ Written n) where
       second-is : (a : Compared) → comparedOf first (take n o′) ≡ a → SecondChecking first bs s o a s′ o′

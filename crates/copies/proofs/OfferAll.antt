@@ -8,16 +8,16 @@ use denote.Ref.{RefT, now}
 use lib.ListN.{length, take, getD, length-map, List·getD-map}
 use lib.Seq.{take-suc, take-all}
 use Rattle.state.specs.declared.Ledger.{Ledger}
-use Rattle.offering.specs.declared.Offered.{Offered}
-use Rattle.offering.specs.Offer.{Offering}
+use Rattle.offering.specs.Values.{OfferValues}
+use Rattle.offering.specs.Offer.{OfferRow}
 use Rattle.ledger.specs.Calls.{Calls, done, call}
 
 -- what a list of slices holds
 abbrev pub bytes : List (RefT (List ℕ)) → List (List ℕ)
 bytes xs = map (λ (x : RefT (List ℕ)). now x) xs
 
-calls-then : {l l′ : Ledger} {s s′ t b : List ℕ} {bs : List (List ℕ)} {r : Offered}
-    → Calls l s bs l′ s′ → Offering l′ s′ b r t → Calls l s (bs ++ (b ∷ [])) (r .ledger) t
+calls-then : {l l′ r : Ledger} {s s′ t b : List ℕ} {bs : List (List ℕ)} {v : OfferValues}
+    → Calls l s bs l′ s′ → OfferRow l′ s′ b v r t → Calls l s (bs ++ (b ∷ [])) r t
 calls-then done o = call o done
 calls-then (call p c) o = call p (calls-then c o)
 
@@ -26,8 +26,8 @@ bytes-at xs i d h =
     take-suc (bytes xs) i (now d) (rw length-map h)
     ∙ ap (λ (b : List ℕ). take i (bytes xs) ++ (b ∷ [])) (List·getD-map (λ (x : RefT (List ℕ)). now x) xs i d)
 
-pub offered-next : {l l′ : Ledger} {s s′ t : List ℕ} {r : Offered} (xs : List (RefT (List ℕ))) (i : ℕ) (d : RefT (List ℕ)) → i < length xs
-    → Calls l s (take i (bytes xs)) l′ s′ → Offering l′ s′ (now (getD xs i d)) r t → Calls l s (take (i + 1) (bytes xs)) (r .ledger) t
+pub offered-next : {l l′ r : Ledger} {s s′ t : List ℕ} {v : OfferValues} (xs : List (RefT (List ℕ))) (i : ℕ) (d : RefT (List ℕ)) → i < length xs
+    → Calls l s (take i (bytes xs)) l′ s′ → OfferRow l′ s′ (now (getD xs i d)) v r t → Calls l s (take (i + 1) (bytes xs)) r t
 offered-next xs i d h c o = rw (add-one, bytes-at xs i d h) (calls-then c o)
 
 pub offered-all : {l l′ : Ledger} {s s′ : List ℕ} (xs : List (RefT (List ℕ))) (i : ℕ) → length xs ≤ i

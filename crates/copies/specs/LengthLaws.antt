@@ -1,4 +1,4 @@
--- Offers keep the store's length, and a report is only written where the store has the stated length.
+-- Offers keep the store's length; a report is only written where the store has the stated length; one that is refused leaves the buffer.
 -- Assumes nothing.
 use mathlib.Core.Path.{_≡_, refl, sym, _∙_}
 use Prim.Native.Nat.{ℕ, _≤_}
@@ -10,16 +10,16 @@ use Rattle.state.specs.declared.Ledger.{Ledger}
 use Rattle.state.specs.State.{storeLength, Book}
 use Rattle.state.specs.View.{bookOf}
 use Rattle.state.specs.Row1Laws.{sound→}
-use Rattle.offering.specs.declared.Offered.{Offered}
-use Rattle.ledger.specs.declared.Reported.{Reported}
+use Rattle.refusals.specs.Numbers.{Output, putBytes, refusedBy}
 use Rattle.ledger.specs.declared.Reported.the-variants.{Written}
-use Rattle.offering.specs.Offer.{Offering, unfit, malformed, known, full, taken}
+use Rattle.offering.specs.Values.{OfferValues}
+use Rattle.offering.specs.Offer.{OfferRow, unfit, malformed, known, full, taken}
 use Rattle.ledger.specs.Calls.{Calls, done, call}
-use Rattle.ledger.specs.Report.{Reporting, unfit as not-fit, short, written}
+use Rattle.ledger.specs.Report.{ReportRow, unfit as not-fit, short, written, Reporting}
 
-pub offer-length : {l : Ledger} {s s′ b : List ℕ} {r : Offered} → Offering l s b r s′ → length s′ ≡ length s
+pub offer-length : {l r : Ledger} {s s′ b : List ℕ} {v : OfferValues} → OfferRow l s b v r s′ → length s′ ≡ length s
 offer-length (unfit e) = refl
-offer-length (malformed m e d) = refl
+offer-length (malformed n e d) = refl
 offer-length (known u k e d f) = refl
 offer-length (full u e d f n) = refl
 offer-length {l = l} {s = s} (taken u r e d f n t) = sound→ (bookOf r) _ (t .still-sound) .store ∙ sym (sound→ (bookOf l) s e .store)
@@ -28,7 +28,7 @@ pub calls-length : {l l′ : Ledger} {s s′ : List ℕ} {bs : List (List ℕ)} 
 calls-length done = refl
 calls-length (call o c) = calls-length c ∙ offer-length o
 
-report-store : {l : Book} {s o o′ : List ℕ} {r : Reported} → Reporting l s o r o′ → (n : ℕ) → r ≡ Written n → length s ≡ storeLength
+report-store : {l : Book} {s o o′ : List ℕ} {v : Output} → ReportRow l s o v o′ → (n : ℕ) → v ≡ putBytes n → length s ≡ storeLength
 report-store (not-fit e) n q = let z : _≡_ {A = ℕ} 0 1 = cc in absurd (omega arith)
 report-store (short text e t k) n q = let z : _≡_ {A = ℕ} 0 1 = cc in absurd (omega arith)
 report-store {l = l} {s = s} (written text e t k) n q = sound→ l s e .store
@@ -39,10 +39,16 @@ pub reported-store : {l l′ : Ledger} {s s′ o o′ : List ℕ} {bs : List (Li
 reported-store {n = n} c r = sym (calls-length c) ∙ report-store r n refl
 
 -- a report that is written lies within the buffer
-pub report-within : {l : Book} {s o o′ : List ℕ} {r : Reported} → Reporting l s o r o′ → (n : ℕ) → r ≡ Written n → n ≤ length o′
+pub report-within : {l : Book} {s o o′ : List ℕ} {v : Output} → ReportRow l s o v o′ → (n : ℕ) → v ≡ putBytes n → n ≤ length o′
 report-within (not-fit e) n q = let z : _≡_ {A = ℕ} 0 1 = cc in absurd (omega arith)
 report-within (short text e t k) n q = let z : _≡_ {A = ℕ} 0 1 = cc in absurd (omega arith)
 report-within {o = o} (written text e t k) n q = let p : length text ≡ n = cc in omega (arith, p, length-append text (drop (length text) o))
 
-pub written-length : {l : Book} {s o o′ : List ℕ} {r : Reported} → Reporting l s o r o′ → (n : ℕ) → r ≡ Written n → length (take n o′) ≡ n
+pub written-length : {l : Book} {s o o′ : List ℕ} {v : Output} → ReportRow l s o v o′ → (n : ℕ) → v ≡ putBytes n → length (take n o′) ≡ n
 written-length {o′ = o′} h n q = length-take-le n o′ (report-within h n q)
+
+-- a report that is refused leaves the buffer as it was
+pub refused-leaves : {l : Book} {s o o′ : List ℕ} {v : Output} → ReportRow l s o v o′ → (n : ℕ) → v ≡ refusedBy n → o′ ≡ o
+refused-leaves (not-fit e) n q = refl
+refused-leaves (short text e t k) n q = refl
+refused-leaves (written text e t k) n q = let z : _≡_ {A = ℕ} 0 1 = cc in absurd (omega arith)

@@ -13,8 +13,11 @@ pub enum Compared {
     Same { length: usize },
     // The two full reports differ: the length of each.
     Different { first: usize, second: usize },
-    // A report was refused.
-    Refused(Refusal),
+    // The first copy gave no report, for this reason. Its offers were made: its store is as they left it, and its buffer as it was. The second copy was not touched.
+    FirstUnreported(Refusal),
+    // The second copy gave no report, for this reason. The offers of both were made: the stores are as they left them, the first buffer has the first report, and the
+    // second buffer is as it was.
+    SecondUnreported(Refusal),
 }
 
 // Offers each byte string of the list, in order, to a fresh ledger.
@@ -46,7 +49,7 @@ fn compare_second(report: &[u8], ys: &[&[u8]], other: &mut [u8], other_out: &mut
     ensures { λ r. ⌜ SecondChecking (now (report .entry)) (map (λ x. now x) (now (ys .entry))) (now (other .entry)) (now («other_out» .entry)) r (now (other .exit)) (now («other_out» .exit)) ⌝ }
 {
     match report_all(ys, other, other_out) {
-        Reported::Refused(e) => Compared::Refused(e),
+        Reported::Refused(e) => Compared::SecondUnreported(e),
         Reported::Written(k) => {
             if keys::same(report, &other_out[..k]) {
                 Compared::Same { length: k }
@@ -61,7 +64,7 @@ fn compare_second(report: &[u8], ys: &[&[u8]], other: &mut [u8], other_out: &mut
 }
 
 // Offers all of xs to a fresh ledger with the store `store` and reports into `out`; offers all of ys to another with `other` and reports into `other_out`;
-// and compares the two full reports. Where the first report is refused, nothing is offered to the second copy.
+// and compares the two full reports. Where the first copy gives no report, nothing is offered to the second.
 pub fn compare(
     xs: &[&[u8]],
     ys: &[&[u8]],
@@ -73,7 +76,7 @@ pub fn compare(
     ensures { λ r. ⌜ Checking (map (λ x. now x) (now (xs .entry))) (map (λ x. now x) (now (ys .entry))) (now (store .entry)) (now (other .entry)) (now (out .entry)) (now («other_out» .entry)) r (now (store .exit)) (now (other .exit)) (now (out .exit)) (now («other_out» .exit)) ⌝ }
 {
     match report_all(xs, store, out) {
-        Reported::Refused(e) => Compared::Refused(e),
+        Reported::Refused(e) => Compared::FirstUnreported(e),
         Reported::Written(n) => compare_second(&out[..n], ys, other, other_out),
     }
 }

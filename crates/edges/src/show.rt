@@ -78,7 +78,14 @@ pub fn compared(c: Compared) {
             text(b" ");
             decimal(second);
         }
-        Compared::Refused(r) => refused(r),
+        Compared::FirstUnreported(r) => {
+            text(b"first ");
+            refused(r);
+        }
+        Compared::SecondUnreported(r) => {
+            text(b"second ");
+            refused(r);
+        }
     }
     text(b")\n");
 }

@@ -8,20 +8,20 @@ use mathlib.Core.Bool.{true, false}
 use Rattle.format.specs.Update.{Id}
 use Rattle.state.specs.State.{Book, placeAt, findIn}
 use Rattle.state.specs.Row1.{sound}
-use Rattle.refusals.specs.declared.Refusal.the-variants.{Unfit}
-use Rattle.ledger.specs.declared.Asked.the-variants.{Is, Unknown, Refused as NotAsked}
-use Rattle.ledger.specs.Ask.{askedOf}
+use Rattle.state.specs.Verdicts.{verdictOf}
+use Rattle.refusals.specs.Numbers.{row1}
+use Rattle.ledger.specs.Ask.{standsAs, unknownId, refusedAs, askedOf}
 
 -- the standing of an id
 module _ (l : Book) (s : List ℕ) (i : Id) where
-  pub asked-unfit : sound l s ≡ false → NotAsked Unfit ≡ askedOf l s i
+  pub asked-unfit : sound l s ≡ false → refusedAs row1 ≡ askedOf l s i
   unfolding askedOf
   asked-unfit h = rw h
 
-  pub asked-at : sound l s ≡ true → (k : ℕ) → findIn l i ≡ some k → Is (placeAt l k .standing) ≡ askedOf l s i
+  pub asked-at : sound l s ≡ true → (k : ℕ) → findIn l i ≡ some k → standsAs (verdictOf (placeAt l k .standing)) ≡ askedOf l s i
   unfolding askedOf
   asked-at h k f = rw (h, f)
 
-  pub asked-nowhere : sound l s ≡ true → findIn l i ≡ none → Unknown ≡ askedOf l s i
+  pub asked-nowhere : sound l s ≡ true → findIn l i ≡ none → unknownId ≡ askedOf l s i
   unfolding askedOf
   asked-nowhere h f = rw (h, f)

@@ -5,16 +5,29 @@ use mathlib.Core.List.{List}
 use mathlib.Core.Option.{Option, none, some}
 use mathlib.Core.Bool.{cond}
 use Rattle.format.specs.Update.{Id}
+use Rattle.rules.specs.Settle.{Verdict}
 use Rattle.state.specs.State.{Book, placeAt, findIn}
 use Rattle.state.specs.Row1.{sound}
-use Rattle.refusals.specs.declared.Refusal.the-variants.{Unfit}
+use Rattle.state.specs.Verdicts.{verdictOf}
+use Rattle.refusals.specs.Numbers.{row1, refusalNumber}
 use Rattle.ledger.specs.declared.Asked.{Asked}
-use Rattle.ledger.specs.declared.Asked.the-variants.{Is, Unknown, Refused as NotAsked}
+use Rattle.ledger.specs.declared.Asked.the-variants.{Is, Unknown, Refused}
+
+-- document 01's values for each case of the answer: a standing, "unknown", or the number of the row
+pub data AskedValues : Type 0 where
+  standsAs : Verdict → AskedValues
+  unknownId : AskedValues
+  refusedAs : ℕ → AskedValues
+
+abbrev pub askedValues : Asked → AskedValues
+askedValues (Is v) = standsAs (verdictOf v)
+askedValues Unknown = unknownId
+askedValues (Refused r) = refusedAs (refusalNumber r)
 
 -- "The standing of an id .. checks 1, then gives the standing of the stored update with that id, or "unknown" if there is none."
-abbrev pub askedAt : Book → Option ℕ → Asked
-askedAt l none = Unknown
-askedAt l (some k) = Is (placeAt l k .standing)
+abbrev pub askedAt : Book → Option ℕ → AskedValues
+askedAt l none = unknownId
+askedAt l (some k) = standsAs (verdictOf (placeAt l k .standing))
 
-unfoldable pub askedOf : Book → List ℕ → Id → Asked
-askedOf l s i = cond (sound l s) (askedAt l (findIn l i)) (NotAsked Unfit)
+unfoldable pub askedOf : Book → List ℕ → Id → AskedValues
+askedOf l s i = cond (sound l s) (askedAt l (findIn l i)) (refusedAs row1)

@@ -17,26 +17,27 @@ use Rattle.format.specs.Update.{Id, Update}
 use Rattle.format.specs.Decode.{Decoded, refused, update, decode}
 use Rattle.format.specs.Laws.{decode-sound}
 use Rattle.rules.specs.Standing.{Held, Void, Waiting}
+use Rattle.rules.specs.Settle.{held, waiting, void}
 use Rattle.rules.specs.LeastSets.{held-stored, void-stored, held-not-void}
 use Rattle.state.specs.declared.Ledger.{Ledger}
 use Rattle.state.specs.declared.Standing.the-variants.{Held as IsHeld, Waiting as IsWaiting, Void as IsVoid}
 use Rattle.state.specs.declared.Standing.{Standing}
 use Rattle.state.specs.State.{places, storeLength, Book, placeAt, findIn}
 use Rattle.state.specs.View.{bookOf, freshLedger}
+use Rattle.state.specs.Verdicts.{verdictOf}
 use Rattle.state.specs.Stands.{ident, updateAt, Stands}
 use Rattle.state.specs.FindLaws.{stored-at, place-of, find-right, find-all, find-none}
 use Rattle.state.specs.TakeLaws.{stands-sound, fresh-stands}
-use Rattle.offering.specs.declared.Offered.{Offered}
-use Rattle.ledger.specs.declared.Asked.the-variants.{Is, Unknown}
-use Rattle.offering.specs.Offer.{Offering, unfit, malformed, known, full, taken}
-use Rattle.ledger.specs.Ask.{askedAt, askedOf}
+use Rattle.offering.specs.Values.{OfferValues}
+use Rattle.offering.specs.Offer.{OfferRow, unfit, malformed, known, full, taken}
+use Rattle.ledger.specs.Ask.{standsAs, unknownId, askedAt, askedOf}
 
 -- "Each offer is handed the ledger and store that the one before left": offers of the byte strings, one after the other, each with what the entry
 -- `offer` ensures
 pub data Calls : Ledger → List ℕ → List (List ℕ) → Ledger → List ℕ → Type 0 where
   done : {l : Ledger} {s : List ℕ} → Calls l s [] l s
-  call : {l l′ : Ledger} {s s₁ s′ b : List ℕ} {bs : List (List ℕ)} {r : Offered}
-      → Offering l s b r s₁ → Calls (r .ledger) s₁ bs l′ s′ → Calls l s (b ∷ bs) l′ s′
+  call : {l r l′ : Ledger} {s s₁ s′ b : List ℕ} {bs : List (List ℕ)} {v : OfferValues}
+      → OfferRow l s b v r s₁ → Calls r s₁ bs l′ s′ → Calls l s (b ∷ bs) l′ s′
 
 -- the stored updates after an offer: a well-formed one with a new id is stored while a place is free ("Two updates with one id count as the same: the
 -- first is kept.")
@@ -104,10 +105,10 @@ module _ (l : Ledger) (s : List ℕ) (us : List Update) (stands : Stands (bookOf
   accept-new d m h = rw (d, m, lt-ltb (length us) places (subst (λ (n : ℕ). n < places) (stands .holds .number) h))
 
   -- an offer leads from a ledger that stands to one that stands for what is then stored
-  pub offer-stands : {r : Offered} {s′ : List ℕ} → Offering l s b r s′ → Stands (bookOf (r .ledger)) s′ (acceptDecoded us (decode b))
+  pub offer-stands : {v : OfferValues} {r : Ledger} {s′ : List ℕ} → OfferRow l s b v r s′ → Stands (bookOf r) s′ (acceptDecoded us (decode b))
   unfolding acceptDecoded
   offer-stands (unfit e) = absurd (true-false (stands-sound (bookOf l) s us stands) e)
-  offer-stands (malformed m e d) = rw d stands
+  offer-stands (malformed n e d) = rw d stands
   offer-stands (known u k e d f) = rw (accept-known d (found-known d f)) stands
   offer-stands (full u e d f n) = rw (accept-full d (none-new d f) n) stands
   offer-stands (taken u r e d f n t) = rw (accept-new d (none-new d f) n) (t .settles us stands)
@@ -126,10 +127,10 @@ offers-stand {s = s} h c = calls-stand [] (fresh-stands (bookOf freshLedger) s r
 
 -- and `standing` answers so for every id
 pub record AnswersFor (l : Book) (s : List ℕ) (us : List Update) : Type 0 where
-  pub held-asked : (u : Update) → Held ident us u → askedOf l s (ident u) ≡ Is IsHeld
-  pub waiting-asked : (u : Update) → Waiting ident us u → askedOf l s (ident u) ≡ Is IsWaiting
-  pub void-asked : (u : Update) → Void ident us u → askedOf l s (ident u) ≡ Is IsVoid
-  pub unknown-asked : (i : Id) → ((u : Update) → u ∈ us → ident u ≡ i → ⊥) → askedOf l s i ≡ Unknown
+  pub held-asked : (u : Update) → Held ident us u → askedOf l s (ident u) ≡ standsAs held
+  pub waiting-asked : (u : Update) → Waiting ident us u → askedOf l s (ident u) ≡ standsAs waiting
+  pub void-asked : (u : Update) → Void ident us u → askedOf l s (ident u) ≡ standsAs void
+  pub unknown-asked : (i : Id) → ((u : Update) → u ∈ us → ident u ≡ i → ⊥) → askedOf l s i ≡ unknownId
 
 module _ (l : Book) (s : List ℕ) (us : List Update) (stands : Stands l s us) where
   asked-found : (i : Id) (o : Option ℕ) → findIn l i ≡ o → askedOf l s i ≡ askedAt l o
@@ -142,7 +143,7 @@ module _ (l : Book) (s : List ℕ) (us : List Update) (stands : Stands l s us) w
   says IsWaiting k h e = stands .settled .waiting-right k h e
   says IsVoid k h e = stands .truthful .void-right k h e
 
-  asked-says : (u : Update) → u ∈ us → (v : Standing) × Says us v u × (askedOf l s (ident u) ≡ Is v)
+  asked-says : (u : Update) → u ∈ us → (v : Standing) × Says us v u × (askedOf l s (ident u) ≡ standsAs (verdictOf v))
   asked-says u m =
       let r = place-of us m in
       let v = placeAt l (r .0) .standing in
@@ -152,9 +153,9 @@ module _ (l : Book) (s : List ℕ) (us : List Update) (stands : Stands l s us) w
   pub stands-answers : AnswersFor l s us
   stands-answers =
       record {
-        held-asked = λ u h. let r = asked-says u (held-stored ident us h) in r .2 ∙ ap Is (only-held us (r .0) u (r .1) h);
-        waiting-asked = λ u h. let r = asked-says u (h .stored) in r .2 ∙ ap Is (only-waiting us (r .0) u (r .1) h);
-        void-asked = λ u h. let r = asked-says u (void-stored ident us h) in r .2 ∙ ap Is (only-void us (r .0) u (r .1) h);
+        held-asked = λ u h. let r = asked-says u (held-stored ident us h) in r .2 ∙ ap (λ (v : Standing). standsAs (verdictOf v)) (only-held us (r .0) u (r .1) h);
+        waiting-asked = λ u h. let r = asked-says u (h .stored) in r .2 ∙ ap (λ (v : Standing). standsAs (verdictOf v)) (only-waiting us (r .0) u (r .1) h);
+        void-asked = λ u h. let r = asked-says u (void-stored ident us h) in r .2 ∙ ap (λ (v : Standing). standsAs (verdictOf v)) (only-void us (r .0) u (r .1) h);
         unknown-asked = λ i new. asked-found i none (unfound i new (findIn l i) refl);
       }
     where

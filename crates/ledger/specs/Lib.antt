@@ -1,5 +1,6 @@
 pub mod Ask
 pub mod Calls
 pub mod Report
+pub mod ValueLaws
 pub mod Answers
 pub mod WriteLaws

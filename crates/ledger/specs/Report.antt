@@ -9,7 +9,7 @@ use Rattle.format.specs.Update.{Update}
 use Rattle.rules.specs.Report.{reportOf}
 use Rattle.state.specs.Row1.{sound}
 use Rattle.state.specs.Stands.{ident, Stands}
-use Rattle.refusals.specs.declared.Refusal.the-variants.{Unfit, Short}
+use Rattle.refusals.specs.Numbers.{row1, row11, refusalNumber, Output, putBytes, refusedBy}
 use Rattle.ledger.specs.declared.Reported.{Reported}
 use Rattle.ledger.specs.declared.Reported.the-variants.{Written, Refused}
 use Rattle.state.specs.State.{Book}
@@ -19,10 +19,19 @@ use Rattle.state.specs.State.{Book}
 pub record ReportText (l : Book) (s text : List ℕ) : Type 0 where
   pub of-rules : (us : List Update) → Stands l s us → text ≡ reportOf ident us
 
+-- document 01's values for each case of the answer
+abbrev pub reportValues : Reported → Output
+reportValues (Written n) = putBytes n
+reportValues (Refused r) = refusedBy (refusalNumber r)
+
 -- "The report checks 1, 11." "The writer and the report put their result at the start of the output buffer and return its length; the bytes after it keep their
 -- values."
-pub data Reporting (l : Book) (s o : List ℕ) : Reported → List ℕ → Type 0 where
-  unfit : sound l s ≡ false → Reporting l s o (Refused Unfit) o
-  short : (text : List ℕ) → sound l s ≡ true → ReportText l s text → length o < length text → Reporting l s o (Refused Short) o
+pub data ReportRow (l : Book) (s o : List ℕ) : Output → List ℕ → Type 0 where
+  unfit : sound l s ≡ false → ReportRow l s o (refusedBy row1) o
+  short : (text : List ℕ) → sound l s ≡ true → ReportText l s text → length o < length text → ReportRow l s o (refusedBy row11) o
   written : (text : List ℕ) → sound l s ≡ true → ReportText l s text → length text ≤ length o
-      → Reporting l s o (Written (length text)) (text ++ drop (length text) o)
+      → ReportRow l s o (putBytes (length text)) (text ++ drop (length text) o)
+
+-- the promise of `report`
+abbrev pub Reporting : Book → List ℕ → List ℕ → Reported → List ℕ → Type 0
+Reporting l s o r o′ = ReportRow l s o (reportValues r) o′

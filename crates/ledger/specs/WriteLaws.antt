@@ -14,6 +14,7 @@ use Rattle.fips180.specs.Fips180.{SHA-256}
 use Rattle.format.specs.Update.{Id, maxAuthor, idLength, tagLength, Operation, Update, encode}
 use Rattle.format.specs.Decode.{refused, decode, update}
 use Rattle.rules.specs.Standing.{Ancestor, Held}
+use Rattle.rules.specs.Settle.{held}
 use Rattle.rules.specs.ReadOff.{Marked}
 use Rattle.rules.specs.Writing.{writtenOf, writableOf}
 use Rattle.rules.specs.WritingLaws.{written-held, written-no-fork, add-writable}
@@ -24,6 +25,7 @@ use Rattle.state.specs.declared.Standing.the-variants.{Held as IsHeld, Waiting 
 use Rattle.state.specs.declared.Ledger.{Ledger}
 use Rattle.state.specs.View.{bookOf}
 use Rattle.state.specs.State.{places, Place, Book, placeAt, countOf, isHeld, isVoid}
+use Rattle.state.specs.Verdicts.{verdictOf}
 use Rattle.state.specs.Stands.{ident, noUpdate, updateAt, Stands}
 use Rattle.state.specs.FindLaws.{stored-at, find-right}
 use Rattle.state.specs.TakeLaws.{stands-sound}
@@ -32,11 +34,10 @@ use Rattle.operations.specs.declared.Kind.the-variants.{Add as AnAdd}
 use Rattle.operations.specs.Operations.{operationFor, badNamed, unorderedNamed}
 use Rattle.refusals.specs.declared.Refusal.{Refusal}
 use Rattle.refusals.specs.declared.Refusal.the-variants.{Unfit, Malformed as Bad, Full, Short, Invalid}
-use Rattle.offering.specs.declared.Answer.the-variants.{Taken}
-use Rattle.offering.specs.declared.Offered.{Offered}
 use Rattle.writing.specs.declared.Wrote.{Wrote}
 use Rattle.writing.specs.declared.Wrote.the-variants.{Written, Refused}
-use Rattle.offering.specs.Offer.{Offering, unfit as not-fit, malformed, known, full, taken}
+use Rattle.offering.specs.Values.{OfferValues, takenAs}
+use Rattle.offering.specs.Offer.{OfferRow, unfit as not-fit, malformed, known, full, taken}
 use Rattle.ledger.specs.Calls.{says, only-held}
 use Rattle.writing.specs.BoundLaws.{operation-bounded, rules-decode}
 use Rattle.writing.specs.Write.{WrittenUpdate, Writing, unfit, author, layout, unordered, invalid, short, written}
@@ -185,8 +186,8 @@ module _ (l : Ledger) (s : List ℕ) (us : List Update) (stands : Stands (bookOf
   abbrev before : Book
   before = bookOf l
 
-  pub written-taken : {r : Offered} {s′ : List ℕ} → Offering l s (take n o′) r s′
-      → (h v : ℕ) × (r .answer ≡ Taken IsHeld h v) × (1 ≤ h)
+  pub written-taken : {x : OfferValues} {r : Ledger} {s′ : List ℕ} → OfferRow l s (take n o′) x r s′
+      → (h v : ℕ) × (x ≡ takenAs held h v) × (1 ≤ h)
   written-taken (not-fit e) = absurd (true-false (stands-sound before s us stands) e)
   written-taken (malformed m e d) =
       absurd (refused-update (sym d ∙ written-decodes before s us stands a k t i named o tag-sized id-sized wrote))
@@ -200,6 +201,6 @@ module _ (l : Ledger) (s : List ℕ) (us : List Update) (stands : Stands (bookOf
       (same-update before s us stands a k t i named o tag-sized id-sized wrote d) (took .settles us stands) in (
         countOf isHeld after - countOf isHeld before,
         countOf isVoid after - countOf isVoid before,
-        ap (λ (w : Standing). Taken w (countOf isHeld after - countOf isHeld before) (countOf isVoid after - countOf isVoid before)) v,
+        ap (λ (w : Standing). takenAs (verdictOf w) (countOf isHeld after - countOf isHeld before) (countOf isVoid after - countOf isVoid before)) v,
         omega (arith, more-held before after (took .used-next) (took .old-settled) v),
       )

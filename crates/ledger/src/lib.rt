@@ -3,7 +3,7 @@
 ghost use mathlib.Core.Path.{_≡_};
 ghost use Rattle.state.specs.View.{bookOf};
 ghost use Rattle.offering.specs.Offer.{Offering};
-ghost use Rattle.ledger.specs.Ask.{askedOf};
+ghost use Rattle.ledger.specs.Ask.{askedValues, askedOf};
 ghost use Rattle.ledger.specs.Report.{Reporting};
 ghost use Rattle.writing.specs.Write.{Writing};
 use format::Malformed;
@@ -47,7 +47,7 @@ pub fn offer(ledger: Ledger, store: &mut [u8], update: &[u8]) -> Offered
 
 // The standing of an id.
 pub fn standing(ledger: Ledger, store: &[u8], id: [u8; 32]) -> Asked
-    ensures { λ r. ⌜ r ≡ askedOf (bookOf ledger) (now (store .entry)) id ⌝ }
+    ensures { λ r. ⌜ askedValues r ≡ askedOf (bookOf ledger) (now (store .entry)) id ⌝ }
 {
     if !sound(ledger, store) {
         return Asked::Refused(Refusal::Unfit);

@@ -8,7 +8,7 @@ use mathlib.Core.Bool.{true, false}
 use Rattle.fips180.specs.Fips180.{SHA-256}
 use Rattle.format.specs.Update.{Id, maxLength}
 use Rattle.format.specs.Decode.{decode}
-use Rattle.format.specs.Reading.{decodedOf, valueOf}
+use Rattle.format.specs.Reading.{numberOf, decodedOf, valueOf}
 use Rattle.format.specs.declared.Malformed.{Malformed}
 use Rattle.format.specs.declared.Parsed.{Parsed}
 use Rattle.format.specs.declared.Reading.{Reading}
@@ -29,7 +29,7 @@ module _ (l : Ledger) (s b : List ℕ) where
   -- by what reading the bytes answered
   module _ (fits : sound (bookOf l) s ≡ true) (r : Reading) (read : decodedOf b r ≡ decode b) where
     pub offered-malformed : (m : Malformed) → r ≡ NotRead m → {o : Offered} → o ≡ left l (Refused (Bad m)) → Offering l s b o s
-    offered-malformed m h e = rw e (malformed m fits (sym read ∙ ap (decodedOf b) h))
+    offered-malformed m h e = rw e (malformed (numberOf m) fits (sym read ∙ ap (decodedOf b) h))
 
     pub read-formed : (p : Parsed) → r ≡ Accepted p → Formed (bookOf l) s b
     read-formed p h = record { is-sound = fits; value = valueOf b p; decodes = sym read ∙ ap (decodedOf b) h }

@@ -1,2 +1,4 @@
+pub mod Values
+pub mod ValueLaws
 pub mod Words
 pub mod Offer

@@ -9,18 +9,17 @@ use lib.ListN.{length}
 use Rattle.fips180.specs.Fips180.{SHA-256}
 use Rattle.format.specs.Update.{Update, maxLength}
 use Rattle.format.specs.Decode.{refused, update, decode}
-use Rattle.format.specs.Reading.{numberOf}
-use Rattle.format.specs.declared.Malformed.{Malformed}
 use Rattle.state.specs.declared.Ledger.{Ledger}
 use Rattle.state.specs.declared.Standing.the-variants.{Waiting}
 use Rattle.state.specs.State.{places, Book, placeAt, findIn, written, isHeld, isVoid, countOf}
 use Rattle.state.specs.View.{bookOf}
 use Rattle.state.specs.Row1.{sound}
 use Rattle.state.specs.Stands.{Stands}
-use Rattle.refusals.specs.declared.Refusal.the-variants.{Unfit, Malformed as Bad, Full}
+use Rattle.state.specs.Verdicts.{verdictOf}
+use Rattle.refusals.specs.Numbers.{row1, row10}
 use Rattle.offering.specs.declared.Answer.{Answer}
-use Rattle.offering.specs.declared.Answer.the-variants.{Taken, Known, Refused}
 use Rattle.offering.specs.declared.Offered.{Offered}
+use Rattle.offering.specs.Values.{OfferValues, takenAs, knownAs, refusedAs, offerValues}
 
 -- an answer that leaves the ledger as it was
 abbrev pub left : Ledger → Answer → Offered
@@ -49,26 +48,29 @@ pub record Formed (l : Book) (s b : List ℕ) : Type 0 where
   pub value : Update
   pub decodes : decode b ≡ update value
 
--- What an offer of the bytes b to the ledger l and the store s yields: the answer beside the new ledger, and the store as it is left. A constructor for
--- each row of the table, in its order, and for the two accepted answers.
-pub data Offering (l : Ledger) (s b : List ℕ) : Offered → List ℕ → Type 0 where
+-- What an offer of the bytes b to the ledger l and the store s yields: document 01's values of the answer, and the ledger and the store as they are left. A
+-- constructor for each row of the table, in its order, and for the two accepted answers.
+pub data OfferRow (l : Ledger) (s b : List ℕ) : OfferValues → Ledger → List ℕ → Type 0 where
   -- row 1
-  unfit : sound (bookOf l) s ≡ false → Offering l s b (left l (Refused Unfit)) s
+  unfit : sound (bookOf l) s ≡ false → OfferRow l s b (refusedAs row1) l s
   -- rows 2 to 9
-  malformed : (m : Malformed) → sound (bookOf l) s ≡ true → decode b ≡ refused (numberOf m) → Offering l s b (left l (Refused (Bad m))) s
+  malformed : (n : ℕ) → sound (bookOf l) s ≡ true → decode b ≡ refused n → OfferRow l s b (refusedAs n) l s
   -- "a known id gets its standing before 10"; "a known update changes nothing"
   known : (u : Update) (k : ℕ) → sound (bookOf l) s ≡ true → decode b ≡ update u → findIn (bookOf l) (SHA-256 b) ≡ some k
-      → Offering l s b (left l (Known (placeAt (bookOf l) k .standing))) s
+      → OfferRow l s b (knownAs (verdictOf (placeAt (bookOf l) k .standing))) l s
   -- row 10
   full : (u : Update) → sound (bookOf l) s ≡ true → decode b ≡ update u → findIn (bookOf l) (SHA-256 b) ≡ none → bookOf l .used ≡ places
-      → Offering l s b (left l (Refused Full)) s
+      → OfferRow l s b (refusedAs row10) l s
   -- "the update's own standing, as the rules give it once the offer has settled, with the two counts": "held after less held before, and void after less
   -- void before"
   taken : (u : Update) (r : Ledger) → sound (bookOf l) s ≡ true → decode b ≡ update u → findIn (bookOf l) (SHA-256 b) ≡ none → bookOf l .used < places
       → Took (bookOf l) s b u (bookOf r) (written s (maxLength * bookOf l .used) b)
-      → Offering l s b
-      (record {
-        answer = Taken (placeAt (bookOf r) (bookOf l .used) .standing) (countOf isHeld (bookOf r) - countOf isHeld (bookOf l)) (countOf isVoid (bookOf r) - countOf isVoid (bookOf l));
-        ledger = r;
-      })
+      → OfferRow l s b
+      (takenAs (verdictOf (placeAt (bookOf r) (bookOf l .used) .standing)) (countOf isHeld (bookOf r) - countOf isHeld (bookOf l))
+      (countOf isVoid (bookOf r) - countOf isVoid (bookOf l)))
+      r
       (written s (maxLength * bookOf l .used) b)
+
+-- the promise of `offer`
+abbrev pub Offering : Ledger → List ℕ → List ℕ → Offered → List ℕ → Type 0
+Offering l s b r s′ = OfferRow l s b (offerValues (r .answer)) (r .ledger) s′

@@ -1,22 +1,28 @@
--- Document 01's words for each case of each answer.
+-- Document 01's words for the values of an answer.
 -- Assumes nothing.
-use Prim.Native.Nat.{ℕ}
 use mathlib.Core.List.{List, _++_}
+use Prim.Native.Nat.{ℕ}
 use Rattle.rules.specs.Report.{ascii, decimal}
+use Rattle.rules.specs.Settle.{Verdict, held, waiting, void}
 use Rattle.state.specs.declared.Standing.{Standing}
-use Rattle.state.specs.declared.Standing.the-variants.{Held, Waiting, Void}
-use Rattle.refusals.specs.Numbers.{refusalNumber}
+use Rattle.state.specs.Verdicts.{verdictOf}
 use Rattle.offering.specs.declared.Answer.{Answer}
-use Rattle.offering.specs.declared.Answer.the-variants.{Taken, Known, Refused}
+use Rattle.offering.specs.Values.{OfferValues, takenAs, knownAs, refusedAs, offerValues}
 
-unfoldable pub standingWord : Standing → List ℕ
-standingWord Held = ascii "held"
-standingWord Waiting = ascii "waiting"
-standingWord Void = ascii "void"
+unfoldable pub verdictWord : Verdict → List ℕ
+verdictWord held = ascii "held"
+verdictWord waiting = ascii "waiting"
+verdictWord void = ascii "void"
+
+abbrev pub standingWord : Standing → List ℕ
+standingWord v = verdictWord (verdictOf v)
 
 -- "It prints `(taken held 1 0)` (standing, newly held, newly void), `(known held)` or `(refused 2)`."
-unfoldable pub answerText : Answer → List ℕ
-answerText (Taken v h w) =
-    ascii "(taken " ++ (standingWord v ++ (ascii " " ++ (decimal h ++ (ascii " " ++ (decimal w ++ ascii ")\n")))))
-answerText (Known v) = ascii "(known " ++ (standingWord v ++ ascii ")\n")
-answerText (Refused r) = ascii "(refused " ++ (decimal (refusalNumber r) ++ ascii ")\n")
+unfoldable pub valuesText : OfferValues → List ℕ
+valuesText (takenAs v h w) =
+    ascii "(taken " ++ (verdictWord v ++ (ascii " " ++ (decimal h ++ (ascii " " ++ (decimal w ++ ascii ")\n")))))
+valuesText (knownAs v) = ascii "(known " ++ (verdictWord v ++ ascii ")\n")
+valuesText (refusedAs n) = ascii "(refused " ++ (decimal n ++ ascii ")\n")
+
+abbrev pub answerText : Answer → List ℕ
+answerText a = valuesText (offerValues a)

@@ -12,29 +12,37 @@ use Rattle.state.specs.declared.Ledger.{Ledger}
 use Rattle.state.specs.State.{storeLength}
 use Rattle.state.specs.View.{bookOf, freshLedger}
 use Rattle.refusals.specs.declared.Refusal.{Refusal}
+use Rattle.refusals.specs.Numbers.{refusalNumber}
 use Rattle.ledger.specs.declared.Reported.the-variants.{Written}
 use Rattle.ledger.specs.Calls.{Calls, stored, offers-stand}
 use Rattle.ledger.specs.Report.{Reporting}
 use Rattle.copies.specs.declared.Compared.{Compared}
-use Rattle.copies.specs.declared.Compared.the-variants.{Same, Different, Refused}
+use Rattle.copies.specs.declared.Compared.the-variants.{Same, Different, FirstUnreported, SecondUnreported}
 use Rattle.replicas.specs.Sets.{setOf, reportFor, Fits, NoCollision}
 use Rattle.replicas.specs.Copies.{Copy, SideBySide, side-by-side}
 use Rattle.copies.specs.LengthLaws.{reported-store, written-length}
 use Rattle.replicas.specs.FitLaws.{report-answers}
-use Rattle.copies.specs.Check.{comparedOf, Checking, first-refused, second-refused, compared}
+use Rattle.copies.specs.Check.{comparedOf, Checking, first-unreported, second-unreported, compared}
 
 -- the lengths of the two full reports, by the answer
 unfoldable pub firstLength : Compared → ℕ
 firstLength (Same n) = n
 firstLength (Different n k) = n
-firstLength (Refused e) = 0
+firstLength (FirstUnreported e) = 0
+firstLength (SecondUnreported e) = 0
 
 unfoldable pub secondLength : Compared → ℕ
 secondLength (Same n) = n
 secondLength (Different n k) = k
-secondLength (Refused e) = 0
+secondLength (FirstUnreported e) = 0
+secondLength (SecondUnreported e) = 0
 
--- What an answer that is no refusal says: "same" exactly when the sets are equal; and each buffer begins with the report that the rules give for its set.
+-- the answer is that of two reports
+pub record BothReported (r : Compared) : Type 0 where
+  pub first-reported : (e : Refusal) → r ≡ FirstUnreported e → ⊥
+  pub second-reported : (e : Refusal) → r ≡ SecondUnreported e → ⊥
+
+-- What such an answer says: "same" exactly when the sets are equal; and each buffer begins with the report that the rules give for its set.
 pub record CheckSays (xs ys : List (List ℕ)) (r : Compared) (out other-out : List ℕ) : Type 0 where
   pub equal-sets-same : setOf xs ≡ setOf ys → (n : ℕ) × (r ≡ Same n)
   pub same-equal-sets : (n : ℕ) → r ≡ Same n → setOf xs ≡ setOf ys
@@ -61,16 +69,20 @@ module _ (first second : List ℕ) where
       let z : _≡_ {A = ℕ} 0 1 = cc in
       absurd (omega arith)
 
-  compared-answers : (t : Bool) → same first second ≡ t → (e : Refusal) → comparedOf first second ≡ Refused e → ⊥
+  compared-both : (t : Bool) → same first second ≡ t → BothReported (comparedOf first second)
   unfolding comparedOf
-  compared-answers true h e q =
+  compared-both true h =
       let d : comparedOf first second ≡ Same (length second) = rw h refl in
-      let z : _≡_ {A = ℕ} 0 1 = cc in
-      omega arith
-  compared-answers false h e q =
+      record {
+        first-reported = λ e q. let z : _≡_ {A = ℕ} 0 1 = cc in omega arith;
+        second-reported = λ e q. let z : _≡_ {A = ℕ} 0 1 = cc in omega arith;
+      }
+  compared-both false h =
       let d : comparedOf first second ≡ Different (length first) (length second) = rw h refl in
-      let z : _≡_ {A = ℕ} 0 1 = cc in
-      omega arith
+      record {
+        first-reported = λ e q. let z : _≡_ {A = ℕ} 0 1 = cc in omega arith;
+        second-reported = λ e q. let z : _≡_ {A = ℕ} 0 1 = cc in omega arith;
+      }
 
 -- a copy that was reported
 reported-copy : {l : Ledger} {s s′ o o′ : List ℕ} {bs : List (List ℕ)} (n : ℕ) → Calls freshLedger s bs l s′ → Reporting (bookOf l) s′ o (Written n) o′
@@ -105,18 +117,17 @@ compared-says {o′ = o′} {p′ = p′} {xs = xs} {ys = ys} n k c h d q fits-f
       second-right = ap (λ (i : ℕ). take i p′) (e .1 ∙ written-length q k refl) ∙ b .second-right;
     }
 
--- Demand 3 of the copy check: where it does not refuse, where neither list has more distinct well-formed updates than there are places, and no two different
--- ones of both share a SHA-256
+-- Demand 3 of the copy check: where both copies gave a report, where neither list has more distinct well-formed updates than there are places, and no two
+-- different ones of both share a SHA-256
 pub check-says : {xs ys : List (List ℕ)} {s t o p s′ t′ o′ p′ : List ℕ} {r : Compared} → Checking xs ys s t o p r s′ t′ o′ p′
-    → ((e : Refusal) → r ≡ Refused e → ⊥) → Fits xs → Fits ys → NoCollision xs ys → CheckSays xs ys r o′ p′
-check-says (first-refused e c h) answered fits-first fits-second none = absurd (answered e refl)
-check-says (second-refused n e c h d q) answered fits-first fits-second none = absurd (answered e refl)
-check-says (compared n k c h d q) answered fits-first fits-second none = compared-says n k c h d q fits-first fits-second none
+    → BothReported r → Fits xs → Fits ys → NoCollision xs ys → CheckSays xs ys r o′ p′
+check-says (first-unreported e c h) both fits-first fits-second none = absurd (both .first-reported e refl)
+check-says (second-unreported n e c h d q) both fits-first fits-second none = absurd (both .second-reported e refl)
+check-says (compared n k c h d q) both fits-first fits-second none = compared-says n k c h d q fits-first fits-second none
 
--- It does not refuse where the stores have the stated length and the buffers 12,000 bytes.
+-- Both give one where the stores have the stated length and the buffers 12,000 bytes.
 pub check-answers : {xs ys : List (List ℕ)} {s t o p s′ t′ o′ p′ : List ℕ} {r : Compared} → Checking xs ys s t o p r s′ t′ o′ p′
-    → length s ≡ storeLength → length t ≡ storeLength → 12000 ≤ length o → 12000 ≤ length p → (e : Refusal) → r ≡ Refused e → ⊥
-check-answers {xs = xs} (first-refused f c h) u v a b e z = report-answers (stored xs) (offers-stand u c) h a f refl
-check-answers {ys = ys} (second-refused n f c h d q) u v a b e z = report-answers (stored ys) (offers-stand v d) q b f refl
-check-answers (compared {o′ = o′} {p′ = p′} n k c h d q) u v a b e z =
-    compared-answers (take n o′) (take k p′) (same (take n o′) (take k p′)) refl e z
+    → length s ≡ storeLength → length t ≡ storeLength → 12000 ≤ length o → 12000 ≤ length p → BothReported r
+check-answers {xs = xs} (first-unreported f c h) u v a b = absurd (report-answers (stored xs) (offers-stand u c) h a (refusalNumber f) refl)
+check-answers {ys = ys} (second-unreported n f c h d q) u v a b = absurd (report-answers (stored ys) (offers-stand v d) q b (refusalNumber f) refl)
+check-answers (compared {o′ = o′} {p′ = p′} n k c h d q) u v a b = compared-both (take n o′) (take k p′) (same (take n o′) (take k p′)) refl

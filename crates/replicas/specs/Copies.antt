@@ -16,10 +16,10 @@ use Rattle.state.specs.declared.Ledger.{Ledger}
 use Rattle.state.specs.State.{storeLength, Book}
 use Rattle.state.specs.View.{bookOf, freshLedger}
 use Rattle.state.specs.Stands.{ident, Stands}
-use Rattle.ledger.specs.declared.Reported.{Reported}
+use Rattle.refusals.specs.Numbers.{Output, putBytes}
 use Rattle.ledger.specs.declared.Reported.the-variants.{Written}
 use Rattle.ledger.specs.Calls.{Calls, stored, offers-stand}
-use Rattle.ledger.specs.Report.{Reporting, unfit, short, written}
+use Rattle.ledger.specs.Report.{ReportRow, unfit, short, written, Reporting}
 use Rattle.replicas.specs.Sets.{setOf, reportFor, Fits, NoCollision}
 use Rattle.replicas.specs.SetLaws.{Apart, first-apart, second-apart, both-apart, updatesOf, updates-distinct, updates-identified, updates-unique}
 use Rattle.replicas.specs.StoredLaws.{stored-distinct, stored-same}
@@ -45,8 +45,8 @@ pub record SideBySide (xs ys : List (List ℕ)) (first second : List ℕ) : Type
   pub second-right : second ≡ reportFor (setOf ys)
 
 -- the full report of a copy is the report of the updates stored
-shown : {l : Book} {s o o′ : List ℕ} {r : Reported} (us : List Update) → Stands l s us → Reporting l s o r o′
-    → (n : ℕ) → r ≡ Written n → take n o′ ≡ reportOf ident us
+shown : {l : Book} {s o o′ : List ℕ} {v : Output} (us : List Update) → Stands l s us → ReportRow l s o v o′
+    → (n : ℕ) → v ≡ putBytes n → take n o′ ≡ reportOf ident us
 shown us h (unfit e) n q = let z : _≡_ {A = ℕ} 0 1 = cc in absurd (omega arith)
 shown us h (short text e t k) n q = let z : _≡_ {A = ℕ} 0 1 = cc in absurd (omega arith)
 shown {o = o} us h (written text e t k) n q =

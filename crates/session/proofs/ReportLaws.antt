@@ -12,10 +12,8 @@ use Rattle.rules.specs.ReportLaws.{report-length}
 use Rattle.state.specs.State.{Book}
 use Rattle.state.specs.Stands.{ident, Stands}
 use Rattle.state.specs.TakeLaws.{stands-sound}
-use Rattle.refusals.specs.declared.Refusal.{Refusal}
-use Rattle.ledger.specs.declared.Reported.{Reported}
-use Rattle.ledger.specs.declared.Reported.the-variants.{Written, Refused}
-use Rattle.ledger.specs.Report.{Reporting, unfit, short, written}
+use Rattle.refusals.specs.Numbers.{Output, putBytes, refusedBy}
+use Rattle.ledger.specs.Report.{ReportRow, unfit, short, written}
 use Rattle.state.specs.FindLaws.{ident-length}
 use Rattle.session.specs.Feeding.{Reports}
 use Rattle.session.proofs.OutLaws.{Extends, partFrom, withPart, part-length, puts}
@@ -28,7 +26,7 @@ module _ (l : Book) (s out : List ℕ) (at : ℕ) (room : at + 12000 ≤ length 
   inside : at ≤ length out
   inside = omega arith
 
-  pub report-written : {o : List ℕ} (n : ℕ) {r : Reported} → Reporting l s (partFrom out at) r o → r ≡ Written n
+  pub report-written : {o : List ℕ} (n : ℕ) {v : Output} → ReportRow l s (partFrom out at) v o → v ≡ putBytes n
       → Reports l s at out (at + n) (withPart out at o)
   report-written n (unfit e) q = let z : _≡_ {A = ℕ} 0 1 = cc in absurd (omega arith)
   report-written n (short text e t j) q = let z : _≡_ {A = ℕ} 0 1 = cc in absurd (omega arith)
@@ -41,7 +39,7 @@ module _ (l : Book) (s out : List ℕ) (at : ℕ) (room : at + 12000 ≤ length 
             ap (λ (i : ℕ). take (at + i) (withPart out at o)) (sym k) ∙ p .text ∙ ap (λ (x : List ℕ). take at out ++ x) (t .of-rules us h);
       }
 
-  pub report-refused : {o : List ℕ} (e : Refusal) {r : Reported} → Reporting l s (partFrom out at) r o → r ≡ Refused e
+  pub report-refused : {o : List ℕ} (e : ℕ) {v : Output} → ReportRow l s (partFrom out at) v o → v ≡ refusedBy e
       → Reports l s at out at (withPart out at o)
   report-refused e (unfit f) q = record { within = inside; text = λ us h. absurd (true-false (stands-sound l s us h) f) }
   report-refused e (short text f t j) q =

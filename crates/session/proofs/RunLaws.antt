@@ -9,9 +9,9 @@ use lib.ListN.{length, take, drop}
 use lib.Seq.{take-add, drop-drop}
 use Rattle.state.specs.declared.Ledger.{Ledger}
 use Rattle.printing.specs.Page.{Prints}
-use Rattle.offering.specs.declared.Offered.{Offered}
-use Rattle.offering.specs.Offer.{Offering}
-use Rattle.offering.specs.Words.{answerText}
+use Rattle.offering.specs.Values.{OfferValues}
+use Rattle.offering.specs.Offer.{OfferRow}
+use Rattle.offering.specs.Words.{valuesText}
 use Rattle.input.specs.declared.Assembled.{Assembled}
 use Rattle.input.specs.Lines.{Takes}
 use Rattle.answers.specs.declared.Begun.{Begun}
@@ -105,19 +105,19 @@ module _ {l : Ledger} {s buffer input out : List ℕ} {fill : ℕ} where
             (omega (arith, unread-past (u .1), u .1 .past)) refl bk uk
 
         -- the line ends, and its bytes are offered
-        pub run-offer : (n : ℕ) → r ≡ Offers n → {f : Offered} {s₂ : List ℕ} → Offering l₁ s₁ (take n update₂) f s₂ → length s₂ ≡ length s₁
-            → {o₂ : List ℕ} {k : ℕ} → Prints (partFrom (withPart out₁ written o) written) 0 (answerText (f .answer)) o₂ k → k ≤ maxAnswer
-            → Running l s buffer fill input out (f .ledger) s₂ buffer₂ (withPart (withPart out₁ written o) written o₂) update₂ 0 (consumed + a .consumed)
+        pub run-offer : (n : ℕ) → r ≡ Offers n → {v : OfferValues} {l₂ : Ledger} {s₂ : List ℕ} → OfferRow l₁ s₁ (take n update₂) v l₂ s₂ → length s₂ ≡ length s₁
+            → {o₂ : List ℕ} {k : ℕ} → Prints (partFrom (withPart out₁ written o) written) 0 (valuesText v) o₂ k → k ≤ maxAnswer
+            → Running l s buffer fill input out l₂ s₂ buffer₂ (withPart (withPart out₁ written o) written o₂) update₂ 0 (consumed + a .consumed)
             (written + k)
-        run-offer n q {f} {s₂} x sk {o₂} {k} p short =
+        run-offer n q {v} {l₂} {s₂} x sk {o₂} {k} p short =
             let u = begun-offer n b q in
             let inside : written ≤ length out₁ = omega arith in
             let same : withPart out₁ written o ≡ out₁ = ap (withPart out₁ written) (u .2) ∙ with-same out₁ written inside in
-            let p₁ : Prints (partFrom out₁ written) 0 (answerText (f .answer)) o₂ k =
-            subst (λ (y : List ℕ). Prints (partFrom y written) 0 (answerText (f .answer)) o₂ k) same p in
+            let p₁ : Prints (partFrom out₁ written) 0 (valuesText v) o₂ k =
+            subst (λ (y : List ℕ). Prints (partFrom y written) 0 (valuesText v) o₂ k) same p in
             subst
             (λ (y : List ℕ).
-            Running l s buffer fill input out (f .ledger) s₂ buffer₂ (withPart y written o₂) update₂ 0 (consumed + a .consumed) (written + k))
+            Running l s buffer fill input out l₂ s₂ buffer₂ (withPart y written o₂) update₂ 0 (consumed + a .consumed) (written + k))
             (sym same)
             (run-turn (turn-offer t e (u .0) x) (prints out₁ written inside p₁ (omega arith)) (t .some-taken left) (t .within) (omega (arith, p₁ .past)) sk bk uk)
 

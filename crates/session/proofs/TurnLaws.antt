@@ -13,9 +13,9 @@ use Rattle.state.specs.declared.Ledger.{Ledger}
 use Rattle.state.specs.declared.Standing.{Standing}
 use Rattle.state.specs.View.{bookOf}
 use Rattle.state.specs.State.{Book, placeAt, isHeld, isVoid, countOf}
-use Rattle.offering.specs.declared.Offered.{Offered}
-use Rattle.offering.specs.Offer.{Offering, unfit, malformed, known, full, taken}
-use Rattle.offering.specs.Words.{answerText}
+use Rattle.offering.specs.Values.{OfferValues}
+use Rattle.offering.specs.Offer.{OfferRow, unfit, malformed, known, full, taken}
+use Rattle.offering.specs.Words.{valuesText}
 use Rattle.ledger.specs.Calls.{offer-stands}
 use Rattle.ledger.specs.Answers.{answer-right}
 use Rattle.input.specs.declared.Assembled.{Assembled}
@@ -32,9 +32,9 @@ count-few : (p : Standing → Bool) (l : Book) → countOf p l ≤ l .used
 unfolding countOf
 count-few p l = countBelow-le (l .used) (λ (k : ℕ). p (placeAt l k .standing))
 
-pub offering-printable : {l : Ledger} {s b s′ : List ℕ} {r : Offered} → Offering l s b r s′ → Printable (r .answer)
+pub offering-printable : {l r : Ledger} {s b s′ : List ℕ} {v : OfferValues} → OfferRow l s b v r s′ → Printable v
 offering-printable (unfit e) = tt
-offering-printable (malformed m e d) = tt
+offering-printable (malformed n e d) = tt
 offering-printable (known u k e d f) = tt
 offering-printable (full u e d f n) = tt
 offering-printable (taken u r e d f n t) = (omega (arith, count-few isHeld (bookOf r), t .used-next), omega (arith, count-few isVoid (bookOf r), t .used-next))
@@ -76,15 +76,15 @@ module _ {buffer buffer′ input : List ℕ} {fill : ℕ} {a : Assembled} (t : T
           }
 
       -- the line ends, and its bytes are offered
-      pub turn-offer : {b : List ℕ} {r : Offered} {s′ : List ℕ} → lineIn buffer′ (a .fill) ≡ some b → Offering l s b r s′
-          → Moves l s buffer fill (take (a .consumed) input) (answerText (r .answer)) (r .ledger) s′ buffer′ 0
+      pub turn-offer : {b : List ℕ} {v : OfferValues} {r : Ledger} {s′ : List ℕ} → lineIn buffer′ (a .fill) ≡ some b → OfferRow l s b v r s′
+          → Moves l s buffer fill (take (a .consumed) input) (valuesText v) r s′ buffer′ 0
       unfolding answerLine
-      turn-offer {b} {r} {s′} q o =
+      turn-offer {b} {v} {r} {s′} q o =
           record {
             follows = λ m h.
-                subst (Follows (r .ledger) s′ buffer′ 0) (sym (answered (some b) q m h))
+                subst (Follows r s′ buffer′ 0) (sym (answered (some b) q m h))
                 (record { stands = offer-stands l s (m .stored) (h .stands) b o; keeps = begun m h });
             puts-out = λ m h.
                 ap (λ (n : Machine). n .out) (answered (some b) q m h)
-                ∙ ap (λ (x : List ℕ). m .out ++ x) (sym (answer-right l s (m .stored) (h .stands) b o));
+                ∙ ap (λ (x : List ℕ). m .out ++ x) (sym (ap valuesText (answer-right l s (m .stored) (h .stands) b o)));
           }

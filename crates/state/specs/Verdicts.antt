@@ -4,40 +4,45 @@ use mathlib.Core.Path.{_≡_, refl, sym, _∙_, ap}
 use Prim.Native.Nat.{ℕ, _<_}
 use mathlib.Core.List.{List}
 use mathlib.Core.Option.{Option, none, some}
-use mathlib.Core.Bool.{false≢true}
 use lib.ListN.{length}
 use Rattle.keys.specs.Member.{_∈_}
 use Rattle.keys.specs.MemberLaws.{∈-getD}
 use Rattle.format.specs.Update.{Update}
-use Rattle.rules.specs.Settle.{Verdict, held, waiting, void, isHeld, isWaiting, isVoid}
+use Rattle.rules.specs.Settle.{Verdict, held, waiting, void}
 use Rattle.state.specs.declared.Standing.{Standing}
 use Rattle.state.specs.declared.Standing.the-variants.{Held as IsHeld, Waiting as IsWaiting, Void as IsVoid}
 use Rattle.state.specs.State.{Book, placeAt, findIn}
 use Rattle.state.specs.Stands.{ident, noUpdate, updateAt, Holds}
 use Rattle.state.specs.FindLaws.{find-all}
 
+-- document 01's value for each case of a standing
 abbrev pub verdictOf : Standing → Verdict
 verdictOf IsHeld = held
 verdictOf IsWaiting = waiting
 verdictOf IsVoid = void
 
+-- a verdict is that of one standing
+abbrev standingOf : Verdict → Standing
+standingOf held = IsHeld
+standingOf waiting = IsWaiting
+standingOf void = IsVoid
+
+standing-back : (v : Standing) → standingOf (verdictOf v) ≡ v
+standing-back IsHeld = refl
+standing-back IsWaiting = refl
+standing-back IsVoid = refl
+
+pub verdict-one : (v w : Standing) → verdictOf v ≡ verdictOf w → v ≡ w
+verdict-one v w e = sym (standing-back v) ∙ ap standingOf e ∙ standing-back w
+
 pub verdict-held : (v : Standing) → verdictOf v ≡ held → v ≡ IsHeld
-unfolding isHeld
-verdict-held IsHeld e = refl
-verdict-held IsWaiting e = absurd (false≢true (ap isHeld e))
-verdict-held IsVoid e = absurd (false≢true (ap isHeld e))
+verdict-held v e = verdict-one v IsHeld e
 
 pub verdict-waiting : (v : Standing) → verdictOf v ≡ waiting → v ≡ IsWaiting
-unfolding isWaiting
-verdict-waiting IsHeld e = absurd (false≢true (ap isWaiting e))
-verdict-waiting IsWaiting e = refl
-verdict-waiting IsVoid e = absurd (false≢true (ap isWaiting e))
+verdict-waiting v e = verdict-one v IsWaiting e
 
 pub verdict-void : (v : Standing) → verdictOf v ≡ void → v ≡ IsVoid
-unfolding isVoid
-verdict-void IsHeld e = absurd (false≢true (ap isVoid e))
-verdict-void IsWaiting e = absurd (false≢true (ap isVoid e))
-verdict-void IsVoid e = refl
+verdict-void v e = verdict-one v IsVoid e
 
 abbrev verdictAt : Book → Option ℕ → Verdict
 verdictAt l none = waiting

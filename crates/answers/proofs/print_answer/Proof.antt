@@ -3,6 +3,8 @@
 use mathlib.Core.Path.{sym, ap, subst}
 use Rattle.offering.specs.Words.{answerText}
 use Rattle.printing.proofs.Printing.{same-text}
+use Rattle.offering.specs.declared.Answer.{Answer}
+use Rattle.offering.specs.Values.{offerValues}
 use Rattle.answers.specs.Answers.{Printable}
 use borrow.Author.Needs.{needs}
 use Rattle.answers.proofs.print_answer.Statement.{statement}
@@ -13,7 +15,7 @@ print-answer-spec =
     tie.close
     (tie.spec
     (λ c. search needs)
-    (λ c κs. subst Printable (c .before .before .answer .given .1) (c .before .before .before .before .before .pre))
+    (λ c κs. subst (λ (a : Answer). Printable (offerValues a)) (c .before .before .answer .given .1) (c .before .before .before .before .before .pre))
     (λ c. search needs)
     (λ c κs. search needs)
     (λ c. search needs)
