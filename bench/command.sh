@@ -1,7 +1,7 @@
 #!/usr/bin/env bash
 # Measures the command against the Rust program (oracle/) on the same inputs, on one core, and prints a table: ratios of time, and the command's speed and peak
 # memory. Time is the processor's, user and system together, from the start of a program to its end, so that other jobs on the machine weigh little. What the two
-# write is compared on every input. Not a part of the gate: a time says nothing about a verdict.
+# write is compared on every input. Not a part of the gate: a time says nothing about a verdict. All that it makes is removed at its end, but for what rt proved and built.
 set -euo pipefail
 cd "$(dirname "${BASH_SOURCE[0]}")/.."
 PATH=$PATH:${HOME:-/root}/.cargo/bin
@@ -9,22 +9,21 @@ export LC_ALL=C
 TIMEFORMAT='%3U %3S'
 
 turns=5
-folder=target/bench
+mkdir -p target
+folder=$(mktemp -d target/bench.XXXXXX)
+trap 'rm -rf "$folder"' EXIT
 proved=target/bin/silkcliff
-rust=oracle/target/release/oracle
-flood=oracle/target/release/flood
+rust=$folder/rust/release/oracle
+flood=$folder/rust/release/flood
 
-mkdir -p "$folder"
-trap 'rm -f "$folder"/{endless,proved.out,rust.out,fifo}' EXIT
 rt check silkcliff >"$folder/check.log" 2>&1 || { cat "$folder/check.log"; exit 1; }
-cargo build --release --offline --quiet --manifest-path oracle/Cargo.toml --target-dir oracle/target
+cargo build --release --offline --quiet --manifest-path oracle/Cargo.toml --target-dir "$folder/rust"
 
 "$flood" ordered 0 >"$folder/ordered"
 "$flood" reversed 0 >"$folder/reversed"
 "$flood" ordered 100000000 >"$folder/known"
 for kind in hello digit malformed; do "$flood" "$kind" 100000000 >"$folder/$kind"; done
 # zero bytes without a newline, and no space on disk
-rm -f "$folder/endless"
 truncate -s 1000000000 "$folder/endless"
 
 sed -n '/^model name/ { s/^[^:]*: /CPU: /p; q }' /proc/cpuinfo

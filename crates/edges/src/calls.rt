@@ -96,7 +96,7 @@ fn written(slots: &mut [u8], s: usize, update: &[u8]) {
     digest(update);
 }
 
-// Writes what a slot asks for, and puts what was written in its place.
+// Writes what a slot asks for, and puts what was written in its place. Where the write is refused, the slot keeps what it asked for.
 pub fn write(l: Ledger, store: &[u8], slots: &mut [u8], out: &mut [u8], s: usize) {
     match ask_for(l, store, bytes_of(slots, s), out) {
         Wrote::Written(n) => written(slots, s, part_of(out, 0, n)),
