@@ -38,6 +38,11 @@ module _ {l : Book} {s : List ℕ} {k : ℕ} where
   settles-void (to-held e) q = absurd (held≢void q)
   settles-void (to-void e) q = e
 
+  -- a place that is settled and not held gets no ancestors
+  pub settles-none-above : {v : Standing} {w : ℕ} → Settles l s k v w → (v ≡ IsHeld → ⊥) → w ≡ 0
+  settles-none-above (to-held e) n = absurd (n refl)
+  settles-none-above (to-void e) n = refl
+
   settles-not-waits : {v : Standing} {w : ℕ} → Settles l s k v w → judge l s k ≡ Waits → ⊥
   unfolding isWaits
   settles-not-waits (to-held e) q = false≢true (ap isWaits (sym e ∙ q))

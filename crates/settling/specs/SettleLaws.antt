@@ -32,7 +32,7 @@ use Rattle.state.specs.Stands.{ident, noUpdate, updateAt, Holds, Truthful, Sett
 use Rattle.state.specs.BookLaws.{replaced-same, replaced-other, replaced-cases}
 use Rattle.judging.specs.JudgeWithin.{judge-within}
 use Rattle.judging.specs.JudgeLaws.{judged-held, judged-above, judged-above-all, judged-void, judged-no-void, judged-not-ready}
-use Rattle.settling.specs.Passes.{Settles, to-held, to-void, settles-not-waiting, settles-held, settles-void}
+use Rattle.settling.specs.Passes.{Settles, to-held, to-void, settles-not-waiting, settles-held, settles-void, settles-none-above}
 use Rattle.settling.specs.Passes.{settle-cases, place-keeps, over-keeps, newest-keeps, begun-keeps, settled-keeps, over-unchanged}
 
 -- a place of a ledger in which the place k was settled: what it was, or the new one
@@ -230,6 +230,8 @@ module _ (s : List ℕ) (us : List Update) where
             (λ e q b.
             judged-above-all l s us h t k w a hk ga (settles-held j q)
             (subst (λ (x : ℕ). Ancestor ident us (updateAt us a) (updateAt us x)) e b));
+        none-above = λ i g.
+            place-cases l k v w (λ p. (p .standing ≡ IsHeld → ⊥) → p .ancestors ≡ 0) i (t .none-above i g) (λ e. settles-none-above j);
       }
 
   settled-right : (l r : Book) → SettledFrom l s r → Holds l s us × Truthful l us → Holds r s us × Truthful r us

@@ -2,6 +2,7 @@ pub mod State
 pub mod BookLaws
 pub mod View
 pub mod ViewLaws
+pub mod Methods
 pub mod Number
 pub mod NumberLaws
 pub mod Row1

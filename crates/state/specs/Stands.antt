@@ -37,7 +37,8 @@ pub record Holds (l : Book) (s : List ℕ) (us : List Update) : Type 0 where
   pub bytes : (k : ℕ) → k < length us → storedAt l s k ≡ encode (updateAt us k)
   pub inside : (k : ℕ) → k < length us → within (placeAt l k .ancestors) (length us) ≡ true
 
--- what a place says of its update is so: a held one is held, and its ancestor word has exactly the places of its ancestors; a void one is void
+-- what a place says of its update is so: a held one is held, and its ancestor word has exactly the places of its ancestors; a void one is void; and one that is not held
+-- has no ancestors recorded
 pub record Truthful (l : Book) (us : List Update) : Type 0 where
   pub held-right : (k : ℕ) → k < length us → placeAt l k .standing ≡ IsHeld → Held ident us (updateAt us k)
   pub void-right : (k : ℕ) → k < length us → placeAt l k .standing ≡ IsVoid → Void ident us (updateAt us k)
@@ -45,6 +46,7 @@ pub record Truthful (l : Book) (us : List Update) : Type 0 where
       → has (placeAt l k .ancestors) j ≡ true → Ancestor ident us (updateAt us j) (updateAt us k)
   pub above-all : (k j : ℕ) → k < length us → j < length us → placeAt l k .standing ≡ IsHeld
       → Ancestor ident us (updateAt us j) (updateAt us k) → has (placeAt l k .ancestors) j ≡ true
+  pub none-above : (k : ℕ) → k < length us → (placeAt l k .standing ≡ IsHeld → ⊥) → placeAt l k .ancestors ≡ 0
 
 -- nothing is left to settle: a place that waits holds an update that waits
 pub record Settled (l : Book) (us : List Update) : Type 0 where

@@ -57,6 +57,7 @@ fresh-stands l s empty store =
             void-right = λ k g. absurd (not-suc-le-zero g);
             above-right = λ k j g. absurd (not-suc-le-zero g);
             above-all = λ k j g. absurd (not-suc-le-zero g);
+            none-above = λ k g. absurd (not-suc-le-zero g);
           };
       settled = record { waiting-right = λ k g. absurd (not-suc-le-zero g) };
     }
@@ -198,4 +199,5 @@ module _ (l : Book) (s : List ℕ) (us : List Update) (u : Update) (stands : Sta
             (λ q. absurd (held≢waiting (sym q)))
             k
             gk;
+        none-above = taken-cases (λ _ p v. (p .standing ≡ IsHeld → ⊥) → p .ancestors ≡ 0) (t .none-above) (λ _. refl);
       }

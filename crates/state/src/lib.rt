@@ -3,9 +3,8 @@ pub mod find;
 pub mod store;
 
 ghost use mathlib.Core.Path.{_≡_};
-ghost use Prim.Native.Nat.{_+_, _<_};
-ghost use Rattle.state.specs.State.{withTaken, withStanding};
-ghost use Rattle.state.specs.View.{bookOf, freshLedger};
+ghost use Rattle.state.specs.View.{freshLedger};
+ghost use Rattle.state.specs.Methods.{TakesPlace, SettlesPlace};
 
 // How many places a ledger has.
 pub const PLACES: usize = 64;
@@ -57,27 +56,31 @@ pub fn fresh() -> Ledger
 }
 
 impl Ledger {
-    // The next place is taken, by an update that waits.
+    // The next place is taken, by an update that waits. Where none is free, nothing changes.
     pub fn taken(mut self, id: [u8; 32], length: usize) -> Ledger
-        requires { ⌜ bookOf self .used < 64 ⌝ }
-        ensures { λ r. ⌜ bookOf r ≡ withTaken (bookOf self) id length ⌝ }
+        ensures { λ r. ⌜ TakesPlace self id length r ⌝ }
     {
-        let k = self.used;
-        self.places[k] = Place {
+        let next = self.used;
+        if PLACES <= next {
+            return self;
+        }
+        self.places[next] = Place {
             id: id,
             length: length,
             ancestors: 0,
             standing: Standing::Waiting,
         };
-        self.used = k + 1;
+        self.used = next + 1;
         self
     }
 
-    // The standing of place k is changed, and its ancestors with it.
+    // The standing of place k is changed, and its ancestors with it. Where there is no place k, nothing changes.
     pub fn settled(mut self, k: usize, standing: Standing, ancestors: u64) -> Ledger
-        requires { ⌜ k < 64 ⌝ }
-        ensures { λ r. ⌜ bookOf r ≡ withStanding (bookOf self) k standing ancestors ⌝ }
+        ensures { λ r. ⌜ SettlesPlace self k standing ancestors r ⌝ }
     {
+        if PLACES <= k {
+            return self;
+        }
         let old = self.places[k];
         let id = old.id;
         self.places[k] = Place {

@@ -27,7 +27,7 @@ took c =
     let a = z .args in
     let f = z .pre .0 in
     laws.took (bookOf (a .ledger)) (now (a .store)) (now (a .update)) (f .value) (f .is-sound) (f .decodes) (z .pre .3) (z .pre .1) (z .pre .2)
-    (t .taken .ensures)
+    (t .taken .ensures .free (z .pre .3))
     (w .write-at .ensures)
     (w .write-at .kept .0)
     (c .settle .ensures)
@@ -48,7 +48,7 @@ take-spec =
     (λ c κs.
     let t = c .before in
     let z = t .before .before .before .before .before .before .before in
-    omega (arith, ap (λ (m : Book). m .used) (t .taken .ensures), z .pre .3))
+    omega (arith, ap (λ (m : Book). m .used) (t .taken .ensures .free (z .pre .3)), z .pre .3))
     (λ c. search needs)
     (λ c. search needs)
     (λ c κs. settled-few (c .before))

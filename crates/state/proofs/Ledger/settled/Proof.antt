@@ -1,5 +1,6 @@
--- `Ledger::settled` meets its contract: the view of the ledger with a place stored in its array.
+-- `Ledger::settled` meets its contract: there is no place k; or the view of the ledger with a place stored in its array.
 -- Assumes nothing.
+use mathlib.Core.Path.{refl}
 use native.Mathlib.Omega.{arith}
 use lib.ListN.{getD}
 use borrow.Author.Needs.{needs}
@@ -9,26 +10,34 @@ use Rattle.state.proofs.Owning.{places-length}
 use Rattle.state.proofs.Ledger.settled.Statement.{statement}
 use Rattle.state.proofs.Ledger.settled.Tie as tie
 
+outside : tie.Need-returns
+outside c = record { inside = λ h. absurd (omega (arith, c .if1 .taken)); outside = λ h. refl }
+
 mul-old : tie.Need-mul-old
 mul-old c = search needs
 
 element-copy-out-old : tie.Need-element-copy-out-old
 element-copy-out-old c = search needs
 
-mul-t8 : tie.Need-mul-t8
-mul-t8 c = search needs
+mul-places : tie.Need-mul-t9
+mul-places c = search needs
 
-element-set-from-self : tie.Need-element-set-from-self
-element-set-from-self c = search needs
+element-set : tie.Need-element-set-from-self
+element-set c = search needs
 
-returns : tie.Need-returns
-returns c =
-    let z = c .before .before in
+inside : tie.Need-returns-2
+inside c =
+    let i = c .before .before in
+    let z = i .before in
     let self = z .args .t1 in
     let old = getD (self .places) (z .args .k) noPlace in
-    stored-view self (self .used) (z .args .k)
-    (record { id = old .id; length = old .length; ancestors = z .args .ancestors; standing = z .args .standing })
-    (omega (arith, places-length self _ (z .good .0)))
+    record {
+      inside = λ h.
+          stored-view self (self .used) (z .args .k)
+          (record { id = old .id; length = old .length; ancestors = z .args .ancestors; standing = z .args .standing })
+          (omega (arith, places-length self _ (z .good .0)));
+      outside = λ h. absurd (omega (arith, i .if1 .left));
+    }
 
 pub settled-spec : {M : Type 1} → statement M
-settled-spec = tie.close (tie.spec mul-old element-copy-out-old mul-t8 element-set-from-self returns)
+settled-spec = tie.close (tie.spec outside mul-old element-copy-out-old mul-places element-set inside)
