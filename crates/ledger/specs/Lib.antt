@@ -2,4 +2,5 @@ pub mod Ask
 pub mod Calls
 pub mod Report
 pub mod Answers
+pub mod AfterOffers
 pub mod WriteLaws

@@ -1,5 +1,5 @@
 -- The rules as they are computed: rounds over a table of verdicts that judge again what waits, and the read-offs from the settled table. The
--- theorems of `Settling` and `ReadOffLaws` say that these are the standings and read-offs of `Standing` and `ReadOff`.
+-- theorem of `PartsLaws` says that the parts so computed are those of `Standing` and `ReadOff`.
 -- Assumes nothing.
 use Prim.Native.Nat.{ℕ, zero, suc}
 use mathlib.Core.List.{List, [], _∷_, map, reverse}
@@ -11,6 +11,7 @@ use Rattle.keys.specs.Member.{member, keep, any, all, concatMap}
 use Rattle.keys.specs.Sort.{sort}
 use Rattle.format.specs.Update.{Id, Operation, Add, Remove, Insert, Delete, Update}
 use Rattle.rules.specs.Standing.{beginning}
+use Rattle.rules.specs.Parts.{Parts}
 
 pub data Verdict : Type 0 where
   held : Verdict
@@ -225,3 +226,23 @@ valuesOf (Delete i) = []
 
 unfoldable pub list : Table → List (List ℕ)
 list T = concatMap (λ (r : Row). valuesOf (r .update .op)) (keep (λ (r : Row). not (deleted T (r .id))) (entries T))
+
+-- the parts of the report
+
+abbrev pub updatesIn : Table → List Update
+updatesIn T = map (λ (r : Row). r .update) T
+
+unfoldable pub partsIn : Table → Parts
+partsIn T =
+    record {
+      held = updatesIn (keep (λ (r : Row). isHeld (r .verdict)) T);
+      heads = updatesIn (heads T);
+      waiting = updatesIn (keep (λ (r : Row). isWaiting (r .verdict)) T);
+      void = updatesIn (keep (λ (r : Row). isVoid (r .verdict)) T);
+      marks = marks T;
+      set = tags T;
+      list = list T;
+    }
+
+unfoldable pub partsOf : (Update → Id) → List Update → Parts
+partsOf ident S = partsIn (settled ident S)

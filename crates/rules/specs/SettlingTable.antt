@@ -54,7 +54,13 @@ isHeld→ held e = refl
 isHeld→ waiting e = absurd (false≢true e)
 isHeld→ void e = absurd (false≢true e)
 
-isVoid→ : (v : Verdict) → isVoid v ≡ true → v ≡ void
+pub isWaiting→ : (v : Verdict) → isWaiting v ≡ true → v ≡ waiting
+unfolding isWaiting
+isWaiting→ held e = absurd (false≢true e)
+isWaiting→ waiting e = refl
+isWaiting→ void e = absurd (false≢true e)
+
+pub isVoid→ : (v : Verdict) → isVoid v ≡ true → v ≡ void
 unfolding isVoid
 isVoid→ held e = absurd (false≢true e)
 isVoid→ waiting e = absurd (false≢true e)

@@ -1,0 +1,58 @@
+-- Demand 2 of offers: after any offers to a fresh ledger the entries say what the rules give for the updates stored.
+-- Assumes nothing.
+use mathlib.Core.Path.{_≡_, refl, _∙_}
+use Prim.Native.Nat.{ℕ}
+use native.Mathlib.Omega.{arith}
+use mathlib.Core.List.{List}
+use lib.ListN.{length, take, drop}
+use lib.Seq.{take-append-seam}
+use Rattle.format.specs.Update.{Update}
+use Rattle.format.specs.Decode.{decode}
+use Rattle.rules.specs.Parts.{Parts, ReadFrom}
+use Rattle.rules.specs.Settle.{partsOf}
+use Rattle.rules.specs.Report.{reportText, reportOf}
+use Rattle.rules.specs.PartsLaws.{read-right}
+use Rattle.state.specs.declared.Ledger.{Ledger}
+use Rattle.state.specs.State.{storeLength, freshLedger}
+use Rattle.state.specs.Stands.{ident, Stands}
+use Rattle.offering.specs.declared.Offered.{Offered}
+use Rattle.offering.specs.Offer.{Offering}
+use Rattle.offering.specs.Words.{answerText}
+use Rattle.ledger.specs.declared.Reported.{Reported}
+use Rattle.ledger.specs.declared.Reported.the-variants.{Written}
+use Rattle.ledger.specs.Report.{Reporting, unfit, short, written}
+use Rattle.ledger.specs.Calls.{Calls, stored, offers-stand, AnswersFor, stands-answers}
+use Rattle.ledger.specs.Answers.{offerText, answer-right}
+
+-- the text is laid out from parts that are exactly those that the rules give for the updates
+pub record LaidOut (us : List Update) (text : List ℕ) : Type 0 where
+  pub parts : Parts
+  pub read : ReadFrom ident us parts
+  pub laid-out : text ≡ reportText ident parts
+
+-- what the entries say of a ledger and its store is what the rules give for the updates
+pub record SaysOf (us : List Update) (l : Ledger) (s : List ℕ) : Type 0 where
+  pub standing : AnswersFor l s us
+  pub reported : {o o′ : List ℕ} {n : ℕ} → Reporting l s o (Written n) o′ → LaidOut us (take n o′)
+  pub answered : (b : List ℕ) {r : Offered} {s′ : List ℕ} → Offering l s b r s′ → answerText (r .answer) ≡ offerText us (decode b)
+
+-- the bytes reported of a ledger that stands
+pub report-shown : {l : Ledger} {s o o′ : List ℕ} {r : Reported} (us : List Update) → Stands l s us → Reporting l s o r o′
+    → (n : ℕ) → r ≡ Written n → take n o′ ≡ reportOf ident us
+report-shown us h (unfit e) n q = let z : _≡_ {A = ℕ} 0 1 = cc in absurd (omega arith)
+report-shown us h (short text e t k) n q = let z : _≡_ {A = ℕ} 0 1 = cc in absurd (omega arith)
+report-shown {o = o} us h (written text e t k) n q =
+    let p : length text ≡ n = cc in
+    rw (← p) (take-append-seam text (drop (length text) o) ∙ t .of-rules us h)
+
+pub stands-says : {l : Ledger} {s : List ℕ} (us : List Update) → Stands l s us → SaysOf us l s
+unfolding reportOf
+stands-says {l} {s} us h =
+    record {
+      standing = stands-answers l s us h;
+      reported = λ {o} {o′} {n} r. record { parts = partsOf ident us; read = read-right ident us (h .holds .distinct); laid-out = report-shown us h r n refl };
+      answered = λ b o. answer-right l s us h b o;
+    }
+
+pub after-offers : {l : Ledger} {s s′ : List ℕ} {bs : List (List ℕ)} → length s ≡ storeLength → Calls freshLedger s bs l s′ → SaysOf (stored bs) l s′
+after-offers {bs = bs} h c = stands-says (stored bs) (offers-stand h c)
