@@ -16,7 +16,7 @@ pub mod ReadOffLaws
 pub mod PartsLaws
 pub mod SmallLaws
 pub mod TextLaws
-pub mod LengthLaws
+pub mod ReportLengthLaws
 pub mod ReportLaws
 pub mod Writing
 pub mod ChoiceLaws

@@ -19,7 +19,7 @@ use Rattle.keys.specs.SortLaws.{sort-∈, sort-ascending}
 use Rattle.format.specs.Update.{Id, Delete, Update}
 use Rattle.rules.specs.Standing.{beginning}
 use Rattle.rules.specs.ReadOff.{Deleted, Rank, InsertAt, Sooner, Ordered, Siblings, First, Under, Walk, Shown}
-use Rattle.rules.specs.Settle.{Row, Table, heldRow, rank, anchored, siblings, under, walk, deletes, deleted, valuesOf, rankKey, updatesIn}
+use Rattle.rules.specs.Settle.{Row, Table, heldRow, rank, anchored, siblings, under, walk, deletes, deleted, valuesOf, siblingKey, updatesIn}
 use Rattle.rules.specs.Decides.{Decides}
 use Rattle.rules.specs.TableLaws.{deletes→, →deletes, insert-value, insert-values, HeldRow, any-held→, →any-held, keep-held→, row-held, row-id, row-rank, held-row, rank-bound}
 use Rattle.rules.specs.ListLaws.{Entry, atBeginning, firstRows, siblings-∈, ∈-siblings, child-held, child-rank, under→, →under}
@@ -27,7 +27,7 @@ use Rattle.rules.specs.ListLaws.{Entry, atBeginning, firstRows, siblings
 module _ {ident : Update → Id} {S : List Update} {T : Table} (distinct : Distinct ident S) (decides : Decides ident S T) where
   -- siblings are in order
 
-  sooner : {r q : Row} → HeldRow T r → HeldRow T q → before (rankKey q) (rankKey r) ≡ true → Sooner ident S (r .update) (q .update)
+  sooner : {r q : Row} → HeldRow T r → HeldRow T q → before (siblingKey q) (siblingKey r) ≡ true → Sooner ident S (r .update) (q .update)
   sooner {r} {q} h k e = record {
     rank-u = rank r;
     rank-v = rank q;
@@ -36,9 +36,9 @@ module _ {ident : Update → Id} {S : List Update} {T : Table} (distinct : Disti
     larger = subst₂ (λ (i j : Id). before (rank q ∷ i) (rank r ∷ j) ≡ true) (row-id distinct decides k) (row-id distinct decides h) e;
   }
 
-  ordered-reverseAux : {xs : Table} → Ascending rankKey xs → (es : Table) → Ordered ident S (updatesIn es)
+  ordered-reverseAux : {xs : Table} → Ascending siblingKey xs → (es : Table) → Ordered ident S (updatesIn es)
       → ((r : Row) → r ∈ xs → HeldRow T r) → ((r : Row) → r ∈ es → HeldRow T r)
-      → ((r q : Row) → r ∈ xs → q ∈ es → before (rankKey q) (rankKey r) ≡ true) → Ordered ident S (updatesIn (reverseAux xs es))
+      → ((r q : Row) → r ∈ xs → q ∈ es → before (siblingKey q) (siblingKey r) ≡ true) → Ordered ident S (updatesIn (reverseAux xs es))
   ordered-reverseAux ascending-nil es o h k l = o
   ordered-reverseAux (ascending-cons {x = x} {xs = xs} b a) es o h k l =
       let hx : HeldRow T x = h x (List·Memᴰ·head refl) in
@@ -46,7 +46,7 @@ module _ {ident : Update → Id} {S : List Update} {T : Table} (distinct : Disti
       (Ordered.first (λ v m. let f = map-∈ (λ (r : Row). r .update) es m in
       subst (Sooner ident S (x .update)) (f .2) (sooner hx (k (f .0) (f .1)) (l x (f .0) (List·Memᴰ·head refl) (f .1)))) o)
       (λ r i. h r (List·Memᴰ·tail i)) (λ r i. ⊎-elim (λ (q : r ≡ x). subst (HeldRow T) (sym q) hx) (λ (j : r ∈ es). k r j) (∈-cases i))
-      (λ r q i j. ⊎-elim (λ (e : q ≡ x). subst (λ (y : Row). before (rankKey y) (rankKey r) ≡ true) (sym e) (b r i))
+      (λ r q i j. ⊎-elim (λ (e : q ≡ x). subst (λ (y : Row). before (siblingKey y) (siblingKey r) ≡ true) (sym e) (b r i))
       (λ (m : q ∈ es). l r q (List·Memᴰ·tail i) m) (∈-cases j))
 
   siblings-ordered : (p : Id → Bool) → Ordered ident S (updatesIn (siblings T p))
@@ -54,8 +54,8 @@ module _ {ident : Update → Id} {S : List Update} {T : Table} (distinct : Disti
   siblings-ordered p =
       let P : Row → Bool = λ (q : Row). anchored p (q .update .op) in
       let K : Table = keep (λ (q : Row). heldRow q && P q) T in
-      ordered-reverseAux (sort-ascending rankKey K) [] Ordered.none
-      (λ r i. keep-held→ T P (sort-∈ rankKey K i) .0) (λ r i. absurd (List·Memᴰ·not-nil i)) (λ r q i j. absurd (List·Memᴰ·not-nil j))
+      ordered-reverseAux (sort-ascending siblingKey K) [] Ordered.none
+      (λ r i. keep-held→ T P (sort-∈ siblingKey K i) .0) (λ r i. absurd (List·Memᴰ·not-nil i)) (λ r q i j. absurd (List·Memᴰ·not-nil j))
 
   siblings-right : (p : Id → Bool) (At : Update → Type 0) → ((u : Update) → At u → (a : Id) × InsertAt ident S a u × (p a ≡ true))
       → ((a : Id) (u : Update) → InsertAt ident S a u → p a ≡ true → At u) → Siblings ident S At (updatesIn (siblings T p))

@@ -1,9 +1,9 @@
--- The theorem of what is read off: for a set with distinct ids the parts that are computed are exactly those that `Standing` and `ReadOff` define, and no others
--- are.
+-- For a set with distinct ids the parts of the report, as they are computed, are exactly those that `Standing` and `ReadOff` define, and only one choice of
+-- parts is.
 -- Assumes nothing.
 use Prim.Native.Nat.{ℕ}
-use mathlib.Core.Path.{_≡_, refl, sym, _∙_, subst, subst₂}
-use mathlib.Core.List.{List, [], _∷_, map}
+use mathlib.Core.Path.{_≡_, refl, sym, subst, subst₂}
+use mathlib.Core.List.{List, [], _∷_}
 use mathlib.Core.Bool.{Bool, true, not, _&&_}
 use Rattle.keys.specs.Order.{before}
 use Rattle.keys.specs.Member.{_∈_, keep}
@@ -13,9 +13,10 @@ use Rattle.keys.specs.Ascending.{Ascending}
 use Rattle.keys.specs.SortLaws.{ascending-distinct, ascending-keep, ascending-rekey, ascending-unique, sort-ascending}
 use Rattle.keys.specs.ListLaws.{ascending-map}
 use Rattle.format.specs.Update.{Id, Update}
+use Rattle.rules.specs.Standing.{Held, Void, Waiting}
 use Rattle.rules.specs.ReadOff.{Head, Marked, Present}
 use Rattle.rules.specs.Parts.{Parts, Exactly, ReadFrom}
-use Rattle.rules.specs.Settle.{Verdict, held, waiting, void, Row, Table, isHeld, isWaiting, isVoid, heldRow, settled, covered, heads, marks, tags, updatesIn, partsIn, partsOf}
+use Rattle.rules.specs.Settle.{Verdict, held, waiting, void, Row, Table, isHeld, isWaiting, isVoid, heldRow, covered, heads, marks, tags, updatesIn, partsIn, partsOf}
 use Rattle.rules.specs.Decides.{Decides}
 use Rattle.rules.specs.LeastSets.{Says}
 use Rattle.rules.specs.SettlingTable.{isHeld→, isWaiting→, isVoid→}
@@ -60,6 +61,18 @@ module _ {ident : Update → Id} {S : List Update} {T : Table} (distinct : Disti
       (λ u h. let f = says-row distinct decides v u h in
       (f .0, ∈-keep (λ (r : Row). p (r .verdict)) (f .1) (subst (λ (w : Verdict). p w ≡ true) (sym (f .2)) passes), f .3))
 
+  held-exactly : Exactly ident (Held ident S) (updatesIn (keep (λ (r : Row). isHeld (r .verdict)) T))
+  unfolding isHeld
+  held-exactly = verdict-exactly held isHeld isHeld→ refl
+
+  waiting-exactly : Exactly ident (Waiting ident S) (updatesIn (keep (λ (r : Row). isWaiting (r .verdict)) T))
+  unfolding isWaiting
+  waiting-exactly = verdict-exactly waiting isWaiting isWaiting→ refl
+
+  void-exactly : Exactly ident (Void ident S) (updatesIn (keep (λ (r : Row). isVoid (r .verdict)) T))
+  unfolding isVoid
+  void-exactly = verdict-exactly void isVoid isVoid→ refl
+
   heads-exactly : Exactly ident (Head ident S) (updatesIn (heads T))
   unfolding heads
   heads-exactly =
@@ -76,13 +89,13 @@ module _ {ident : Update → Id} {S : List Update} {T : Table} (distinct : Disti
       record { right = tag-right ident S T distinct decides; all = tag-all ident S T distinct decides; ascending = sort-ascending (λ (t : List ℕ). t) _ }
 
   pub parts-right : ReadFrom ident S (partsIn T)
-  unfolding partsIn isHeld isWaiting isVoid
+  unfolding partsIn
   parts-right =
       record {
-        held = verdict-exactly held isHeld isHeld→ refl;
+        held = held-exactly;
         heads = heads-exactly;
-        waiting = verdict-exactly waiting isWaiting isWaiting→ refl;
-        void = verdict-exactly void isVoid isVoid→ refl;
+        waiting = waiting-exactly;
+        void = void-exactly;
         marks = marks-exactly;
         set = set-exactly;
         list = list-right ident S T distinct decides;

@@ -1,4 +1,5 @@
--- The report: the same members give the same bytes; equal bytes show the same ids, and equal sets where no two updates share an id; its length.
+-- The report: it is laid out from the parts that the definitions give; the same members give the same bytes; equal bytes show the same ids, and equal sets where no
+-- two updates share an id; its length.
 -- Assumes nothing.
 use mathlib.Core.Path.{_≡_, refl, sym, _∙_, ap, subst}
 use mathlib.Core.Logic.{_⊎_, inl, inr}
@@ -14,16 +15,21 @@ use Rattle.keys.specs.Sort.{sort}
 use Rattle.keys.specs.SortLaws.{same-sort}
 use Rattle.format.specs.Update.{Id, idLength, Update, Bounded}
 use Rattle.rules.specs.Standing.{Held, Void, Waiting}
-use Rattle.rules.specs.Parts.{ReadFrom}
+use Rattle.rules.specs.Parts.{Parts, ReadFrom}
 use Rattle.rules.specs.Settle.{isInsert, rounds, start, startAll, settled, heads, marks, tags, walk, entries, list, partsIn, partsOf}
 use Rattle.rules.specs.Report.{codes, ascii, part, reportText, reportOf}
 use Rattle.rules.specs.Decides.{Decides}
 use Rattle.rules.specs.LeastSets.{held-stored, void-stored}
 use Rattle.rules.specs.Settling.{settled-decides, covers}
 use Rattle.rules.specs.ReadOffLaws.{entry-right, entry-once}
-use Rattle.rules.specs.PartsLaws.{read-right}
+use Rattle.rules.specs.PartsLaws.{read-right, read-unique}
 use Rattle.rules.specs.TextLaws.{SameIds, text-ids}
-use Rattle.rules.specs.LengthLaws.{Sized, text-length}
+use Rattle.rules.specs.ReportLengthLaws.{Sized, text-length}
+
+-- the report is laid out from the parts that the definitions give
+pub report-laid-out : (ident : Update → Id) (S : List Update) → Distinct ident S → {parts : Parts} → ReadFrom ident S parts → reportOf ident S ≡ reportText ident parts
+unfolding reportOf
+report-laid-out ident S d f = ap (reportText ident) (read-unique ident S d (read-right ident S d) f)
 
 -- only the set counts
 pub same-report : (ident : Update → Id) (S S′ : List Update) → Distinct ident S → Distinct ident S′ → SameMembers S S′ → reportOf ident S ≡ reportOf ident S′

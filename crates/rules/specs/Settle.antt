@@ -92,6 +92,10 @@ validOp T up (Remove t named) = all (λ (i : Id). member i up && addIn T t i) na
 validOp T up (Insert a v) = same a beginning || (member a up && insertIn T a)
 validOp T up (Delete i) = member i up && insertIn T i
 
+-- both, for an update with these ancestors
+unfoldable pub fineBy : Table → List Id → Update → Bool
+fineBy T up u = antichain T (u .preds) && validOp T up (u .op)
+
 -- a row that waits is judged by the table; a settled one stays
 
 unfoldable pub ruled : Verdict → List Id → Row → Row
@@ -102,7 +106,7 @@ judgeFine true up r = ruled held up r
 judgeFine false up r = ruled void [] r
 
 unfoldable pub judgeKnown : Table → Row → List Id → Row
-judgeKnown T r up = judgeFine (antichain T (r .update .preds) && validOp T up (r .update .op)) up r
+judgeKnown T r up = judgeFine (fineBy T up (r .update)) up r
 
 -- whether some predecessor is void, and whether all are held
 unfoldable pub judgeBy : Bool → Bool → Table → Row → Row
@@ -189,14 +193,18 @@ anchored p (Remove t named) = false
 anchored p (Insert a v) = p a
 anchored p (Delete i) = false
 
--- "Among siblings higher rank comes first, then the larger id.": what siblings are sorted by
+-- the rank, then the id
 abbrev pub rankKey : Row → List ℕ
 rankKey r = rank r ∷ r .id
+
+-- "Among siblings higher rank comes first, then the larger id.": what siblings are sorted by, read backwards
+abbrev pub siblingKey : Row → List ℕ
+siblingKey r = rankKey r
 
 -- the held Inserts whose anchor passes a test, higher rank first, then the larger id
 unfoldable pub siblings : Table → (Id → Bool) → Table
 siblings T p =
-    reverse (sort rankKey (keep (λ (r : Row). heldRow r && anchored p (r .update .op)) T))
+    reverse (sort siblingKey (keep (λ (r : Row). heldRow r && anchored p (r .update .op)) T))
 
 unfoldable pub under : Row → Id → Bool
 under e a = not (same a beginning) && same a (e .id)

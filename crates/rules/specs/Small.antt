@@ -19,7 +19,7 @@ use Rattle.keys.specs.Sort.{insert, sort}
 use Rattle.format.specs.Update.{Id, Operation, Add, Remove, Insert, Delete, Update, encode, encodeOperation}
 use Rattle.rules.specs.Standing.{beginning}
 use Rattle.rules.specs.Parts.{Parts}
-use Rattle.rules.specs.Settle.{isHeld, isWaiting, isVoid, isAdd, isInsert, heldIn, voidIn, addIn, insertIn, aboveIn, ancestorsOf, antichain, validOp, ruled, judgeFine, judgeKnown, judgeBy, judgeFrom, judge, round, rounds, start, startAll, settled, heldRow, covered, heads, forkedBy, marks, names, removed, tagsOf, tags, rank, anchored, siblings, under, walk, entries, deletes, deleted, valuesOf, list, partsIn, partsOf}
+use Rattle.rules.specs.Settle.{isHeld, isWaiting, isVoid, isAdd, isInsert, heldIn, voidIn, addIn, insertIn, aboveIn, ancestorsOf, antichain, validOp, fineBy, ruled, judgeFine, judgeKnown, judgeBy, judgeFrom, judge, round, rounds, start, startAll, settled, heldRow, covered, heads, forkedBy, marks, names, removed, tagsOf, tags, rank, anchored, siblings, under, walk, entries, deletes, deleted, valuesOf, list, partsIn, partsOf}
 
 -- an update with its stand-in id
 pub record Named : Type 0 where
@@ -315,7 +315,7 @@ abbrev pub table : List Small
 table = sixteen ++ further
 
 pub computed : map (λ (c : Small). partsOf (identOf c) (setOf c)) table ≡ map (λ (c : Small). c .gives) table
-unfolding sixteen further expect by nameIn encode encodeOperation same before member keep any all concatMap insert sort isHeld isWaiting isVoid isAdd isInsert heldIn voidIn addIn insertIn aboveIn ancestorsOf antichain validOp ruled judgeFine judgeKnown judgeBy judgeFrom judge round rounds start startAll settled heldRow covered heads forkedBy marks names removed tagsOf tags rank anchored siblings under walk entries deletes deleted valuesOf list partsIn partsOf a b a′ d e e′ r r′ c p q q′ i x m f g w z y i′ x′ v u k
+unfolding sixteen further expect by nameIn encode encodeOperation same before member keep any all concatMap insert sort isHeld isWaiting isVoid isAdd isInsert heldIn voidIn addIn insertIn aboveIn ancestorsOf antichain validOp fineBy ruled judgeFine judgeKnown judgeBy judgeFrom judge round rounds start startAll settled heldRow covered heads forkedBy marks names removed tagsOf tags rank anchored siblings under walk entries deletes deleted valuesOf list partsIn partsOf a b a′ d e e′ r r′ c p q q′ i x m f g w z y i′ x′ v u k
 computed = refl
 
 -- no id stands twice

@@ -7,7 +7,7 @@ use native.Mathlib.Omega.{arith}
 use mathlib.Core.Path.{_≡_, refl, _∙_, ap, subst}
 use mathlib.Core.Logic.{⊎-elim}
 use mathlib.Core.List.{List, [], _∷_, _++_, List·Memᴰ·head, List·Memᴰ·tail, List·Memᴰ·not-nil}
-use mathlib.Core.Bool.{Bool, true, false, cond, not}
+use mathlib.Core.Bool.{Bool, true, false, cond}
 use lib.ListN.{length, length-append, length-map}
 use lib.Dec.{ltb}
 use borrow.Author.Tests.{lt-ltb}
@@ -18,7 +18,7 @@ use Rattle.keys.specs.DistinctLaws.{distinct-length, distinct-subset-length}
 use Rattle.keys.specs.SortLaws.{sort-∈, sort-length, sort-distinct}
 use Rattle.format.specs.Update.{Id, idLength, tagLength, maxAuthor, Operation, Add, Remove, Insert, Delete, BoundedOperation, add, remove, insert, delete, Update, Bounded}
 use Rattle.keys.specs.ListLaws.{concatMap-length, keep-concatMap-length}
-use Rattle.rules.specs.Settle.{Row, Table, Verdict, held, waiting, void, isHeld, isWaiting, isVoid, isInsert, heads, marks, tagsOf, tags, entries, deleted, valuesOf, list, updatesIn, partsIn}
+use Rattle.rules.specs.Settle.{Row, Table, Verdict, held, waiting, void, isHeld, isWaiting, isVoid, isInsert, heads, marks, tagsOf, tags, entries, valuesOf, list, updatesIn, partsIn}
 use Rattle.rules.specs.Report.{codes, ascii, digit, hexByte, hex, decimalIn, decimal, updateLine, bytesLine, idLine, markLine, part, reportText}
 
 -- lines
@@ -231,7 +231,7 @@ module _ (ident : Update → Id) (id-sized : (u : Update) → length (ident u) �
   list-few : length (list T) ≤ length (keep insertRow T)
   unfolding list insertRow
   list-few =
-      let h = keep-concatMap-length (λ (r : Row). valuesOf (r .update .op)) (λ r. not (deleted T (r .id))) (entries T) in
+      let h : length (list T) ≤ length (concatMap (λ (r : Row). valuesOf (r .update .op)) (entries T)) = keep-concatMap-length (λ (r : Row). valuesOf (r .update .op)) _ (entries T) in
       let k = concatMap-length (λ (r : Row). valuesOf (r .update .op)) 1 (entries T) (λ r m. values-few (r .update .op)) in
       let d = distinct-subset-length (sized .entry-once) (keep insertRow T) (λ r m. ∈-keep insertRow (sized .entry-row r m) (sized .entry-insert r m)) in
       omega arith
