@@ -1,4 +1,4 @@
--- Demand 2 of offers: after any offers to a fresh ledger the entries say what the rules give for the updates stored.
+-- Demand 2, its first half: after any offers to a fresh ledger the entries say what the rules give for the updates stored.
 -- Assumes nothing.
 use mathlib.Core.Path.{_≡_, refl, _∙_}
 use Prim.Native.Nat.{ℕ}
@@ -30,8 +30,9 @@ pub record LaidOut (us : List Update) (text : List ℕ) : Type 0 where
   pub read : ReadFrom ident us parts
   pub laid-out : text ≡ reportText ident parts
 
--- what the entries say of a ledger and its store is what the rules give for the updates
-pub record SaysOf (us : List Update) (l : Ledger) (s : List ℕ) : Type 0 where
+-- What the entries say of a ledger and its store is what the rules give for the updates: the standing of every id, the bytes of a report, and the answer to a
+-- further offer.
+pub record AsRuled (us : List Update) (l : Ledger) (s : List ℕ) : Type 0 where
   pub standing : AnswersFor l s us
   pub reported : {o o′ : List ℕ} {n : ℕ} → Reporting l s o (Written n) o′ → LaidOut us (take n o′)
   pub answered : (b : List ℕ) {r : Offered} {s′ : List ℕ} → Offering l s b r s′ → answerText (r .answer) ≡ offerText us (decode b)
@@ -45,14 +46,15 @@ report-shown {o = o} us h (written text e t k) n q =
     let p : length text ≡ n = cc in
     rw (← p) (take-append-seam text (drop (length text) o) ∙ t .of-rules us h)
 
-pub stands-says : {l : Ledger} {s : List ℕ} (us : List Update) → Stands l s us → SaysOf us l s
+pub stands-ruled : {l : Ledger} {s : List ℕ} (us : List Update) → Stands l s us → AsRuled us l s
 unfolding reportOf
-stands-says {l} {s} us h =
+stands-ruled {l} {s} us h =
     record {
       standing = stands-answers l s us h;
       reported = λ {o} {o′} {n} r. record { parts = partsOf ident us; read = read-right ident us (h .holds .distinct); laid-out = report-shown us h r n refl };
       answered = λ b o. answer-right l s us h b o;
     }
 
-pub after-offers : {l : Ledger} {s s′ : List ℕ} {bs : List (List ℕ)} → length s ≡ storeLength → Calls freshLedger s bs l s′ → SaysOf (stored bs) l s′
-after-offers {bs = bs} h c = stands-says (stored bs) (offers-stand h c)
+-- Demand 2 of offers, with any first contents of the store
+pub after-offers : {l : Ledger} {s s′ : List ℕ} {bs : List (List ℕ)} → length s ≡ storeLength → Calls freshLedger s bs l s′ → AsRuled (stored bs) l s′
+after-offers {bs = bs} h c = stands-ruled (stored bs) (offers-stand h c)
