@@ -1,4 +1,4 @@
--- A set of places as one 64-bit word: "an ancestor set is one 64-bit word, bit k for place k".
+-- A set of places as a number, of any size: bit k for place k. Where there are 64 places "an ancestor set is one 64-bit word".
 -- Assumes nothing.
 use Prim.Native.Nat.{ℕ, _/_, _%_, _^_}
 use mathlib.Core.Bool.{Bool, cond}
@@ -14,9 +14,13 @@ wordBits = 64
 unfoldable pub has : ℕ → ℕ → Bool
 has w k = eqb (w / 2 ^ k % 2) 1
 
--- the set w with the place k, where the word has room for it
+-- the set w with the place k
 unfoldable pub including : ℕ → ℕ → ℕ
-including w k = cond (ltb k wordBits) (bitOr w (2 ^ k)) w
+including w k = bitOr w (2 ^ k)
+
+-- the set w with the place k, if that is below n; else w
+unfoldable pub includingBelow : ℕ → ℕ → ℕ → ℕ
+includingBelow n w k = cond (ltb k n) (including w k) w
 
 -- what is in v or in w; in both
 unfoldable pub join : ℕ → ℕ → ℕ

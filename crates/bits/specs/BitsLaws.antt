@@ -16,7 +16,7 @@ use borrow.Author.Tests.{eqb-true, eq-eqb, ne-eqb, lt-ltb, le-ltb, ltb-true, ltb
 use Rattle.keys.specs.BoolLaws.{bool-cases, true-false}
 use Rattle.bits.specs.Below.{countBelow}
 use Rattle.bits.specs.BelowLaws.{countBelow-cong, countBelow-lt}
-use Rattle.bits.specs.Bits.{wordBits, has, including, join, meet, within, count}
+use Rattle.bits.specs.Bits.{has, including, includingBelow, join, meet, within, count}
 
 -- a binary digit is 0 or 1
 digit : (P : ℕ → Type 0) → P 0 → P 1 → (n : ℕ) → P (n % 2)
@@ -92,17 +92,18 @@ has-single k j =
         ∙ ap (λ (m : ℕ). eqb m 1) (mul-mod-left (2 ^ d) 2)
         ∙ sym (ne-eqb j k (λ (q : j ≡ k). omega arith))
 
--- a place below 64 is added; one at or above 64 is not
-pub including-in : (w k : ℕ) → k < wordBits → including w k ≡ join w (2 ^ k)
+-- a place is added, where there are n places, if it is below n
+pub included : (n w k : ℕ) → k < n → includingBelow n w k ≡ including w k
+unfolding includingBelow
+included n w k h = ap (λ (b : Bool). cond b (including w k) w) (lt-ltb k n h)
+
+pub not-included : (n w k : ℕ) → n ≤ k → includingBelow n w k ≡ w
+unfolding includingBelow
+not-included n w k h = ap (λ (b : Bool). cond b (including w k) w) (le-ltb k n h)
+
+pub has-including : (w k j : ℕ) → has (including w k) j ≡ (has w j || eqb j k)
 unfolding including join
-including-in w k h = ap (λ (b : Bool). cond b (bitOr w (2 ^ k)) w) (lt-ltb k 64 h)
-
-pub including-out : (w k : ℕ) → wordBits ≤ k → including w k ≡ w
-unfolding including
-including-out w k h = ap (λ (b : Bool). cond b (bitOr w (2 ^ k)) w) (le-ltb k 64 h)
-
-pub has-including : (w k j : ℕ) → k < wordBits → has (including w k) j ≡ (has w j || eqb j k)
-has-including w k j h = ap (λ (m : ℕ). has m j) (including-in w k h) ∙ has-join w (2 ^ k) j ∙ ap (λ (b : Bool). has w j || b) (has-single k j)
+has-including w k j = has-join w (2 ^ k) j ∙ ap (λ (b : Bool). has w j || b) (has-single k j)
 
 -- two words of n digits with the same places are equal
 has-low : (w : ℕ) → has w 0 ≡ eqb (w % 2) 1
@@ -122,29 +123,26 @@ low-ext v w =
 half-lt : {w : ℕ} (n : ℕ) → w < 2 ^ suc n → w / 2 < 2 ^ n
 half-lt {w} n h = shr-lt n 1 (subst (λ (m : ℕ). w < 2 ^ m) (sym (add-one n)) h)
 
-ext : (n : ℕ) {v w : ℕ} → v < 2 ^ n → w < 2 ^ n → ((k : ℕ) → k < n → has v k ≡ has w k) → v ≡ w
-ext zero a b f = lt-one a ∙ sym (lt-one b)
-ext (suc n) {v} {w} a b f =
+pub has-ext : (n : ℕ) {v w : ℕ} → v < 2 ^ n → w < 2 ^ n → ((k : ℕ) → k < n → has v k ≡ has w k) → v ≡ w
+has-ext zero a b f = lt-one a ∙ sym (lt-one b)
+has-ext (suc n) {v} {w} a b f =
     sym (div-add-mod' v 2)
     ∙ ap₂ (λ (x y : ℕ). x * 2 + y)
-    (ext n (half-lt n a) (half-lt n b) (λ k h. has-half v k ∙ f (suc k) (omega arith) ∙ sym (has-half w k)))
+    (has-ext n (half-lt n a) (half-lt n b) (λ k h. has-half v k ∙ f (suc k) (omega arith) ∙ sym (has-half w k)))
     (low-ext v w (sym (has-low v) ∙ f 0 (omega arith) ∙ has-low w))
     ∙ div-add-mod' w 2
 
-pub has-ext : {v w : ℕ} → v < 2 ^ 64 → w < 2 ^ 64 → ((k : ℕ) → k < 64 → has v k ≡ has w k) → v ≡ w
-has-ext = ext 64
-
--- a meet is a word
-pub meet-lt : {v : ℕ} (w : ℕ) → v < 2 ^ 64 → meet v w < 2 ^ 64
+-- a meet has no more digits
+pub meet-lt : (n : ℕ) {v : ℕ} (w : ℕ) → v < 2 ^ n → meet v w < 2 ^ n
 unfolding meet
-meet-lt {v} w h = lt-of-le-of-lt (and-le-l v w) h
+meet-lt n {v} w h = lt-of-le-of-lt (and-le-l v w) h
 
 -- disjoint sets
 pub meet-none→ : (v w : ℕ) → meet v w ≡ 0 → (k : ℕ) → has v k ≡ true → has w k ≡ false
 meet-none→ v w e k h = ap (λ (b : Bool). b && has w k) (sym h) ∙ sym (has-meet v w k) ∙ ap (λ (m : ℕ). has m k) e ∙ has-none k
 
-pub meet-none← : {v : ℕ} (w : ℕ) → v < 2 ^ 64 → ((k : ℕ) → k < 64 → has v k ≡ true → has w k ≡ false) → meet v w ≡ 0
-meet-none← {v} w h f = has-ext (meet-lt w h) (pow-pos 64) (λ k l. has-meet v w k ∙ both (has v k) (f k l) ∙ sym (has-none k))
+pub meet-none← : (n : ℕ) {v : ℕ} (w : ℕ) → v < 2 ^ n → ((k : ℕ) → k < n → has v k ≡ true → has w k ≡ false) → meet v w ≡ 0
+meet-none← n {v} w h f = has-ext n (meet-lt n w h) (pow-pos n) (λ k l. has-meet v w k ∙ both (has v k) (f k l) ∙ sym (has-none k))
   where
     both : (a : Bool) {b : Bool} → (a ≡ true → b ≡ false) → (a && b) ≡ false
     both true g = g refl
@@ -166,10 +164,6 @@ within→ w n e k l = has-beyond (within→lt w n e) l
 pub within-more : (w n m : ℕ) → n ≤ m → within w n ≡ true → within w m ≡ true
 within-more w n m l e = lt→within m (lt-of-lt-of-le (within→lt w n e) (pow-mono l))
 
--- a word is within any n that is at least 64
-pub within-word : {w : ℕ} (n : ℕ) → w < 2 ^ 64 → 64 ≤ n → within w n ≡ true
-within-word n h l = lt→within n (lt-of-lt-of-le h (pow-mono l))
-
 pub within-none : (n : ℕ) → within 0 n ≡ true
 within-none n = lt→within n (pow-pos n)
 
@@ -178,11 +172,8 @@ unfolding join
 within-join v w n a b = lt→within n (or-lt n v w (within→lt v n a) (within→lt w n b))
 
 pub within-including : (w n k : ℕ) → k < n → within w n ≡ true → within (including w k) n ≡ true
-within-including w n k l e =
-    ⊎-elim
-    (λ (g : k < 64). ap (λ (m : ℕ). within m n) (including-in w k g) ∙ within-join w (2 ^ k) n e (lt→within n (pow-lt l)))
-    (λ (g : 64 ≤ k). ap (λ (m : ℕ). within m n) (including-out w k g) ∙ e)
-    (lt-or-le k 64)
+unfolding including join
+within-including w n k l e = within-join w (2 ^ k) n e (lt→within n (pow-lt l))
 
 -- count
 top-digit : (a c : ℕ) → a < 2 → ones a + c ≡ cond (eqb (a % 2) 1) (c + 1) c
@@ -191,7 +182,8 @@ top-digit zero c h = zero-add c
 top-digit (suc zero) c h = add-comm 1 c
 top-digit (suc (suc a)) c h = absurd (omega arith)
 
-count-below : (n : ℕ) {w : ℕ} → w < 2 ^ n → count w ≡ countBelow n (has w)
+-- the places below n are counted, for a set that has no other
+pub count-below : (n : ℕ) {w : ℕ} → w < 2 ^ n → count w ≡ countBelow n (has w)
 unfolding count countBelow has ones onesIn
 count-below zero h = ap ones (lt-one h)
 count-below (suc n) {w} h =
@@ -202,11 +194,8 @@ count-below (suc n) {w} h =
 pub count-within : (w n : ℕ) → within w n ≡ true → count w ≡ countBelow n (has w)
 count-within w n e = count-below n (within→lt w n e)
 
-pub count-has : {w : ℕ} → w < 2 ^ 64 → count w ≡ countBelow 64 (has w)
-count-has = count-below 64
-
 -- a proper subset has fewer places
-pub count-lt : {v w : ℕ} → v < 2 ^ 64 → w < 2 ^ 64 → ((k : ℕ) → k < 64 → has v k ≡ true → has w k ≡ true)
+pub count-lt : (n : ℕ) {v w : ℕ} → v < 2 ^ n → w < 2 ^ n → ((k : ℕ) → k < n → has v k ≡ true → has w k ≡ true)
     → (k : ℕ) → has v k ≡ false → has w k ≡ true → count v < count w
-count-lt {v} {w} a b f k c d =
-    omega (arith, count-has a, count-has b, countBelow-lt 64 (has v) (has w) f k (lt-of-not-le (λ (g : 64 ≤ k). true-false d (has-beyond b g))) c d)
+count-lt n {v} {w} a b f k c d =
+    omega (arith, count-below n a, count-below n b, countBelow-lt n (has v) (has w) f k (lt-of-not-le (λ (g : n ≤ k). true-false d (has-beyond b g))) c d)

@@ -1,6 +1,6 @@
 // A set of places as one 64-bit word, bit k for place k.
 ghost use mathlib.Core.Path.{_≡_};
-ghost use Rattle.bits.specs.Bits.{has as hasPlace, including as includingPlace, join as joined, meet as met, within as withinPlaces, count as counted};
+ghost use Rattle.bits.specs.Bits.{wordBits, has as hasPlace, includingBelow, join as joined, meet as met, within as withinPlaces, count as counted};
 
 // Whether place k is in the set.
 pub fn has(w: u64, k: usize) -> bool
@@ -11,7 +11,7 @@ pub fn has(w: u64, k: usize) -> bool
 
 // The set with place k added; unchanged where a word has no room for it.
 pub fn including(w: u64, k: usize) -> u64
-    ensures { λ r. ⌜ r ≡ includingPlace w k ⌝ }
+    ensures { λ r. ⌜ r ≡ includingBelow wordBits w k ⌝ }
 {
     if k < 64 { w | (1 << k) } else { w }
 }

@@ -9,6 +9,7 @@ use Rattle.keys.specs.Order.{same}
 use Rattle.refusals.specs.declared.Refusal.{Refusal}
 use Rattle.ledger.specs.declared.Reported.{Reported}
 use Rattle.ledger.specs.declared.Reported.the-variants.{Written, Refused as NotReported}
+use Rattle.state.specs.View.{bookOf}
 use Rattle.ledger.specs.Report.{Reporting}
 use Rattle.copies.specs.declared.Compared.{Compared}
 use Rattle.copies.specs.declared.Compared.the-variants.{Same, Different, Refused}
@@ -16,8 +17,8 @@ use Rattle.copies.specs.LengthLaws.{report-within, written-length}
 use Rattle.copies.specs.Check.{OneCopy, comparedOf, SecondChecking, refused, compared, Checking, first-refused, checking}
 
 module _ {s s′ o o′ : List ℕ} {bs : List (List ℕ)} {r : Reported} (c : OneCopy bs s o r s′ o′) where
-  answered : {x : Reported} → r ≡ x → Reporting (c .ledger) s′ o x o′
-  answered q = subst (λ (x : Reported). Reporting (c .ledger) s′ o x o′) q (c .reports)
+  answered : {x : Reported} → r ≡ x → Reporting (bookOf (c .ledger)) s′ o x o′
+  answered q = subst (λ (x : Reported). Reporting (bookOf (c .ledger)) s′ o x o′) q (c .reports)
 
   -- a report that is written lies within the buffer
   pub copy-within : {n : ℕ} → r ≡ Written n → n ≤ length o′

@@ -7,7 +7,8 @@ use mathlib.Core.List.{List}
 use lib.ListN.{length, take, drop, length-append}
 use lib.Seq.{length-take-le}
 use Rattle.state.specs.declared.Ledger.{Ledger}
-use Rattle.state.specs.State.{storeLength}
+use Rattle.state.specs.State.{storeLength, Book}
+use Rattle.state.specs.View.{bookOf}
 use Rattle.state.specs.Row1Laws.{sound→}
 use Rattle.offering.specs.declared.Offered.{Offered}
 use Rattle.ledger.specs.declared.Reported.{Reported}
@@ -21,27 +22,27 @@ offer-length (unfit e) = refl
 offer-length (malformed m e d) = refl
 offer-length (known u k e d f) = refl
 offer-length (full u e d f n) = refl
-offer-length {l = l} {s = s} (taken u r e d f n t) = sound→ r _ (t .still-sound) .store ∙ sym (sound→ l s e .store)
+offer-length {l = l} {s = s} (taken u r e d f n t) = sound→ (bookOf r) _ (t .still-sound) .store ∙ sym (sound→ (bookOf l) s e .store)
 
 pub calls-length : {l l′ : Ledger} {s s′ : List ℕ} {bs : List (List ℕ)} → Calls l s bs l′ s′ → length s′ ≡ length s
 calls-length done = refl
 calls-length (call o c) = calls-length c ∙ offer-length o
 
-report-store : {l : Ledger} {s o o′ : List ℕ} {r : Reported} → Reporting l s o r o′ → (n : ℕ) → r ≡ Written n → length s ≡ storeLength
+report-store : {l : Book} {s o o′ : List ℕ} {r : Reported} → Reporting l s o r o′ → (n : ℕ) → r ≡ Written n → length s ≡ storeLength
 report-store (not-fit e) n q = let z : _≡_ {A = ℕ} 0 1 = cc in absurd (omega arith)
 report-store (short text e t k) n q = let z : _≡_ {A = ℕ} 0 1 = cc in absurd (omega arith)
 report-store {l = l} {s = s} (written text e t k) n q = sound→ l s e .store
 
 -- so the first store had it too
-pub reported-store : {l l′ : Ledger} {s s′ o o′ : List ℕ} {bs : List (List ℕ)} {n : ℕ} → Calls l s bs l′ s′ → Reporting l′ s′ o (Written n) o′
+pub reported-store : {l l′ : Ledger} {s s′ o o′ : List ℕ} {bs : List (List ℕ)} {n : ℕ} → Calls l s bs l′ s′ → Reporting (bookOf l′) s′ o (Written n) o′
     → length s ≡ storeLength
 reported-store {n = n} c r = sym (calls-length c) ∙ report-store r n refl
 
 -- a report that is written lies within the buffer
-pub report-within : {l : Ledger} {s o o′ : List ℕ} {r : Reported} → Reporting l s o r o′ → (n : ℕ) → r ≡ Written n → n ≤ length o′
+pub report-within : {l : Book} {s o o′ : List ℕ} {r : Reported} → Reporting l s o r o′ → (n : ℕ) → r ≡ Written n → n ≤ length o′
 report-within (not-fit e) n q = let z : _≡_ {A = ℕ} 0 1 = cc in absurd (omega arith)
 report-within (short text e t k) n q = let z : _≡_ {A = ℕ} 0 1 = cc in absurd (omega arith)
 report-within {o = o} (written text e t k) n q = let p : length text ≡ n = cc in omega (arith, p, length-append text (drop (length text) o))
 
-pub written-length : {l : Ledger} {s o o′ : List ℕ} {r : Reported} → Reporting l s o r o′ → (n : ℕ) → r ≡ Written n → length (take n o′) ≡ n
+pub written-length : {l : Book} {s o o′ : List ℕ} {r : Reported} → Reporting l s o r o′ → (n : ℕ) → r ≡ Written n → length (take n o′) ≡ n
 written-length {o′ = o′} h n q = length-take-le n o′ (report-within h n q)

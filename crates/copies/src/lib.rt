@@ -1,6 +1,6 @@
 // Two copies of the ledger side by side.
 ghost use mathlib.Core.List.{map};
-ghost use Rattle.state.specs.State.{freshLedger};
+ghost use Rattle.state.specs.View.{freshLedger};
 ghost use Rattle.ledger.specs.Calls.{Calls};
 ghost use Rattle.copies.specs.Check.{OneCopy, Checking, SecondChecking};
 use ledger::Ledger;

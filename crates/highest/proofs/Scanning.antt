@@ -12,17 +12,16 @@ use lib.Dec.{ltb, eqb}
 use Rattle.keys.specs.Order.{before}
 use Rattle.fields.specs.Fields.{authorIn}
 use Rattle.bits.specs.Bits.{count}
-use Rattle.state.specs.declared.Ledger.{Ledger}
 use Rattle.state.specs.declared.Found.{Found}
 use Rattle.state.specs.declared.Found.the-variants.{At, Nowhere}
 use Rattle.state.specs.declared.Standing.{Standing}
 use Rattle.state.specs.declared.Standing.the-variants.{Held, Waiting, Void}
-use Rattle.state.specs.State.{placeAt, foundOf, isHeld}
+use Rattle.state.specs.State.{Book, placeAt, foundOf, isHeld}
 use Rattle.relations.specs.PlaceTests.{idAt, decodedAt, heldAt, authorAt, rankAt}
 use Rattle.highest.specs.Top.{ownAt, higher, betterThan, topBelow}
 
 -- the author's own held places
-module _ (l : Ledger) (s : List ℕ) (a k : ℕ) where
+module _ (l : Book) (s : List ℕ) (a k : ℕ) where
   own-by : (v : Standing) → placeAt l k .standing ≡ v → ownAt l s a k ≡ (isHeld v && eqb (authorAt l s k) a)
   unfolding ownAt heldAt
   own-by v e = ap (λ (w : Standing). isHeld w && eqb (authorAt l s k) a) e
@@ -41,11 +40,11 @@ module _ (l : Ledger) (s : List ℕ) (a k : ℕ) where
 
 -- rank, then id
 
-pub rank-is : (l : Ledger) (s : List ℕ) (k : ℕ) {m : ℕ} → m ≡ count (placeAt l k .ancestors) → m ≡ rankAt l s k
+pub rank-is : (l : Book) (s : List ℕ) (k : ℕ) {m : ℕ} → m ≡ count (placeAt l k .ancestors) → m ≡ rankAt l s k
 unfolding rankAt
 rank-is l s k f = f
 
-module _ (l : Ledger) (s : List ℕ) (k j : ℕ) {m n : ℕ} (own : m ≡ rankAt l s k) (other : n ≡ rankAt l s j) where
+module _ (l : Book) (s : List ℕ) (k j : ℕ) {m n : ℕ} (own : m ≡ rankAt l s k) (other : n ≡ rankAt l s j) where
   higher-by : {b c : Bool} → ltb n m ≡ b → eqb n m ≡ c → higher l s k j ≡ (b || (c && before (idAt l s j) (idAt l s k)))
   unfolding higher
   higher-by e f =
@@ -61,7 +60,7 @@ module _ (l : Ledger) (s : List ℕ) (k j : ℕ) {m n : ℕ} (own : m ≡ rankAt
   higher-not g e = sym (higher-by (le-ltb n m g) (ne-eqb n m e))
 
 -- the author's highest
-module _ (l : Ledger) (s : List ℕ) (a : ℕ) where
+module _ (l : Book) (s : List ℕ) (a : ℕ) where
   abbrev topAt : ℕ → Option ℕ
   topAt k = topBelow l s a k
 

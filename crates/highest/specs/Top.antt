@@ -7,10 +7,10 @@ use mathlib.Core.Option.{Option, none, some}
 use mathlib.Core.Bool.{Bool, true, cond, _&&_, _||_}
 use lib.Dec.{ltb, eqb}
 use Rattle.keys.specs.Order.{before}
-use Rattle.state.specs.declared.Ledger.{Ledger}
 use Rattle.relations.specs.PlaceTests.{idAt, heldAt, authorAt, rankAt}
+use Rattle.state.specs.State.{Book}
 
-module _ (l : Ledger) (s : List ℕ) where
+module _ (l : Book) (s : List ℕ) where
   -- the held place k is the author's
   unfoldable pub ownAt : ℕ → ℕ → Bool
   ownAt a k = heldAt l s k && eqb (authorAt l s k) a

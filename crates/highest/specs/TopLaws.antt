@@ -29,15 +29,14 @@ use Rattle.bits.specs.Below.{upTo}
 use Rattle.bits.specs.BelowLaws.{upTo-∈, ∈-upTo, countBelow-length}
 use Rattle.bits.specs.Bits.{has}
 use Rattle.bits.specs.BitsLaws.{count-within}
-use Rattle.state.specs.declared.Ledger.{Ledger}
-use Rattle.state.specs.State.{placeAt}
+use Rattle.state.specs.State.{Book, placeAt}
 use Rattle.state.specs.Stands.{ident, Stands}
 use Rattle.relations.specs.PlaceTests.{idAt, heldAt, authorAt, rankAt, order}
 use Rattle.relations.specs.PlaceLaws.{from-used, to-used, places-distinct}
 use Rattle.relations.specs.RowLaws.{rowAt, row-id, order-∈, ∈-order, table-rows, held-agrees, author-agrees, above-agrees}
 use Rattle.highest.specs.Top.{ownAt, higher, betterThan, topBelow}
 
-module _ (l : Ledger) (s : List ℕ) where
+module _ (l : Book) (s : List ℕ) where
   -- what places are compared by
   abbrev keyAt : ℕ → List ℕ
   keyAt k = rankAt l s k ∷ idAt l s k
@@ -87,7 +86,7 @@ module _ (l : Ledger) (s : List ℕ) where
         λ k h o. ⊎-elim (λ (p : k ≡ n). absurd (true-false (sym (ap (ownAt l s a) p) ∙ o) e)) (λ (i : k < n). t .2 k i o) (last h),
       )
 
-module _ {l : Ledger} {s : List ℕ} {us : List Update} (stands : Stands l s us) where
+module _ {l : Book} {s : List ℕ} {us : List Update} (stands : Stands l s us) where
   abbrev T : Table
   T = settled ident us
 

@@ -3,6 +3,7 @@ ghost use mathlib.Core.Path.{_≡_};
 ghost use Prim.Native.Nat.{_+_, _≤_, _<_};
 ghost use Rattle.keys.specs.Order.{before};
 ghost use Rattle.state.specs.State.{placeAt, foundOf};
+ghost use Rattle.state.specs.View.{bookOf};
 ghost use Rattle.highest.specs.Top.{ownAt, higher, betterThan, topBelow};
 use keys::Order;
 use state::Found;
@@ -14,7 +15,7 @@ use survey::compare_ids;
 // Whether place k is held and the author's.
 fn is_own(l: Ledger, store: &[u8], author: u8, k: usize) -> bool
     requires { ⌜ k < 64 ⌝ }
-    ensures { λ r. ⌜ r ≡ ownAt l (now (store .entry)) author k ⌝ }
+    ensures { λ r. ⌜ r ≡ ownAt (bookOf l) (now (store .entry)) author k ⌝ }
 {
     let p = l.places[k];
     let standing = p.standing;
@@ -28,7 +29,7 @@ fn is_own(l: Ledger, store: &[u8], author: u8, k: usize) -> bool
 // Whether the id of place j comes before that of place k.
 fn comes_before(l: Ledger, j: usize, k: usize) -> bool
     requires { ⌜ (j < 64) × (k < 64) ⌝ }
-    ensures { λ r. ⌜ r ≡ before (placeAt l j .id) (placeAt l k .id) ⌝ }
+    ensures { λ r. ⌜ r ≡ before (placeAt (bookOf l) j .id) (placeAt (bookOf l) k .id) ⌝ }
 {
     match compare_ids(l.places[j], l.places[k]) {
         Order::Less => true,
@@ -40,7 +41,7 @@ fn comes_before(l: Ledger, j: usize, k: usize) -> bool
 // Whether place k is of higher rank than place j, or of the same and of larger id.
 fn is_higher(l: Ledger, store: &[u8], k: usize, j: usize) -> bool
     requires { ⌜ (k < 64) × (j < 64) ⌝ }
-    ensures { λ r. ⌜ r ≡ higher l (now (store .entry)) k j ⌝ }
+    ensures { λ r. ⌜ r ≡ higher (bookOf l) (now (store .entry)) k j ⌝ }
 {
     let p = l.places[k];
     let q = l.places[j];
@@ -58,8 +59,8 @@ fn is_higher(l: Ledger, store: &[u8], k: usize, j: usize) -> bool
 
 // Whether place k is higher than the author's highest below it.
 fn exceeds(l: Ledger, store: &[u8], author: u8, top: Found, k: usize) -> bool
-    requires { ⌜ (l .used ≤ 64) × (k < l .used) × (top ≡ foundOf (topBelow l (now store) author k)) ⌝ }
-    ensures { λ r. ⌜ r ≡ betterThan l (now (store .entry)) (topBelow l (now (store .entry)) author k) k ⌝ }
+    requires { ⌜ (bookOf l .used ≤ 64) × (k < bookOf l .used) × (top ≡ foundOf (topBelow (bookOf l) (now store) author k)) ⌝ }
+    ensures { λ r. ⌜ r ≡ betterThan (bookOf l) (now (store .entry)) (topBelow (bookOf l) (now (store .entry)) author k) k ⌝ }
 {
     match top {
         Found::At(j) => is_higher(l, store, k, j),
@@ -69,8 +70,8 @@ fn exceeds(l: Ledger, store: &[u8], author: u8, top: Found, k: usize) -> bool
 
 // The author's highest with place k.
 fn top_with(l: Ledger, store: &[u8], author: u8, top: Found, k: usize) -> Found
-    requires { ⌜ (l .used ≤ 64) × (k < l .used) × (top ≡ foundOf (topBelow l (now store) author k)) ⌝ }
-    ensures { λ r. ⌜ r ≡ foundOf (topBelow l (now (store .entry)) author (k + 1)) ⌝ }
+    requires { ⌜ (bookOf l .used ≤ 64) × (k < bookOf l .used) × (top ≡ foundOf (topBelow (bookOf l) (now store) author k)) ⌝ }
+    ensures { λ r. ⌜ r ≡ foundOf (topBelow (bookOf l) (now (store .entry)) author (k + 1)) ⌝ }
 {
     if !is_own(l, store, author, k) {
         return top;
@@ -84,8 +85,8 @@ fn top_with(l: Ledger, store: &[u8], author: u8, top: Found, k: usize) -> Found
 
 // The author's held place of highest rank (on a tie, larger id).
 pub fn top(l: Ledger, store: &[u8], author: u8) -> Found
-    requires { ⌜ l .used ≤ 64 ⌝ }
-    ensures { λ r. ⌜ r ≡ foundOf (topBelow l (now (store .entry)) author (l .used)) ⌝ }
+    requires { ⌜ bookOf l .used ≤ 64 ⌝ }
+    ensures { λ r. ⌜ r ≡ foundOf (topBelow (bookOf l) (now (store .entry)) author (bookOf l .used)) ⌝ }
 {
     let used = l.used;
     let mut highest = Found::Nowhere;

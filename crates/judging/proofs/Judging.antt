@@ -22,17 +22,15 @@ use Rattle.rules.specs.Standing.{beginning}
 use Rattle.rules.specs.Settle.{isAdd, isInsert}
 use Rattle.fields.specs.Fields.{testOf}
 use Rattle.bits.specs.Bits.{has, including, join, meet}
-use Rattle.state.specs.declared.Ledger.{Ledger}
-use Rattle.state.specs.declared.Place.{Place}
 use Rattle.judging.specs.declared.Gathered.{Gathered}
 use Rattle.state.specs.declared.Standing.{Standing}
 use Rattle.state.specs.declared.Standing.the-variants.{Held, Waiting, Void}
 use Rattle.judging.specs.declared.Judgement.the-variants.{Holds, Fails, Waits}
-use Rattle.state.specs.State.{placeAt, storedAt, findIn}
+use Rattle.state.specs.State.{Place, Book, placeAt, storedAt, findIn}
 use Rattle.judging.specs.Judge.{gatherBy, gatherAt, namesAt, names, valid, nothingGathered, gather, judgeReady, judgeGathered, judgeDecoded, judge}
 
 -- what is gathered with the predecessor p at place j, by its standing
-module _ (p : Place) (g : Gathered) (j : ℕ) (l : Ledger) (at : placeAt l j ≡ p) where
+module _ (p : Place) (g : Gathered) (j : ℕ) (l : Book) (at : placeAt l j ≡ p) where
   by-standing : (v : Standing) → p .standing ≡ v → gatherBy l g j v ≡ gatherAt l g (some j)
   by-standing v e = ap (gatherBy l g j) (sym (ap (λ (q : Place). q .standing) at ∙ e))
 
@@ -52,7 +50,7 @@ module _ (p : Place) (g : Gathered) (j : ℕ) (l : Ledger) (at : placeAt l j ≡
   by-void = by-standing Void
 
 -- the judgement of bytes, by what reading them answered
-module _ (l : Ledger) (s b : List ℕ) (r : Reading) (read : decodedOf b r ≡ decode b) where
+module _ (l : Book) (s b : List ℕ) (r : Reading) (read : decodedOf b r ≡ decode b) where
   pub judge-update : (u : Parsed) → r ≡ Accepted u
       → judgeGathered l s (valueOf b u .op) (gather l nothingGathered (valueOf b u .preds)) ≡ judgeDecoded l s (decode b)
   unfolding judgeDecoded
@@ -63,13 +61,13 @@ module _ (l : Ledger) (s b : List ℕ) (r : Reading) (read : decodedOf b r ≡ d
   judge-refused m e = ap (judgeDecoded l s) (ap (decodedOf b) (sym e) ∙ read)
 
 -- the judgement of the bytes of a place
-pub judge-stored : (l : Ledger) (s : List ℕ) (j : ℕ) (b : List ℕ) → b ≡ storedAt l s j
+pub judge-stored : (l : Book) (s : List ℕ) (j : ℕ) (b : List ℕ) → b ≡ storedAt l s j
     → judgeDecoded l s (decode b) ≡ judge l s j
 unfolding judge
 judge-stored l s j b stored = ap (λ (x : List ℕ). judgeDecoded l s (decode x)) stored
 
 -- an id that names a place in the set `up`
-module _ (l : Ledger) (s : List ℕ) (p : U.Operation → Bool) (up : ℕ) (i : Id) where
+module _ (l : Book) (s : List ℕ) (p : U.Operation → Bool) (up : ℕ) (i : Id) where
   pub names-in : (j : ℕ) → findIn l i ≡ some j → has up j ≡ true → (b : List ℕ) → b ≡ storedAt l s j → testOf p (decode b) ≡ names l s p up i
   unfolding names namesAt
   names-in j e h b f = rw (e, h, f)
@@ -88,7 +86,7 @@ module _ (l : Ledger) (s : List ℕ) (p : U.Operation → Bool) (up : ℕ) (i : 
   names-nowhere e = no-bytes ∙ rw e
 
 -- the operation o, laid out in b, by its kind
-module _ (l : Ledger) (s : List ℕ) (up : ℕ) (b : List ℕ) (o : Operation) where
+module _ (l : Book) (s : List ℕ) (up : ℕ) (b : List ℕ) (o : Operation) where
   abbrev judged : Operation → Bool
   judged x = valid l s up (operationAt b x)
 
@@ -117,7 +115,7 @@ module _ (l : Ledger) (s : List ℕ) (up : ℕ) (b : List ℕ) (o : Operation) w
     valid-insert h = sym (at-anchor ∙ ap (λ (y : Bool). y || names l s isInsert up x) h)
 
 -- the judgement by the predecessors' places and ancestors
-module _ (l : Ledger) (s : List ℕ) (o : U.Operation) where
+module _ (l : Book) (s : List ℕ) (o : U.Operation) where
   module _ (direct above : ℕ) where
     pub ready-above : (meet direct above ≡ 0 → ⊥) → Fails ≡ judgeReady l s o direct above
     unfolding judgeReady

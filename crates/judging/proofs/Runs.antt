@@ -11,9 +11,8 @@ use Rattle.keys.specs.Member.{all}
 use Rattle.format.specs.Update.{Id, idLength}
 use Rattle.format.specs.Decode.{part, idsAt}
 use Rattle.format.specs.Parts.{ids-length, ids-get}
-use Rattle.state.specs.declared.Ledger.{Ledger}
 use Rattle.judging.specs.declared.Gathered.{Gathered}
-use Rattle.state.specs.State.{findIn}
+use Rattle.state.specs.State.{Book, findIn}
 use Rattle.judging.specs.Judge.{gatherAt, gather}
 
 module _ (b : List ℕ) (at n k : ℕ) where
@@ -35,7 +34,7 @@ module _ (b : List ℕ) (at n k : ℕ) where
   ended h = drop-of-length-le (idsAt b at n) {i = k} (rw (ids-length b at n) h)
 
   -- gathering from the k-th predecessor on
-  module _ (l : Ledger) (g : Gathered) where
+  module _ (l : Book) (g : Gathered) where
     pub gather-next : (i : Id) → i ≡ id → (r : Gathered) → r ≡ gatherAt l g (findIn l i) → k < n → gather l g left ≡ gather l r after
     unfolding gather
     gather-next i e r f h = ap (gather l g) (next h) ∙ ap (λ (x : Gathered). gather l x after) (sym (f ∙ ap (λ (j : Id). gatherAt l g (findIn l j)) e))

@@ -3,25 +3,22 @@
 -- Assumes nothing.
 use mathlib.Core.Path.{_≡_, refl, sym, _∙_, ap, subst}
 use Prim.Native.Nat.{ℕ, _<_, _^_}
-use native.Mathlib.Nat.{lt-of-lt-of-le}
 use mathlib.Core.List.{List, [], _∷_}
 use mathlib.Core.Option.{Option, none, some}
 use mathlib.Core.Bool.{Bool, true, false, not, _&&_, _||_, or-false, or-true, or-assoc, Bool·not-not, true≢false, false≢true}
 use lib.ListN.{length}
 use lib.Dec.{eqb}
-use lib.Pow.{pow-mono}
 use borrow.Author.Tests.{eq-eqb, eqb-true}
 use Rattle.keys.specs.Member.{_∈_, any}
 use Rattle.keys.specs.BoolLaws.{true-false, not-true→false, and-true→, and-true}
 use Rattle.keys.specs.MemberLaws.{∈-cast, any→∈, ∈→any, any-false→, any-false}
 use Rattle.format.specs.Update.{Id, Update}
-use Rattle.bits.specs.Bits.{wordBits, has, within}
+use Rattle.bits.specs.Bits.{has, within}
 use Rattle.bits.specs.BitsLaws.{has-none, has-including, has-join, within-none, within-including, within-join, within→lt}
-use Rattle.state.specs.declared.Ledger.{Ledger}
 use Rattle.state.specs.declared.Standing.{Standing}
 use Rattle.state.specs.declared.Standing.the-variants.{Held, Waiting, Void}
 use Rattle.judging.specs.declared.Gathered.{Gathered}
-use Rattle.state.specs.State.{placeAt, findIn, isHeld, isWaiting, isVoid}
+use Rattle.state.specs.State.{Book, placeAt, findIn, isHeld, isWaiting, isVoid}
 use Rattle.judging.specs.Judge.{nothingGathered, gatherBy, gatherAt, gather}
 use Rattle.state.specs.Stands.{ident, updateAt, Holds}
 use Rattle.state.specs.StandingLaws.{isHeld→, isVoid→, held-left}
@@ -29,7 +26,7 @@ use Rattle.state.specs.Row1Laws.{holds-sound}
 use Rattle.state.specs.FindLaws.{find-taken, find-right, find-all}
 
 -- each id is that of an update at a held place
-abbrev pub AllHeld : Ledger → List Update → List Id → Type 0
+abbrev pub AllHeld : Book → List Update → List Id → Type 0
 AllHeld l us is = (i : Id) → i ∈ is → (j : ℕ) × (j < length us) × (ident (updateAt us j) ≡ i) × (placeAt l j .standing ≡ Held)
 
 -- an id is found at a place that passes; where it is not found, the answer is b
@@ -47,7 +44,7 @@ unfolding passes
 fails→ p none e = absurd (true≢false e)
 fails→ p (some j) e = (j, refl, e)
 
-module _ (l : Ledger) where
+module _ (l : Book) where
   found : (ℕ → Bool) → Bool → Id → Bool
   found p b i = passes p b (findIn l i)
 
@@ -122,7 +119,7 @@ module _ (l : Ledger) where
       step g (some j) = by g j (placeAt l j .standing)
 
 -- both words are of taken places, whatever the ledger, if the words of the taken places are
-module _ (l : Ledger) (taken : (j : ℕ) → j < l .used → within (placeAt l j .ancestors) (l .used) ≡ true) where
+module _ (l : Book) (taken : (j : ℕ) → j < l .used → within (placeAt l j .ancestors) (l .used) ≡ true) where
   abbrev Inside : Gathered → Type 0
   Inside g = (within (g .direct) (l .used) ≡ true) × (within (g .above) (l .used) ≡ true)
 
@@ -142,25 +139,21 @@ module _ (l : Ledger) (taken : (j : ℕ) → j < l .used → within (placeAt l j
       step g i none e p = p
       step g i (some j) e p = by g j (placeAt l j .standing) (find-taken l i j e) p
 
-module _ (l : Ledger) (s : List ℕ) (us : List Update) (holds : Holds l s us) where
-  below-word : (i : Id) (j : ℕ) → findIn l i ≡ some j → j < wordBits
-  below-word i j e = lt-of-lt-of-le (find-right l s us holds i j e .0) (holds .room)
-
+module _ (l : Book) (s : List ℕ) (us : List Update) (holds : Holds l s us) where
   gather-direct : (k : ℕ) (is : List Id) → has (gather l nothingGathered is .direct) k ≡ any (found l (directAt l k) false) is
   unfolding found passes directAt isHeld
   gather-direct k is =
-      gather-any l (λ (g : Gathered). has (g .direct) k) (found l (directAt l k) false) (λ g i. step g i (findIn l i) refl) nothingGathered is
+      gather-any l (λ (g : Gathered). has (g .direct) k) (found l (directAt l k) false) (λ g i. step g (findIn l i)) nothingGathered is
       ∙ ap (λ (b : Bool). b || any (found l (directAt l k) false) is) (has-none k)
     where
-      by : (g : Gathered) (j : ℕ) (v : Standing) → j < wordBits → has (gatherBy l g j v .direct) k ≡ (has (g .direct) k || (isHeld v && eqb k j))
-      by g j Held h = has-including (g .direct) j k h
-      by g j Waiting h = sym (or-false (has (g .direct) k))
-      by g j Void h = sym (or-false (has (g .direct) k))
+      by : (g : Gathered) (j : ℕ) (v : Standing) → has (gatherBy l g j v .direct) k ≡ (has (g .direct) k || (isHeld v && eqb k j))
+      by g j Held = has-including (g .direct) j k
+      by g j Waiting = sym (or-false (has (g .direct) k))
+      by g j Void = sym (or-false (has (g .direct) k))
 
-      step : (g : Gathered) (i : Id) (o : Option ℕ) → findIn l i ≡ o
-          → has (gatherAt l g o .direct) k ≡ (has (g .direct) k || passes (directAt l k) false o)
-      step g i none e = sym (or-false (has (g .direct) k))
-      step g i (some j) e = by g j (placeAt l j .standing) (below-word i j e)
+      step : (g : Gathered) (o : Option ℕ) → has (gatherAt l g o .direct) k ≡ (has (g .direct) k || passes (directAt l k) false o)
+      step g none = sym (or-false (has (g .direct) k))
+      step g (some j) = by g j (placeAt l j .standing)
 
   -- some id is that of an update whose place passes
   any-found→ : (p : ℕ → Bool) (is : List Id) → any (found l p false) is ≡ true
@@ -209,11 +202,10 @@ module _ (l : Ledger) (s : List ℕ) (us : List Update) (holds : Holds l s us) w
             let r = h i m in
             ap (passes (waitingAt l) true) (ap (findIn l) (sym (r .2)) ∙ find-all l s us holds (r .0) (r .1)) ∙ ap isWaiting (r .3)
 
-    -- the word of the places is one of 64 bits
-    pub gathered-word : gathered .direct < 2 ^ 64
-    gathered-word =
-        let h = holds-sound l s us holds in
-        lt-of-lt-of-le (within→lt (gathered .direct) (l .used) (gather-inside l (λ j g. h .each j g .inside) is .0)) (pow-mono (h .few))
+    -- the set of the places has taken ones only
+    pub gathered-taken : gathered .direct < 2 ^ (l .used)
+    gathered-taken =
+        let h = holds-sound l s us holds in within→lt (gathered .direct) (l .used) (gather-inside l (λ j g. h .each j g .inside) is .0)
 
     pub gathered-direct→ : (j : ℕ) → has (gathered .direct) j ≡ true → (j < length us) × (ident (updateAt us j) ∈ is)
     unfolding directAt

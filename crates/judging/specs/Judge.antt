@@ -14,58 +14,57 @@ use Rattle.rules.specs.Standing.{beginning}
 use Rattle.rules.specs.Settle.{isAdd, isInsert}
 use Rattle.fields.specs.Fields.{testOf}
 use Rattle.bits.specs.Bits.{has, including, join, meet}
-use Rattle.state.specs.declared.Ledger.{Ledger}
 use Rattle.state.specs.declared.Standing.{Standing}
 use Rattle.state.specs.declared.Standing.the-variants.{Held, Waiting, Void}
 use Rattle.judging.specs.declared.Gathered.{Gathered}
 use Rattle.judging.specs.declared.Judgement.{Judgement}
 use Rattle.judging.specs.declared.Judgement.the-variants.{Holds, Fails, Waits}
-use Rattle.state.specs.State.{placeAt, storedAt, findIn}
+use Rattle.state.specs.State.{Book, placeAt, storedAt, findIn}
 
 -- what the predecessors seen so far say: all are held; some is void; their places; their ancestors
 abbrev pub nothingGathered : Gathered
 nothingGathered = record { ready = true; void = false; direct = 0; above = 0 }
 
-abbrev pub gatherBy : Ledger → Gathered → ℕ → Standing → Gathered
+abbrev pub gatherBy : Book → Gathered → ℕ → Standing → Gathered
 gatherBy l g j Held =
     record { ready = g .ready; void = g .void; direct = including (g .direct) j; above = join (g .above) (placeAt l j .ancestors) }
 gatherBy l g j Waiting = record { ready = false; void = g .void; direct = g .direct; above = g .above }
 gatherBy l g j Void = record { ready = g .ready; void = true; direct = g .direct; above = g .above }
 
-abbrev pub gatherAt : Ledger → Gathered → Option ℕ → Gathered
+abbrev pub gatherAt : Book → Gathered → Option ℕ → Gathered
 gatherAt l g none = record { ready = false; void = g .void; direct = g .direct; above = g .above }
 gatherAt l g (some j) = gatherBy l g j (placeAt l j .standing)
 
-unfoldable pub gather : Ledger → Gathered → List Id → Gathered
+unfoldable pub gather : Book → Gathered → List Id → Gathered
 gather l g [] = g
 gather l g (i ∷ is) = gather l (gatherAt l g (findIn l i)) is
 
 -- the place j is in the set `up`, and the operation of its update passes a test
-unfoldable pub namesAt : Ledger → List ℕ → (Operation → Bool) → ℕ → Option ℕ → Bool
+unfoldable pub namesAt : Book → List ℕ → (Operation → Bool) → ℕ → Option ℕ → Bool
 namesAt l s p up none = false
 namesAt l s p up (some j) = has up j && testOf p (decode (storedAt l s j))
 
 -- the id i is that of a place in the set `up` whose operation passes a test
-unfoldable pub names : Ledger → List ℕ → (Operation → Bool) → ℕ → Id → Bool
+unfoldable pub names : Book → List ℕ → (Operation → Bool) → ℕ → Id → Bool
 names l s p up i = namesAt l s p up (findIn l i)
 
 -- the operation is valid for the ancestor word `up`
-unfoldable pub valid : Ledger → List ℕ → ℕ → Operation → Bool
+unfoldable pub valid : Book → List ℕ → ℕ → Operation → Bool
 valid l s up (Add t) = true
 valid l s up (Remove t named) = all (names l s (isAdd t) up) named
 valid l s up (Insert a v) = same a beginning || names l s isInsert up a
 valid l s up (Delete i) = names l s isInsert up i
 
-unfoldable pub judgeReady : Ledger → List ℕ → Operation → ℕ → ℕ → Judgement
+unfoldable pub judgeReady : Book → List ℕ → Operation → ℕ → ℕ → Judgement
 judgeReady l s o direct above =
     cond (eqb (meet direct above) 0) (cond (valid l s (join direct above) o) (Holds (join direct above)) Fails) Fails
 
-unfoldable pub judgeGathered : Ledger → List ℕ → Operation → Gathered → Judgement
+unfoldable pub judgeGathered : Book → List ℕ → Operation → Gathered → Judgement
 judgeGathered l s o g = cond (g .void) Fails (cond (g .ready) (judgeReady l s o (g .direct) (g .above)) Waits)
 
-unfoldable pub judgeDecoded : Ledger → List ℕ → Decoded → Judgement
+unfoldable pub judgeDecoded : Book → List ℕ → Decoded → Judgement
 judgeDecoded l s (refused n) = Waits
 judgeDecoded l s (update u) = judgeGathered l s (u .op) (gather l nothingGathered (u .preds))
 
-unfoldable pub judge : Ledger → List ℕ → ℕ → Judgement
+unfoldable pub judge : Book → List ℕ → ℕ → Judgement
 judge l s k = judgeDecoded l s (decode (storedAt l s k))

@@ -26,19 +26,18 @@ use Rattle.rules.specs.LeastSets.{ancestor-stored, ancestor-cases}
 use Rattle.rules.specs.SettlingTable.{isAdd→, →isAdd, isInsert→, →isInsert}
 use Rattle.bits.specs.Bits.{has, join, meet}
 use Rattle.bits.specs.BitsLaws.{has-join, meet-none→, meet-none←}
-use Rattle.state.specs.declared.Ledger.{Ledger}
 use Rattle.state.specs.declared.Standing.the-variants.{Held as IsHeld, Void as IsVoid}
 use Rattle.judging.specs.declared.Gathered.{Gathered}
 use Rattle.judging.specs.declared.Judgement.{Judgement}
 use Rattle.judging.specs.declared.Judgement.the-variants.{Holds as Judged-holds, Fails, Waits}
-use Rattle.state.specs.State.{placeAt, storedAt, findIn}
+use Rattle.state.specs.State.{Book, placeAt, storedAt, findIn}
 use Rattle.judging.specs.Judge.{nothingGathered, gather, namesAt, names, valid, judgeReady, judgeGathered, judgeDecoded, judge}
 use Rattle.state.specs.Stands.{ident, noUpdate, updateAt, Holds, Truthful}
 use Rattle.state.specs.FindLaws.{stored-at, place-of, find-right, find-all}
-use Rattle.judging.specs.GatherLaws.{AllHeld, gathered-word, gathered-void→, gathered-void←, gathered-ready→, gathered-ready←, gathered-direct→, gathered-direct←, gathered-above→, gathered-above←}
+use Rattle.judging.specs.GatherLaws.{AllHeld, gathered-taken, gathered-void→, gathered-void←, gathered-ready→, gathered-ready←, gathered-direct→, gathered-direct←, gathered-above→, gathered-above←}
 
 -- what is read from a place is its update
-stored-update : (l : Ledger) (s : List ℕ) (us : List Update) → Holds l s us → (k : ℕ) → k < length us
+stored-update : (l : Book) (s : List ℕ) (us : List Update) → Holds l s us → (k : ℕ) → k < length us
     → decode (storedAt l s k) ≡ update (updateAt us k)
 stored-update l s us holds k h =
     ap decode (holds .bytes k h) ∙ decode-complete (updateAt us k) (holds .bounded (updateAt us k) (stored-at us k h))
@@ -49,7 +48,7 @@ record AncestorWord (us : List Update) (u : Update) (w : ℕ) : Type 0 where
   each : (j : ℕ) → j < length us → Ancestor ident us (updateAt us j) u → has w j ≡ true
 
 -- the operations are valid by such a word as by the rules
-module _ {l : Ledger} {s : List ℕ} {us : List Update} (holds : Holds l s us) {u : Update} {w : ℕ} (word : AncestorWord us u w) where
+module _ {l : Book} {s : List ℕ} {us : List Update} (holds : Holds l s us) {u : Update} {w : ℕ} (word : AncestorWord us u w) where
   names→ : (p : Operation → Bool) (i : Id) → names l s p w i ≡ true
       → (x : Update) × Ancestor ident us x u × (ident x ≡ i) × (p (x .op) ≡ true)
   unfolding names namesAt testOf
@@ -104,14 +103,14 @@ module _ {l : Ledger} {s : List ℕ} {us : List Update} (holds : Holds l s us) {
   →valid (Delete i) v = →insert v
 
 -- what a judgement of u says
-Says : Ledger → List Update → Update → Judgement → Type 0
+Says : Book → List Update → Update → Judgement → Type 0
 Says l us u (Judged-holds w) = Held ident us u × AncestorWord us u w
 Says l us u Fails = Void ident us u
 Says l us u Waits =
     ((j : ℕ) → j < length us → ident (updateAt us j) ∈ u .preds → placeAt l j .standing ≡ IsVoid → ⊥)
     × (Known ident us u → ((j : ℕ) → j < length us → ident (updateAt us j) ∈ u .preds → placeAt l j .standing ≡ IsHeld) → ⊥)
 
-module _ (l : Ledger) (s : List ℕ) (us : List Update) (holds : Holds l s us) where
+module _ (l : Book) (s : List ℕ) (us : List Update) (holds : Holds l s us) where
   module _ (truthful : Truthful l us) where
     module _ {u : Update} (stored : u ∈ us) where
       abbrev gathered : Gathered
@@ -185,8 +184,8 @@ module _ (l : Ledger) (s : List ℕ) (us : List Update) (holds : Holds l s us) w
 
         →antichain : Antichain → meet (gathered .direct) (gathered .above) ≡ 0
         →antichain n =
-            meet-none← (gathered .above)
-            (gathered-word l s us holds (u .preds))
+            meet-none← (l .used) (gathered .above)
+            (gathered-taken l s us holds (u .preds))
             (λ j g e.
             let d = gathered-direct→ l s us holds (u .preds) j e in
             not-true→false (has (gathered .above) j)

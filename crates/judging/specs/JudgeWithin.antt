@@ -8,14 +8,13 @@ use lib.Dec.{eqb}
 use Rattle.format.specs.Decode.{Decoded, refused, update, decode}
 use Rattle.bits.specs.Bits.{join, meet, within}
 use Rattle.bits.specs.BitsLaws.{within-join}
-use Rattle.state.specs.declared.Ledger.{Ledger}
 use Rattle.judging.specs.declared.Judgement.{Judgement}
 use Rattle.judging.specs.declared.Judgement.the-variants.{Holds as Judged-holds, Fails, Waits}
-use Rattle.state.specs.State.{placeAt, storedAt}
+use Rattle.state.specs.State.{Book, placeAt, storedAt}
 use Rattle.judging.specs.Judge.{nothingGathered, gather, valid, judgeReady, judgeGathered, judgeDecoded, judge}
 use Rattle.judging.specs.GatherLaws.{gather-inside}
 
-module _ (l : Ledger) (taken : (j : ℕ) → j < l .used → within (placeAt l j .ancestors) (l .used) ≡ true) where
+module _ (l : Book) (taken : (j : ℕ) → j < l .used → within (placeAt l j .ancestors) (l .used) ≡ true) where
   data Within : Judgement → Type 0 where
     holds-within : {w : ℕ} → within w (l .used) ≡ true → Within (Judged-holds w)
     fails-within : Within Fails

@@ -9,8 +9,8 @@ ghost use Rattle.format.specs.Decode.{idsAt, firstPredecessor, decode};
 ghost use Rattle.format.specs.Reading.{operationAt, valueOf};
 ghost use Rattle.rules.specs.Settle.{isAdd, isInsert};
 ghost use Rattle.fields.specs.Fields.{testOf};
-ghost use Rattle.state.specs.declared.Ledger.{Ledger};
-ghost use Rattle.state.specs.State.{placeAt};
+ghost use Rattle.state.specs.State.{Book, placeAt};
+ghost use Rattle.state.specs.View.{placeOf, bookOf};
 ghost use Rattle.judging.specs.Judge.{nothingGathered, gatherAt, gather as gatherAll, names, valid as validOperation, judgeReady, judgeGathered, judgeDecoded, judge as judgeAt};
 use format::Operation;
 use format::Parsed;
@@ -40,7 +40,7 @@ pub enum Judgement {
 // What is gathered with a predecessor at place j, which is p.
 fn gather_by(p: Place, g: Gathered, j: usize) -> Gathered
     requires { ⌜ j < 64 ⌝ }
-    ensures { λ r. ⌜ ((l : Ledger) → placeAt l j ≡ p → r ≡ gatherAt l g (some j)) ⌝ }
+    ensures { λ r. ⌜ ((l : Book) → placeAt l j ≡ placeOf p → r ≡ gatherAt l g (some j)) ⌝ }
 {
     let standing = p.standing;
     match standing {
@@ -67,8 +67,8 @@ fn gather_by(p: Place, g: Gathered, j: usize) -> Gathered
 
 // What the count predecessors of the update b say.
 fn gather(l: Ledger, b: &[u8], count: usize) -> Gathered
-    requires { ⌜ l .used ≤ 64 ⌝ }
-    ensures { λ r. ⌜ r ≡ gatherAll l nothingGathered (idsAt (now (b .entry)) firstPredecessor count) ⌝ }
+    requires { ⌜ bookOf l .used ≤ 64 ⌝ }
+    ensures { λ r. ⌜ r ≡ gatherAll (bookOf l) nothingGathered (idsAt (now (b .entry)) firstPredecessor count) ⌝ }
 {
     let mut g = Gathered {
         ready: true,
@@ -93,8 +93,8 @@ fn gather(l: Ledger, b: &[u8], count: usize) -> Gathered
 
 // The bytes of the place in the set `up` with this id, or no bytes.
 fn bytes_in<'a>(l: Ledger, store: &'a [u8], up: u64, id: &[u8]) -> &'a [u8]
-    requires { ⌜ l .used ≤ 64 ⌝ }
-    ensures { λ r. ⌜ ((p : U.Operation → Bool) → testOf p (decode (now r)) ≡ names l (now (store .entry)) p up (now (id .entry))) ⌝ }
+    requires { ⌜ bookOf l .used ≤ 64 ⌝ }
+    ensures { λ r. ⌜ ((p : U.Operation → Bool) → testOf p (decode (now r)) ≡ names (bookOf l) (now (store .entry)) p up (now (id .entry))) ⌝ }
 {
     match find(l, id) {
         Found::At(j) => {
@@ -111,16 +111,16 @@ fn bytes_in<'a>(l: Ledger, store: &'a [u8], up: u64, id: &[u8]) -> &'a [u8]
 
 // Whether an id is that of an Add of the tag in the set `up`.
 fn names_add(l: Ledger, store: &[u8], up: u64, id: &[u8], tag: &[u8]) -> bool
-    requires { ⌜ l .used ≤ 64 ⌝ }
-    ensures { λ r. ⌜ r ≡ names l (now (store .entry)) (isAdd (now (tag .entry))) up (now (id .entry)) ⌝ }
+    requires { ⌜ bookOf l .used ≤ 64 ⌝ }
+    ensures { λ r. ⌜ r ≡ names (bookOf l) (now (store .entry)) (isAdd (now (tag .entry))) up (now (id .entry)) ⌝ }
 {
     fields::adds(bytes_in(l, store, up, id), tag)
 }
 
 // Whether an id is that of an Insert in the set `up`.
 fn names_insert(l: Ledger, store: &[u8], up: u64, id: &[u8]) -> bool
-    requires { ⌜ l .used ≤ 64 ⌝ }
-    ensures { λ r. ⌜ r ≡ names l (now (store .entry)) isInsert up (now (id .entry)) ⌝ }
+    requires { ⌜ bookOf l .used ≤ 64 ⌝ }
+    ensures { λ r. ⌜ r ≡ names (bookOf l) (now (store .entry)) isInsert up (now (id .entry)) ⌝ }
 {
     fields::is_insert(bytes_in(l, store, up, id))
 }
@@ -135,8 +135,8 @@ fn names_adds(
     count: usize,
     tag: &[u8],
 ) -> bool
-    requires { ⌜ l .used ≤ 64 ⌝ }
-    ensures { λ r. ⌜ r ≡ all (names l (now (store .entry)) (isAdd (now (tag .entry))) up) (idsAt (now (b .entry)) at count) ⌝ }
+    requires { ⌜ bookOf l .used ≤ 64 ⌝ }
+    ensures { λ r. ⌜ r ≡ all (names (bookOf l) (now (store .entry)) (isAdd (now (tag .entry))) up) (idsAt (now (b .entry)) at count) ⌝ }
 {
     let mut k: usize = 0;
     while k < count {
@@ -150,8 +150,8 @@ fn names_adds(
 
 // Whether the operation is valid for the ancestors `up`.
 fn valid(l: Ledger, store: &[u8], up: u64, b: &[u8], operation: Operation) -> bool
-    requires { ⌜ l .used ≤ 64 ⌝ }
-    ensures { λ r. ⌜ r ≡ validOperation l (now (store .entry)) up (operationAt (now (b .entry)) operation) ⌝ }
+    requires { ⌜ bookOf l .used ≤ 64 ⌝ }
+    ensures { λ r. ⌜ r ≡ validOperation (bookOf l) (now (store .entry)) up (operationAt (now (b .entry)) operation) ⌝ }
 {
     match operation {
         Operation::Add { tag: _ } => true,
@@ -191,8 +191,8 @@ fn judge_ready(
     direct: u64,
     above: u64,
 ) -> Judgement
-    requires { ⌜ l .used ≤ 64 ⌝ }
-    ensures { λ r. ⌜ r ≡ judgeReady l (now (store .entry)) (operationAt (now (b .entry)) operation) direct above ⌝ }
+    requires { ⌜ bookOf l .used ≤ 64 ⌝ }
+    ensures { λ r. ⌜ r ≡ judgeReady (bookOf l) (now (store .entry)) (operationAt (now (b .entry)) operation) direct above ⌝ }
 {
     if bits::meet(direct, above) != 0 {
         return Judgement::Fails;
@@ -207,8 +207,8 @@ fn judge_ready(
 
 // The judgement of an update, from what its predecessors say.
 fn judge_update(l: Ledger, store: &[u8], b: &[u8], u: Parsed) -> Judgement
-    requires { ⌜ l .used ≤ 64 ⌝ }
-    ensures { λ r. ⌜ r ≡ judgeGathered l (now (store .entry)) (valueOf (now (b .entry)) u .op) (gatherAll l nothingGathered (valueOf (now (b .entry)) u .preds)) ⌝ }
+    requires { ⌜ bookOf l .used ≤ 64 ⌝ }
+    ensures { λ r. ⌜ r ≡ judgeGathered (bookOf l) (now (store .entry)) (valueOf (now (b .entry)) u .op) (gatherAll (bookOf l) nothingGathered (valueOf (now (b .entry)) u .preds)) ⌝ }
 {
     let g = gather(l, b, u.count);
     if g.void {
@@ -224,8 +224,8 @@ fn judge_update(l: Ledger, store: &[u8], b: &[u8], u: Parsed) -> Judgement
 
 // The judgement of the bytes b as an update; bytes that are none wait.
 pub fn judge_bytes(l: Ledger, store: &[u8], b: &[u8]) -> Judgement
-    requires { ⌜ l .used ≤ 64 ⌝ }
-    ensures { λ r. ⌜ r ≡ judgeDecoded l (now (store .entry)) (decode (now (b .entry))) ⌝ }
+    requires { ⌜ bookOf l .used ≤ 64 ⌝ }
+    ensures { λ r. ⌜ r ≡ judgeDecoded (bookOf l) (now (store .entry)) (decode (now (b .entry))) ⌝ }
 {
     match parsing::read(b) {
         Reading::Update(u) => judge_update(l, store, b, u),
@@ -235,8 +235,8 @@ pub fn judge_bytes(l: Ledger, store: &[u8], b: &[u8]) -> Judgement
 
 // The judgement of the update at place k.
 pub fn judge(l: Ledger, store: &[u8], k: usize) -> Judgement
-    requires { ⌜ (l .used ≤ 64) × (k < 64) ⌝ }
-    ensures { λ r. ⌜ r ≡ judgeAt l (now (store .entry)) k ⌝ }
+    requires { ⌜ (bookOf l .used ≤ 64) × (k < 64) ⌝ }
+    ensures { λ r. ⌜ r ≡ judgeAt (bookOf l) (now (store .entry)) k ⌝ }
 {
     let p = l.places[k];
     judge_bytes(l, store, stored(store, k, p.length))

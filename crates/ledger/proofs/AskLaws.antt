@@ -6,15 +6,14 @@ use mathlib.Core.List.{List}
 use mathlib.Core.Option.{none, some}
 use mathlib.Core.Bool.{true, false}
 use Rattle.format.specs.Update.{Id}
-use Rattle.state.specs.declared.Ledger.{Ledger}
-use Rattle.state.specs.State.{placeAt, findIn}
+use Rattle.state.specs.State.{Book, placeAt, findIn}
 use Rattle.state.specs.Row1.{sound}
 use Rattle.refusals.specs.declared.Refusal.the-variants.{Unfit}
 use Rattle.ledger.specs.declared.Asked.the-variants.{Is, Unknown, Refused as NotAsked}
 use Rattle.ledger.specs.Ask.{askedOf}
 
 -- the standing of an id
-module _ (l : Ledger) (s : List ℕ) (i : Id) where
+module _ (l : Book) (s : List ℕ) (i : Id) where
   pub asked-unfit : sound l s ≡ false → NotAsked Unfit ≡ askedOf l s i
   unfolding askedOf
   asked-unfit h = rw h

@@ -13,7 +13,8 @@ use Rattle.rules.specs.Settle.{partsOf}
 use Rattle.rules.specs.Report.{reportText, reportOf}
 use Rattle.rules.specs.PartsLaws.{read-right}
 use Rattle.state.specs.declared.Ledger.{Ledger}
-use Rattle.state.specs.State.{storeLength, freshLedger}
+use Rattle.state.specs.View.{bookOf, freshLedger}
+use Rattle.state.specs.State.{storeLength, Book}
 use Rattle.state.specs.Stands.{ident, Stands}
 use Rattle.offering.specs.declared.Offered.{Offered}
 use Rattle.offering.specs.Offer.{Offering}
@@ -33,12 +34,12 @@ pub record LaidOut (us : List Update) (text : List ℕ) : Type 0 where
 -- What the entries say of a ledger and its store is what the rules give for the updates: the standing of every id, the bytes of a report, and the answer to a
 -- further offer.
 pub record AsRuled (us : List Update) (l : Ledger) (s : List ℕ) : Type 0 where
-  pub standing : AnswersFor l s us
-  pub reported : {o o′ : List ℕ} {n : ℕ} → Reporting l s o (Written n) o′ → LaidOut us (take n o′)
+  pub standing : AnswersFor (bookOf l) s us
+  pub reported : {o o′ : List ℕ} {n : ℕ} → Reporting (bookOf l) s o (Written n) o′ → LaidOut us (take n o′)
   pub answered : (b : List ℕ) {r : Offered} {s′ : List ℕ} → Offering l s b r s′ → answerText (r .answer) ≡ offerText us (decode b)
 
 -- the bytes reported of a ledger that stands
-pub report-shown : {l : Ledger} {s o o′ : List ℕ} {r : Reported} (us : List Update) → Stands l s us → Reporting l s o r o′
+pub report-shown : {l : Book} {s o o′ : List ℕ} {r : Reported} (us : List Update) → Stands l s us → Reporting l s o r o′
     → (n : ℕ) → r ≡ Written n → take n o′ ≡ reportOf ident us
 report-shown us h (unfit e) n q = let z : _≡_ {A = ℕ} 0 1 = cc in absurd (omega arith)
 report-shown us h (short text e t k) n q = let z : _≡_ {A = ℕ} 0 1 = cc in absurd (omega arith)
@@ -46,15 +47,15 @@ report-shown {o = o} us h (written text e t k) n q =
     let p : length text ≡ n = cc in
     rw (← p) (take-append-seam text (drop (length text) o) ∙ t .of-rules us h)
 
-pub stands-ruled : {l : Ledger} {s : List ℕ} (us : List Update) → Stands l s us → AsRuled us l s
+pub stands-ruled : (l : Ledger) {s : List ℕ} (us : List Update) → Stands (bookOf l) s us → AsRuled us l s
 unfolding reportOf
-stands-ruled {l} {s} us h =
+stands-ruled l {s} us h =
     record {
-      standing = stands-answers l s us h;
+      standing = stands-answers (bookOf l) s us h;
       reported = λ {o} {o′} {n} r. record { parts = partsOf ident us; read = read-right ident us (h .holds .distinct); laid-out = report-shown us h r n refl };
       answered = λ b o. answer-right l s us h b o;
     }
 
 -- Demand 2 of offers, with any first contents of the store
 pub after-offers : {l : Ledger} {s s′ : List ℕ} {bs : List (List ℕ)} → length s ≡ storeLength → Calls freshLedger s bs l s′ → AsRuled (stored bs) l s′
-after-offers {bs = bs} h c = stands-ruled (stored bs) (offers-stand h c)
+after-offers {l = l} {bs = bs} h c = stands-ruled l (stored bs) (offers-stand h c)

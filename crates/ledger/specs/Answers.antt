@@ -28,7 +28,8 @@ use Rattle.rules.specs.Settling.{settled-decides}
 use Rattle.rules.specs.Decides.{Decides}
 use Rattle.rules.specs.Report.{ascii, decimal}
 use Rattle.state.specs.declared.Ledger.{Ledger}
-use Rattle.state.specs.State.{places, placeAt, countOf, isHeld as stateHeld, isVoid as stateVoid}
+use Rattle.state.specs.View.{bookOf}
+use Rattle.state.specs.State.{places, Book, placeAt, countOf, isHeld as stateHeld, isVoid as stateVoid}
 use Rattle.state.specs.Stands.{ident, noUpdate, updateAt, Stands}
 use Rattle.state.specs.FindLaws.{stored-at, find-right}
 use Rattle.state.specs.TakeLaws.{stands-sound}
@@ -76,7 +77,7 @@ row-test T p i {r} once m e h =
     let k : q .0 ≡ r = distinct-eq once (q .1) m (same→eq (q .0 .id) i (b .0) ∙ sym e) in
     ap (λ (w : Row). p (w .verdict)) (sym k) ∙ b .1
 
-module _ (l : Ledger) (s : List ℕ) (us : List Update) (stands : Stands l s us) where
+module _ (l : Book) (s : List ℕ) (us : List Update) (stands : Stands l s us) where
   D : Decides ident us (settled ident us)
   D = settled-decides ident us (stands .holds .distinct)
 
@@ -109,7 +110,7 @@ module _ (l : Ledger) (s : List ℕ) (us : List Update) (stands : Stands l s us)
       word-by k h (r .0) (r .1) (r .2) (r .0 .verdict) refl
 
 -- the place that an offer takes says how the update stands, and the counts say what changed
-taken-right : (l : Ledger) (s : List ℕ) (us : List Update) → Stands l s us → (u : Update) (r : Ledger) (s′ : List ℕ) → Stands r s′ (us ++ (u ∷ []))
+taken-right : (l : Book) (s : List ℕ) (us : List Update) → Stands l s us → (u : Update) (r : Book) (s′ : List ℕ) → Stands r s′ (us ++ (u ∷ []))
     → answerText (Taken (placeAt r (l .used) .standing) (countOf stateHeld r - countOf stateHeld l) (countOf stateVoid r - countOf stateVoid l))
     ≡ takenText (settled ident us) (settled ident (us ++ (u ∷ []))) (ident u)
 unfolding answerText takenText heldNumber voidNumber
@@ -125,18 +126,18 @@ taken-right l s us stands u r s′ after =
     λ i. ascii "(taken " ++ (word i ++ (ascii " " ++ (decimal (h i) ++ (ascii " " ++ (decimal (v i) ++ ascii ")\n")))))
 
 -- For a ledger that stands, the answer is the rules'.
-pub answer-right : (l : Ledger) (s : List ℕ) (us : List Update) → Stands l s us → (b : List ℕ) {r : Offered} {s′ : List ℕ} → Offering l s b r s′
+pub answer-right : (l : Ledger) (s : List ℕ) (us : List Update) → Stands (bookOf l) s us → (b : List ℕ) {r : Offered} {s′ : List ℕ} → Offering l s b r s′
     → answerText (r .answer) ≡ offerText us (decode b)
 unfolding answerText offerText refusedText knownText
-answer-right l s us stands b (unfit e) = absurd (true-false (stands-sound l s us stands) e)
+answer-right l s us stands b (unfit e) = absurd (true-false (stands-sound (bookOf l) s us stands) e)
 answer-right l s us stands b (malformed m e d) = rw d
 answer-right l s us stands b (known u k e d f) =
-    let r = find-right l s us (stands .holds) (SHA-256 b) k f in
+    let r = find-right (bookOf l) s us (stands .holds) (SHA-256 b) k f in
     rw (d, found-known l s us stands b d f)
     (ap (λ (w : List ℕ). ascii "(known " ++ (w ++ ascii ")\n"))
-    (word-right l s us stands k (r .0) ∙ ap (standingIn (settled ident us)) (r .1 ∙ sym (decoded-id l s us stands b d))))
+    (word-right (bookOf l) s us stands k (r .0) ∙ ap (standingIn (settled ident us)) (r .1 ∙ sym (decoded-id l s us stands b d))))
 answer-right l s us stands b (full u e d f n) =
     rw (d, none-new l s us stands b d f, le-ltb (length us) places (le-of-eq (sym n ∙ stands .holds .number)))
 answer-right l s us stands b (taken u r e d f n t) =
     rw (d, none-new l s us stands b d f, lt-ltb (length us) places (subst (λ (k : ℕ). k < places) (stands .holds .number) n))
-    (taken-right l s us stands u r _ (t .settles us stands))
+    (taken-right (bookOf l) s us stands u (bookOf r) _ (t .settles us stands))

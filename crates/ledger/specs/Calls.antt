@@ -21,7 +21,8 @@ use Rattle.rules.specs.LeastSets.{held-stored, void-stored, held-not-void}
 use Rattle.state.specs.declared.Ledger.{Ledger}
 use Rattle.state.specs.declared.Standing.the-variants.{Held as IsHeld, Waiting as IsWaiting, Void as IsVoid}
 use Rattle.state.specs.declared.Standing.{Standing}
-use Rattle.state.specs.State.{places, storeLength, placeAt, findIn, freshLedger}
+use Rattle.state.specs.State.{places, storeLength, Book, placeAt, findIn}
+use Rattle.state.specs.View.{bookOf, freshLedger}
 use Rattle.state.specs.Stands.{ident, updateAt, Stands}
 use Rattle.state.specs.FindLaws.{stored-at, place-of, find-right, find-all, find-none}
 use Rattle.state.specs.TakeLaws.{stands-sound, fresh-stands}
@@ -72,65 +73,65 @@ only-void us IsHeld u a h = absurd (held-not-void ident us a h)
 only-void us IsWaiting u a h = absurd (a .not-void h)
 only-void us IsVoid u a h = refl
 
-module _ (l : Ledger) (s : List ℕ) (us : List Update) (stands : Stands l s us) (b : List ℕ) where
+module _ (l : Ledger) (s : List ℕ) (us : List Update) (stands : Stands (bookOf l) s us) (b : List ℕ) where
   -- an update that the bytes decode to has the id SHA-256 of the bytes
   pub decoded-id : {u : Update} → decode b ≡ update u → ident u ≡ SHA-256 b
   unfolding ident
   decoded-id {u} d = ap SHA-256 (decode-sound b u d .1)
 
   -- an id that is found is known, one that is not is new
-  pub found-known : {u : Update} {k : ℕ} → decode b ≡ update u → findIn l (SHA-256 b) ≡ some k → member (ident u) (map ident us) ≡ true
+  pub found-known : {u : Update} {k : ℕ} → decode b ≡ update u → findIn (bookOf l) (SHA-256 b) ≡ some k → member (ident u) (map ident us) ≡ true
   found-known {u} {k} d f =
-      let r = find-right l s us (stands .holds) (SHA-256 b) k f in
+      let r = find-right (bookOf l) s us (stands .holds) (SHA-256 b) k f in
       ∈→member (∈-cast (decoded-id d ∙ sym (r .1)) (∈-map ident (stored-at us k (r .0))))
 
-  pub none-new : {u : Update} → decode b ≡ update u → findIn l (SHA-256 b) ≡ none → member (ident u) (map ident us) ≡ false
+  pub none-new : {u : Update} → decode b ≡ update u → findIn (bookOf l) (SHA-256 b) ≡ none → member (ident u) (map ident us) ≡ false
   none-new {u} d f =
       member-false (ident u) (map ident us)
-      (λ m. let r = map-∈ ident us m in find-none l s us (stands .holds) (SHA-256 b) f (r .0) (r .1) (r .2 ∙ decoded-id d))
+      (λ m. let r = map-∈ ident us m in find-none (bookOf l) s us (stands .holds) (SHA-256 b) f (r .0) (r .1) (r .2 ∙ decoded-id d))
 
   accept-known : {u : Update} → decode b ≡ update u → member (ident u) (map ident us) ≡ true → acceptDecoded us (decode b) ≡ us
   unfolding acceptDecoded
   accept-known d m = rw (d, m)
 
-  accept-full : {u : Update} → decode b ≡ update u → member (ident u) (map ident us) ≡ false → l .used ≡ places → acceptDecoded us (decode b) ≡ us
+  accept-full : {u : Update} → decode b ≡ update u → member (ident u) (map ident us) ≡ false → bookOf l .used ≡ places → acceptDecoded us (decode b) ≡ us
   unfolding acceptDecoded
   accept-full d m e = rw (d, m, le-ltb (length us) places (le-of-eq (sym e ∙ stands .holds .number)))
 
-  accept-new : {u : Update} → decode b ≡ update u → member (ident u) (map ident us) ≡ false → l .used < places
+  accept-new : {u : Update} → decode b ≡ update u → member (ident u) (map ident us) ≡ false → bookOf l .used < places
       → acceptDecoded us (decode b) ≡ us ++ (u ∷ [])
   unfolding acceptDecoded
   accept-new d m h = rw (d, m, lt-ltb (length us) places (subst (λ (n : ℕ). n < places) (stands .holds .number) h))
 
   -- an offer leads from a ledger that stands to one that stands for what is then stored
-  pub offer-stands : {r : Offered} {s′ : List ℕ} → Offering l s b r s′ → Stands (r .ledger) s′ (acceptDecoded us (decode b))
+  pub offer-stands : {r : Offered} {s′ : List ℕ} → Offering l s b r s′ → Stands (bookOf (r .ledger)) s′ (acceptDecoded us (decode b))
   unfolding acceptDecoded
-  offer-stands (unfit e) = absurd (true-false (stands-sound l s us stands) e)
+  offer-stands (unfit e) = absurd (true-false (stands-sound (bookOf l) s us stands) e)
   offer-stands (malformed m e d) = rw d stands
   offer-stands (known u k e d f) = rw (accept-known d (found-known d f)) stands
   offer-stands (full u e d f n) = rw (accept-full d (none-new d f) n) stands
   offer-stands (taken u r e d f n t) = rw (accept-new d (none-new d f) n) (t .settles us stands)
 
 -- from a ledger that stands, offers lead to one that stands for what is stored
-pub calls-stand : {l l′ : Ledger} {s s′ : List ℕ} {bs : List (List ℕ)} (us : List Update) → Stands l s us → Calls l s bs l′ s′ → Stands l′ s′ (storedFrom us bs)
+pub calls-stand : {l l′ : Ledger} {s s′ : List ℕ} {bs : List (List ℕ)} (us : List Update) → Stands (bookOf l) s us → Calls l s bs l′ s′ → Stands (bookOf l′) s′ (storedFrom us bs)
 unfolding storedFrom
 calls-stand us h done = h
 calls-stand us h (call {l = l} {s = s} {b = b} o c) = calls-stand (acceptDecoded us (decode b)) (offer-stands l s us h b o) c
 
 -- Demand 2 of offers: after any offers to a fresh ledger, with any store of the length, the ledger stands for the updates stored: their set, and each
 -- held, waiting or void exactly as the rules say for that set
-pub offers-stand : {l′ : Ledger} {s s′ : List ℕ} {bs : List (List ℕ)} → length s ≡ storeLength → Calls freshLedger s bs l′ s′ → Stands l′ s′ (stored bs)
+pub offers-stand : {l′ : Ledger} {s s′ : List ℕ} {bs : List (List ℕ)} → length s ≡ storeLength → Calls freshLedger s bs l′ s′ → Stands (bookOf l′) s′ (stored bs)
 unfolding freshLedger
-offers-stand {s = s} h c = calls-stand [] (fresh-stands freshLedger s refl refl h) c
+offers-stand {s = s} h c = calls-stand [] (fresh-stands (bookOf freshLedger) s refl h) c
 
 -- and `standing` answers so for every id
-pub record AnswersFor (l : Ledger) (s : List ℕ) (us : List Update) : Type 0 where
+pub record AnswersFor (l : Book) (s : List ℕ) (us : List Update) : Type 0 where
   pub held-asked : (u : Update) → Held ident us u → askedOf l s (ident u) ≡ Is IsHeld
   pub waiting-asked : (u : Update) → Waiting ident us u → askedOf l s (ident u) ≡ Is IsWaiting
   pub void-asked : (u : Update) → Void ident us u → askedOf l s (ident u) ≡ Is IsVoid
   pub unknown-asked : (i : Id) → ((u : Update) → u ∈ us → ident u ≡ i → ⊥) → askedOf l s i ≡ Unknown
 
-module _ (l : Ledger) (s : List ℕ) (us : List Update) (stands : Stands l s us) where
+module _ (l : Book) (s : List ℕ) (us : List Update) (stands : Stands l s us) where
   asked-found : (i : Id) (o : Option ℕ) → findIn l i ≡ o → askedOf l s i ≡ askedAt l o
   unfolding askedOf
   asked-found i o e = rw (stands-sound l s us stands, e)

@@ -19,11 +19,11 @@ use Rattle.rules.specs.Writing.{writtenOf, writableOf}
 use Rattle.rules.specs.WritingLaws.{written-held, written-no-fork, add-writable}
 use Rattle.bits.specs.Below.{countBelow}
 use Rattle.bits.specs.BelowLaws.{countBelow-more, countBelow-mono}
-use Rattle.state.specs.declared.Ledger.{Ledger}
-use Rattle.state.specs.declared.Place.{Place}
 use Rattle.state.specs.declared.Standing.{Standing}
 use Rattle.state.specs.declared.Standing.the-variants.{Held as IsHeld, Waiting as IsWaiting}
-use Rattle.state.specs.State.{places, placeAt, countOf, isHeld, isVoid}
+use Rattle.state.specs.declared.Ledger.{Ledger}
+use Rattle.state.specs.View.{bookOf}
+use Rattle.state.specs.State.{places, Place, Book, placeAt, countOf, isHeld, isVoid}
 use Rattle.state.specs.Stands.{ident, noUpdate, updateAt, Stands}
 use Rattle.state.specs.FindLaws.{stored-at, find-right}
 use Rattle.state.specs.TakeLaws.{stands-sound}
@@ -42,7 +42,7 @@ use Rattle.writing.specs.BoundLaws.{operation-bounded, rules-decode}
 use Rattle.writing.specs.Write.{WrittenUpdate, Writing, unfit, author, layout, unordered, invalid, short, written}
 
 -- the writer's answers taken apart
-module _ (l : Ledger) (s : List ℕ) (a : ℕ) (k : Kind) (t : List ℕ) (i : Id) (named o : List ℕ) where
+module _ (l : Book) (s : List ℕ) (a : ℕ) (k : Kind) (t : List ℕ) (i : Id) (named o : List ℕ) where
   pub record IsWritten (n : ℕ) (o′ : List ℕ) : Type 0 where
     pub value : Update
     pub number : n ≡ length (encode value)
@@ -91,13 +91,13 @@ module _ (l : Ledger) (s : List ℕ) (a : ℕ) (k : Kind) (t : List ℕ) (i : Id
   says-invalid w = wrote-says w
 
 -- "Add: always valid": the writer never refuses one with row 12
-pub add-not-invalid : (l : Ledger) (s : List ℕ) (us : List Update) → Stands l s us → (a : ℕ) (t : List ℕ) (i : Id) (named o : List ℕ) {o′ : List ℕ}
+pub add-not-invalid : (l : Book) (s : List ℕ) (us : List Update) → Stands l s us → (a : ℕ) (t : List ℕ) (i : Id) (named o : List ℕ) {o′ : List ℕ}
     → Writing l s a AnAdd t i named o (Refused Invalid) o′ → ⊥
 unfolding operationFor
 add-not-invalid l s us stands a t i named o w = true-false (add-writable ident us a t) (says-invalid l s a AnAdd t i named o w us stands)
 
 -- one more is held
-more-held : (l r : Ledger) → r .used ≡ l .used + 1 → ((j : ℕ) → j < l .used → (placeAt l j .standing ≡ IsWaiting → ⊥) → placeAt r j ≡ placeAt l j)
+more-held : (l r : Book) → r .used ≡ l .used + 1 → ((j : ℕ) → j < l .used → (placeAt l j .standing ≡ IsWaiting → ⊥) → placeAt r j ≡ placeAt l j)
     → placeAt r (l .used) .standing ≡ IsHeld → countOf isHeld l + 1 ≤ countOf isHeld r
 unfolding countOf isHeld
 more-held l r e kept new =
@@ -114,7 +114,7 @@ refused-update : {n : ℕ} {u : Update} → refused n ≡ update u → ⊥
 refused-update e = let z : _≡_ {A = ℕ} 0 1 = cc in omega arith
 
 -- the written bytes: the first n of the output
-module _ (l : Ledger) (s : List ℕ) (us : List Update) (stands : Stands l s us) (a : ℕ) (k : Kind) (t : List ℕ) (i : Id) (named o : List ℕ)
+module _ (l : Book) (s : List ℕ) (us : List Update) (stands : Stands l s us) (a : ℕ) (k : Kind) (t : List ℕ) (i : Id) (named o : List ℕ)
     (tag-sized : length t ≡ tagLength) (id-sized : length i ≡ idLength) {n : ℕ} {o′ : List ℕ} (wrote : Writing l s a k t i named o (Written n) o′) where
   abbrev op : Operation
   op = operationFor k t i named
@@ -158,13 +158,16 @@ module _ (l : Ledger) (s : List ℕ) (us : List Update) (stands : Stands l s us)
   unfolding ident
   id-is = ap SHA-256 (sym bytes-are)
 
-  -- Offered next, where a place is free and no stored update has its id, it is taken and held.
-  module _ (free : l .used < places) (fresh : (u : Update) → u ∈ us → ident u ≡ SHA-256 (take n o′) → ⊥) where
+  same-update : {u : Update} → decode (take n o′) ≡ update u → u ≡ writtenOf ident us a (operationFor k t i named)
+  same-update {u} d = let e : update u ≡ update new = sym d ∙ written-decodes in cc
+
+  -- where no stored update has its id
+  module _ (fresh : (u : Update) → u ∈ us → ident u ≡ SHA-256 (take n o′) → ⊥) where
     is-held : Held ident (us ++ (new ∷ [])) new
     is-held = written-held ident us (stands .holds .distinct) a op (λ u m e. fresh u m (e ∙ id-is)) (W .may us stands)
 
     -- the place that the update took
-    stands-held : (u : Update) (r : Ledger) {s′ : List ℕ} → u ≡ new → Stands r s′ (us ++ (u ∷ [])) → placeAt r (l .used) .standing ≡ IsHeld
+    stands-held : (u : Update) (r : Book) {s′ : List ℕ} → u ≡ new → Stands r s′ (us ++ (u ∷ [])) → placeAt r (l .used) .standing ≡ IsHeld
     stands-held u r {s′} e after =
         let q : l .used ≡ length us = stands .holds .number in
         let here : l .used < length (us ++ (u ∷ [])) = omega (arith, length-append us (u ∷ [])) in
@@ -174,20 +177,29 @@ module _ (l : Ledger) (s : List ℕ) (us : List Update) (stands : Stands l s us)
         (subst (λ (v : Update). Held ident (us ++ (u ∷ [])) v) (sym last)
         (subst (λ (v : Update). Held ident (us ++ (v ∷ [])) v) (sym e) is-held))
 
-    same-update : {u : Update} → decode bytes ≡ update u → u ≡ new
-    same-update {u} d = let e : update u ≡ update new = sym d ∙ written-decodes in cc
+-- Offered next, where a place is free and no stored update has its id, it is taken and held.
+module _ (l : Ledger) (s : List ℕ) (us : List Update) (stands : Stands (bookOf l) s us) (a : ℕ) (k : Kind) (t : List ℕ) (i : Id) (named o : List ℕ)
+    (tag-sized : length t ≡ tagLength) (id-sized : length i ≡ idLength) {n : ℕ} {o′ : List ℕ}
+    (wrote : Writing (bookOf l) s a k t i named o (Written n) o′) (free : bookOf l .used < places)
+    (fresh : (u : Update) → u ∈ us → ident u ≡ SHA-256 (take n o′) → ⊥) where
+  abbrev before : Book
+  before = bookOf l
 
-    pub written-taken : {r : Offered} {s′ : List ℕ} → Offering l s (take n o′) r s′
-        → (h v : ℕ) × (r .answer ≡ Taken IsHeld h v) × (1 ≤ h)
-    written-taken (not-fit e) = absurd (true-false (stands-sound l s us stands) e)
-    written-taken (malformed m e d) = absurd (refused-update (sym d ∙ written-decodes))
-    written-taken (known u j e d f) =
-        let r = find-right l s us (stands .holds) (SHA-256 bytes) j f in absurd (fresh (updateAt us j) (stored-at us j (r .0)) (r .1))
-    written-taken (full u e d f g) = absurd (omega arith)
-    written-taken (taken u r e d f g took) =
-        let v : placeAt r (l .used) .standing ≡ IsHeld = stands-held u r (same-update d) (took .settles us stands) in (
-          countOf isHeld r - countOf isHeld l,
-          countOf isVoid r - countOf isVoid l,
-          ap (λ (w : Standing). Taken w (countOf isHeld r - countOf isHeld l) (countOf isVoid r - countOf isVoid l)) v,
-          omega (arith, more-held l r (took .used-next) (took .old-settled) v),
-        )
+  pub written-taken : {r : Offered} {s′ : List ℕ} → Offering l s (take n o′) r s′
+      → (h v : ℕ) × (r .answer ≡ Taken IsHeld h v) × (1 ≤ h)
+  written-taken (not-fit e) = absurd (true-false (stands-sound before s us stands) e)
+  written-taken (malformed m e d) =
+      absurd (refused-update (sym d ∙ written-decodes before s us stands a k t i named o tag-sized id-sized wrote))
+  written-taken (known u j e d f) =
+      let r = find-right before s us (stands .holds) (SHA-256 (take n o′)) j f in absurd (fresh (updateAt us j) (stored-at us j (r .0)) (r .1))
+  written-taken (full u e d f g) = absurd (omega arith)
+  written-taken (taken u r e d f g took) =
+      let after : Book = bookOf r in
+      let v : placeAt after (before .used) .standing ≡ IsHeld =
+      stands-held before s us stands a k t i named o tag-sized id-sized wrote fresh u after
+      (same-update before s us stands a k t i named o tag-sized id-sized wrote d) (took .settles us stands) in (
+        countOf isHeld after - countOf isHeld before,
+        countOf isVoid after - countOf isVoid before,
+        ap (λ (w : Standing). Taken w (countOf isHeld after - countOf isHeld before) (countOf isVoid after - countOf isVoid before)) v,
+        omega (arith, more-held before after (took .used-next) (took .old-settled) v),
+      )

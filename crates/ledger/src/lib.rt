@@ -1,6 +1,7 @@
 // The hours ledger: the public library. Copies of the ledger take updates in any order; each stored update is held, waiting or void by its ancestors
 // alone. The bookkeeping goes in by value and the new one comes back; the updates' bytes lie in a store that the caller lends.
 ghost use mathlib.Core.Path.{_≡_};
+ghost use Rattle.state.specs.View.{bookOf};
 ghost use Rattle.offering.specs.Offer.{Offering};
 ghost use Rattle.ledger.specs.Ask.{askedOf};
 ghost use Rattle.ledger.specs.Report.{Reporting};
@@ -46,7 +47,7 @@ pub fn offer(ledger: Ledger, store: &mut [u8], update: &[u8]) -> Offered
 
 // The standing of an id.
 pub fn standing(ledger: Ledger, store: &[u8], id: [u8; 32]) -> Asked
-    ensures { λ r. ⌜ r ≡ askedOf ledger (now (store .entry)) id ⌝ }
+    ensures { λ r. ⌜ r ≡ askedOf (bookOf ledger) (now (store .entry)) id ⌝ }
 {
     if !sound(ledger, store) {
         return Asked::Refused(Refusal::Unfit);
@@ -69,7 +70,7 @@ pub enum Reported {
 
 // Puts the report at the start of the output buffer; the bytes after it keep their values.
 pub fn report(ledger: Ledger, store: &[u8], out: &mut [u8]) -> Reported
-    ensures { λ r. ⌜ Reporting ledger (now (store .entry)) (now (out .entry)) r (now (out .exit)) ⌝ }
+    ensures { λ r. ⌜ Reporting (bookOf ledger) (now (store .entry)) (now (out .entry)) r (now (out .exit)) ⌝ }
 {
     if !sound(ledger, store) {
         return Reported::Refused(Refusal::Unfit);
@@ -95,7 +96,7 @@ pub fn write(
     named: &[u8],
     out: &mut [u8],
 ) -> Wrote
-    ensures { λ r. ⌜ Writing ledger (now (store .entry)) author kind tag id (now (named .entry)) (now (out .entry)) r (now (out .exit)) ⌝ }
+    ensures { λ r. ⌜ Writing (bookOf ledger) (now (store .entry)) author kind tag id (now (named .entry)) (now (out .entry)) r (now (out .exit)) ⌝ }
 {
     if !sound(ledger, store) {
         return Wrote::Refused(Refusal::Unfit);

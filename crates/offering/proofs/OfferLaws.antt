@@ -15,6 +15,7 @@ use Rattle.format.specs.declared.Reading.{Reading}
 use Rattle.format.specs.declared.Reading.the-variants.{Update as Accepted, Refused as NotRead}
 use Rattle.state.specs.declared.Ledger.{Ledger}
 use Rattle.state.specs.State.{places, placeAt, written, findIn, isHeld, isVoid, countOf}
+use Rattle.state.specs.View.{bookOf}
 use Rattle.state.specs.Row1.{sound}
 use Rattle.refusals.specs.declared.Refusal.the-variants.{Unfit, Malformed as Bad, Full}
 use Rattle.offering.specs.declared.Answer.the-variants.{Taken, Known, Refused}
@@ -22,31 +23,31 @@ use Rattle.offering.specs.declared.Offered.{Offered}
 use Rattle.offering.specs.Offer.{left, Took, Formed, Offering, unfit, malformed, known, full, taken}
 
 module _ (l : Ledger) (s b : List ℕ) where
-  pub offered-unfit : sound l s ≡ false → {o : Offered} → o ≡ left l (Refused Unfit) → Offering l s b o s
+  pub offered-unfit : sound (bookOf l) s ≡ false → {o : Offered} → o ≡ left l (Refused Unfit) → Offering l s b o s
   offered-unfit h e = rw e (unfit h)
 
   -- by what reading the bytes answered
-  module _ (fits : sound l s ≡ true) (r : Reading) (read : decodedOf b r ≡ decode b) where
+  module _ (fits : sound (bookOf l) s ≡ true) (r : Reading) (read : decodedOf b r ≡ decode b) where
     pub offered-malformed : (m : Malformed) → r ≡ NotRead m → {o : Offered} → o ≡ left l (Refused (Bad m)) → Offering l s b o s
     offered-malformed m h e = rw e (malformed m fits (sym read ∙ ap (decodedOf b) h))
 
-    pub read-formed : (p : Parsed) → r ≡ Accepted p → Formed l s b
+    pub read-formed : (p : Parsed) → r ≡ Accepted p → Formed (bookOf l) s b
     read-formed p h = record { is-sound = fits; value = valueOf b p; decodes = sym read ∙ ap (decodedOf b) h }
 
   -- by where the id was found
-  module _ (f : Formed l s b) (i : Id) (hashed : i ≡ SHA-256 b) where
-    pub offered-known : (k : ℕ) → findIn l i ≡ some k → {o : Offered} → o ≡ left l (Known (placeAt l k .standing))
+  module _ (f : Formed (bookOf l) s b) (i : Id) (hashed : i ≡ SHA-256 b) where
+    pub offered-known : (k : ℕ) → findIn (bookOf l) i ≡ some k → {o : Offered} → o ≡ left l (Known (placeAt (bookOf l) k .standing))
         → Offering l s b o s
-    offered-known k h e = rw e (known (f .value) k (f .is-sound) (f .decodes) (ap (findIn l) (sym hashed) ∙ h))
+    offered-known k h e = rw e (known (f .value) k (f .is-sound) (f .decodes) (ap (findIn (bookOf l)) (sym hashed) ∙ h))
 
-    pub offered-full : findIn l i ≡ none → l .used ≡ places → {o : Offered} → o ≡ left l (Refused Full) → Offering l s b o s
-    offered-full h n e = rw e (full (f .value) (f .is-sound) (f .decodes) (ap (findIn l) (sym hashed) ∙ h) n)
+    pub offered-full : findIn (bookOf l) i ≡ none → bookOf l .used ≡ places → {o : Offered} → o ≡ left l (Refused Full) → Offering l s b o s
+    offered-full h n e = rw e (full (f .value) (f .is-sound) (f .decodes) (ap (findIn (bookOf l)) (sym hashed) ∙ h) n)
 
     -- a place is taken: the new place, and the counts after and before
-    pub offered-taken : findIn l i ≡ none → l .used < places → {r : Ledger} {s′ : List ℕ} → Took l s b (f .value) r s′
-        → s′ ≡ written s (maxLength * l .used) b → {h₁ h₀ v₁ v₀ : ℕ}
-        → h₁ ≡ countOf isHeld r → h₀ ≡ countOf isHeld l → v₁ ≡ countOf isVoid r → v₀ ≡ countOf isVoid l
-        → Offering l s b (record { answer = Taken (placeAt r (l .used) .standing) (h₁ - h₀) (v₁ - v₀); ledger = r }) s′
+    pub offered-taken : findIn (bookOf l) i ≡ none → bookOf l .used < places → {r : Ledger} {s′ : List ℕ} → Took (bookOf l) s b (f .value) (bookOf r) s′
+        → s′ ≡ written s (maxLength * bookOf l .used) b → {h₁ h₀ v₁ v₀ : ℕ}
+        → h₁ ≡ countOf isHeld (bookOf r) → h₀ ≡ countOf isHeld (bookOf l) → v₁ ≡ countOf isVoid (bookOf r) → v₀ ≡ countOf isVoid (bookOf l)
+        → Offering l s b (record { answer = Taken (placeAt (bookOf r) (bookOf l .used) .standing) (h₁ - h₀) (v₁ - v₀); ledger = r }) s′
     offered-taken h n {r} t w e₁ e₀ d₁ d₀ =
         rw (e₁, e₀, d₁, d₀, w)
-        (taken (f .value) r (f .is-sound) (f .decodes) (ap (findIn l) (sym hashed) ∙ h) n (subst (Took l s b (f .value) r) w t))
+        (taken (f .value) r (f .is-sound) (f .decodes) (ap (findIn (bookOf l)) (sym hashed) ∙ h) n (subst (Took (bookOf l) s b (f .value) (bookOf r)) w t))

@@ -8,7 +8,7 @@ use mathlib.Core.Logic.{⊎-elim}
 use mathlib.Core.List.{List, [], _∷_, _++_}
 use mathlib.Core.Option.{none}
 use mathlib.Core.Bool.{Bool, true, false, cond}
-use lib.ListN.{length, length-set}
+use lib.ListN.{length}
 use Rattle.keys.specs.Member.{_∈_}
 use Rattle.keys.specs.BoolLaws.{true-false}
 use Rattle.fips180.specs.Fips180.{SHA-256}
@@ -18,11 +18,9 @@ use Rattle.format.specs.Laws.{decode-sound, accepted}
 use Rattle.bits.specs.Below.{countBelow}
 use Rattle.bits.specs.BelowLaws.{countBelow-mono, countBelow-more}
 use Rattle.bits.specs.BitsLaws.{within-more, within-none}
-use Rattle.state.specs.declared.Ledger.{Ledger}
-use Rattle.state.specs.declared.Place.{Place}
 use Rattle.state.specs.declared.Standing.{Standing}
 use Rattle.state.specs.declared.Standing.the-variants.{Waiting}
-use Rattle.state.specs.State.{places, placeAt, withTaken, written, findIn, isHeld, isVoid, countOf}
+use Rattle.state.specs.State.{places, Place, Book, placeAt, withTaken, written, findIn, isHeld, isVoid, countOf}
 use Rattle.state.specs.Row1.{sound}
 use Rattle.state.specs.Row1Laws.{SoundPlace, sound→, sound←}
 use Rattle.settling.specs.Settle.{OthersWait, SettledFrom}
@@ -34,16 +32,15 @@ use Rattle.settling.specs.SettleLaws.{settled-kept-all, settled-sound, settled-
 use Rattle.offering.specs.Offer.{Took}
 
 -- the update u with bytes b is offered, and a place is free
-module _ (l : Ledger) (s b : List ℕ) (u : Update) (fits : sound l s ≡ true) (decodes : decode b ≡ update u) (free : l .used < places)
-    (whole : length (l .places) ≡ places) where
+module _ (l : Book) (s b : List ℕ) (u : Update) (fits : sound l s ≡ true) (decodes : decode b ≡ update u) (free : l .used < places) where
   abbrev place : Place
   place = record { id = SHA-256 b; length = length b; ancestors = 0; standing = Waiting }
 
-  abbrev taken : Ledger
+  abbrev taken : Book
   taken = withTaken l (SHA-256 b) (length b)
 
   at-new : placeAt taken (l .used) ≡ place
-  at-new = taken-new l (SHA-256 b) (length b) (omega (arith, whole))
+  at-new = taken-new l (SHA-256 b) (length b)
 
   at-old : (k : ℕ) → (k ≡ l .used → ⊥) → placeAt taken k ≡ placeAt l k
   at-old = taken-old l (SHA-256 b) (length b)
@@ -74,10 +71,10 @@ module _ (l : Ledger) (s b : List ℕ) (u : Update) (fits : sound l s ≡ true) 
       })
 
   -- i is the id, t the ledger with the place taken, r what it is once settled, and s′ the store with the bytes written
-  module _ {i : Id} (hashed : i ≡ SHA-256 b) (unknown : findIn l i ≡ none) {t r : Ledger} (grown : t ≡ withTaken l i (length b)) {s′ : List ℕ}
+  module _ {i : Id} (hashed : i ≡ SHA-256 b) (unknown : findIn l i ≡ none) {t r : Book} (grown : t ≡ withTaken l i (length b)) {s′ : List ℕ}
       (wrote : s′ ≡ written s (maxLength * l .used) b) (same : length s′ ≡ length s) (settling : SettledFrom t s′ r) where
     settled : SettledFrom taken s′ r
-    settled = subst (λ (m : Ledger). SettledFrom m s′ r) (grown ∙ ap (λ (j : Id). withTaken l j (length b)) hashed) settling
+    settled = subst (λ (m : Book). SettledFrom m s′ r) (grown ∙ ap (λ (j : Id). withTaken l j (length b)) hashed) settling
 
     taken-stands : (us : List Update) → Stands l s us → Stands r s′ (us ++ (u ∷ []))
     unfolding ident
@@ -108,12 +105,12 @@ module _ (l : Ledger) (s b : List ℕ) (u : Update) (fits : sound l s ≡ true) 
               let e = at-old k (λ (e : k ≡ l .used). omega arith) in
               kept .settled-kept k (λ q. n (ap (λ (p : Place). p .standing) (sym e) ∙ q)) ∙ e;
           untaken = λ k h. kept .untaken-kept k (omega arith) ∙ at-old k (λ (e : k ≡ l .used). omega arith);
-          still-sound = settled-sound taken s′ r settled (length-set (l .places) (l .used) place ∙ whole) (taken-sound s′ same);
+          still-sound = settled-sound taken s′ r settled (taken-sound s′ same);
           settles = taken-stands;
         }
 
 -- a standing other than waiting is as often there as before, or more often
-module _ {l : Ledger} {s b : List ℕ} {u : Update} {r : Ledger} {s′ : List ℕ} (t : Took l s b u r s′) where
+module _ {l : Book} {s b : List ℕ} {u : Update} {r : Book} {s′ : List ℕ} (t : Took l s b u r s′) where
   one-more : (c : Bool) (n : ℕ) → n ≤ cond c (n + 1) n
   one-more true n = omega arith
   one-more false n = omega arith

@@ -13,7 +13,8 @@ use Rattle.format.specs.Reading.{numberOf}
 use Rattle.format.specs.declared.Malformed.{Malformed}
 use Rattle.state.specs.declared.Ledger.{Ledger}
 use Rattle.state.specs.declared.Standing.the-variants.{Waiting}
-use Rattle.state.specs.State.{places, placeAt, findIn, written, isHeld, isVoid, countOf}
+use Rattle.state.specs.State.{places, Book, placeAt, findIn, written, isHeld, isVoid, countOf}
+use Rattle.state.specs.View.{bookOf}
 use Rattle.state.specs.Row1.{sound}
 use Rattle.state.specs.Stands.{Stands}
 use Rattle.refusals.specs.declared.Refusal.the-variants.{Unfit, Malformed as Bad, Full}
@@ -25,9 +26,9 @@ use Rattle.offering.specs.declared.Offered.{Offered}
 abbrev pub left : Ledger → Answer → Offered
 left l a = record { answer = a; ledger = l }
 
--- What holds of the ledger r and the store s′ after the update u, with bytes b, took the next place of l. What the rules leave free, for a ledger or a
+-- What holds of the bookkeeping r and the store s′ after the update u, with bytes b, took the next place of l. What the rules leave free, for a ledger or a
 -- store that is not the library's own, is which waiting places are settled, and how.
-pub record Took (l : Ledger) (s b : List ℕ) (u : Update) (r : Ledger) (s′ : List ℕ) : Type 0 where
+pub record Took (l : Book) (s b : List ℕ) (u : Update) (r : Book) (s′ : List ℕ) : Type 0 where
   -- "Every distinct well-formed update takes the next one and keeps it"
   pub used-next : r .used ≡ l .used + 1
   pub new-id : placeAt r (l .used) .id ≡ SHA-256 b
@@ -43,7 +44,7 @@ pub record Took (l : Ledger) (s b : List ℕ) (u : Update) (r : Ledger) (s′ : 
   pub settles : (us : List Update) → Stands l s us → Stands r s′ (us ++ (u ∷ []))
 
 -- the offered bytes are a well-formed update, and row 1 does not apply
-pub record Formed (l : Ledger) (s b : List ℕ) : Type 0 where
+pub record Formed (l : Book) (s b : List ℕ) : Type 0 where
   pub is-sound : sound l s ≡ true
   pub value : Update
   pub decodes : decode b ≡ update value
@@ -52,22 +53,22 @@ pub record Formed (l : Ledger) (s b : List ℕ) : Type 0 where
 -- each row of the table, in its order, and for the two accepted answers.
 pub data Offering (l : Ledger) (s b : List ℕ) : Offered → List ℕ → Type 0 where
   -- row 1
-  unfit : sound l s ≡ false → Offering l s b (left l (Refused Unfit)) s
+  unfit : sound (bookOf l) s ≡ false → Offering l s b (left l (Refused Unfit)) s
   -- rows 2 to 9
-  malformed : (m : Malformed) → sound l s ≡ true → decode b ≡ refused (numberOf m) → Offering l s b (left l (Refused (Bad m))) s
+  malformed : (m : Malformed) → sound (bookOf l) s ≡ true → decode b ≡ refused (numberOf m) → Offering l s b (left l (Refused (Bad m))) s
   -- "a known id gets its standing before 10"; "a known update changes nothing"
-  known : (u : Update) (k : ℕ) → sound l s ≡ true → decode b ≡ update u → findIn l (SHA-256 b) ≡ some k
-      → Offering l s b (left l (Known (placeAt l k .standing))) s
+  known : (u : Update) (k : ℕ) → sound (bookOf l) s ≡ true → decode b ≡ update u → findIn (bookOf l) (SHA-256 b) ≡ some k
+      → Offering l s b (left l (Known (placeAt (bookOf l) k .standing))) s
   -- row 10
-  full : (u : Update) → sound l s ≡ true → decode b ≡ update u → findIn l (SHA-256 b) ≡ none → l .used ≡ places
+  full : (u : Update) → sound (bookOf l) s ≡ true → decode b ≡ update u → findIn (bookOf l) (SHA-256 b) ≡ none → bookOf l .used ≡ places
       → Offering l s b (left l (Refused Full)) s
   -- "the update's own standing, as the rules give it once the offer has settled, with the two counts": "held after less held before, and void after less
   -- void before"
-  taken : (u : Update) (r : Ledger) → sound l s ≡ true → decode b ≡ update u → findIn l (SHA-256 b) ≡ none → l .used < places
-      → Took l s b u r (written s (maxLength * l .used) b)
+  taken : (u : Update) (r : Ledger) → sound (bookOf l) s ≡ true → decode b ≡ update u → findIn (bookOf l) (SHA-256 b) ≡ none → bookOf l .used < places
+      → Took (bookOf l) s b u (bookOf r) (written s (maxLength * bookOf l .used) b)
       → Offering l s b
       (record {
-        answer = Taken (placeAt r (l .used) .standing) (countOf isHeld r - countOf isHeld l) (countOf isVoid r - countOf isVoid l);
+        answer = Taken (placeAt (bookOf r) (bookOf l .used) .standing) (countOf isHeld (bookOf r) - countOf isHeld (bookOf l)) (countOf isVoid (bookOf r) - countOf isVoid (bookOf l));
         ledger = r;
       })
-      (written s (maxLength * l .used) b)
+      (written s (maxLength * bookOf l .used) b)

@@ -4,6 +4,7 @@ ghost use mathlib.Core.Option.{none};
 ghost use Prim.Native.Nat.{_<_};
 ghost use Rattle.fips180.specs.Fips180.{SHA-256};
 ghost use Rattle.state.specs.State.{findIn};
+ghost use Rattle.state.specs.View.{bookOf};
 ghost use Rattle.offering.specs.Offer.{Offering, left as leftAs, Formed};
 use refusals::Refusal;
 use settling::settle;
@@ -47,7 +48,7 @@ pub fn left(ledger: Ledger, answer: Answer) -> Offered
 
 // Takes the next place for an update whose id is not stored.
 fn take(ledger: Ledger, store: &mut [u8], update: &[u8], id: [u8; 32]) -> Offered
-    requires { ⌜ Formed ledger (now store) (now update) × (id ≡ SHA-256 (now update)) × (findIn ledger id ≡ none) × (ledger .used < 64) ⌝ }
+    requires { ⌜ Formed (bookOf ledger) (now store) (now update) × (id ≡ SHA-256 (now update)) × (findIn (bookOf ledger) id ≡ none) × (bookOf ledger .used < 64) ⌝ }
     ensures { λ r. ⌜ Offering ledger (now (store .entry)) (now (update .entry)) r (now (store .exit)) ⌝ }
 {
     let k = ledger.used;
@@ -69,7 +70,7 @@ fn take(ledger: Ledger, store: &mut [u8], update: &[u8], id: [u8; 32]) -> Offere
 
 // The offer of a well-formed update: hashed once, and looked up.
 pub fn offer_formed(ledger: Ledger, store: &mut [u8], update: &[u8]) -> Offered
-    requires { ⌜ Formed ledger (now store) (now update) ⌝ }
+    requires { ⌜ Formed (bookOf ledger) (now store) (now update) ⌝ }
     ensures { λ r. ⌜ Offering ledger (now (store .entry)) (now (update .entry)) r (now (store .exit)) ⌝ }
 {
     let id = sha256::digest(update);

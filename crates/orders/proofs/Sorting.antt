@@ -18,11 +18,11 @@ use Rattle.keys.specs.MemberLaws.{keep-all}
 use Rattle.keys.specs.declared.Order.{Order}
 use Rattle.keys.specs.declared.Order.the-variants.{Less, Equal, Greater}
 use Rattle.bits.specs.Below.{upTo}
-use Rattle.state.specs.declared.Ledger.{Ledger}
 use Rattle.orders.specs.declared.Key.the-variants.{Id}
 use Rattle.relations.specs.PlaceTests.{idAt, order}
 use Rattle.orders.specs.Pieces.{ins, candidate, sortedBy}
 use Rattle.orders.proofs.Inserting.{shift}
+use Rattle.state.specs.State.{Book}
 
 module _ (key : ℕ → List ℕ) (x : ℕ) where
   abbrev byOrder : Order → ℕ → List ℕ → List ℕ
@@ -117,7 +117,7 @@ module _ (key : ℕ → List ℕ) (p : ℕ → Bool) (n : ℕ) where
   from-all k h = let e : k ≡ 0 = omega arith in ap from e
 
 -- the places by id
-module _ (l : Ledger) (s : List ℕ) where
+module _ (l : Book) (s : List ℕ) where
   pub sorted-ids : sortedBy l s Id ≡ order l s
   unfolding sortedBy order
   sorted-ids = ap (sort (idAt l s)) (keep-all (candidate l s Id) (upTo (l .used)) (λ x m. refl))

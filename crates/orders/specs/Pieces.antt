@@ -10,9 +10,7 @@ use Rattle.keys.specs.Member.{keep, all}
 use Rattle.keys.specs.Sort.{sort}
 use Rattle.bits.specs.Below.{upTo}
 use Rattle.fields.specs.Fields.{tagIn}
-use Rattle.state.specs.declared.Ledger.{Ledger}
-use Rattle.state.specs.declared.Place.{Place}
-use Rattle.state.specs.State.{places, placeAt}
+use Rattle.state.specs.State.{places, Place, Book, placeAt}
 use Rattle.relations.specs.PlaceTests.{presentAt}
 use Rattle.relations.specs.Related.{decodedIn}
 use Rattle.orders.specs.declared.Places.{Places}
@@ -47,7 +45,7 @@ abbrev pub keyIn : List ℕ → Key → Place → ℕ → List ℕ
 keyIn s Id p k = p .id
 keyIn s Tag p k = tagIn (decodedIn s p k)
 
-module _ (l : Ledger) (s : List ℕ) where
+module _ (l : Book) (s : List ℕ) where
   -- what an ascending list goes by, the places that it lists, and the list
   abbrev pub keyOf : Key → ℕ → List ℕ
   keyOf y k = keyIn s y (placeAt l k) k

@@ -5,6 +5,7 @@ ghost use Prim.Native.Nat.{_+_, _≤_, _<_};
 ghost use Rattle.keys.specs.Compare.{orderOf};
 ghost use Rattle.keys.specs.Sort.{insert as insertBy};
 ghost use Rattle.fields.specs.Fields.{tagIn};
+ghost use Rattle.state.specs.View.{placeOf, bookOf};
 ghost use Rattle.orders.specs.Pieces.{placesIn, Sound, Lists, keyIn, keyOf, candidate as candidateOf, sortedBy};
 ghost use Rattle.relations.specs.Related.{decodedIn};
 use crate::Key;
@@ -18,7 +19,7 @@ use survey::compare_ids;
 // How the tag of the one place, j, stands to that of the other, k.
 fn compare_tags(store: &[u8], own: Place, j: usize, other: Place, k: usize) -> Order
     requires { ⌜ (j < 64) × (k < 64) ⌝ }
-    ensures { λ r. ⌜ r ≡ orderOf (tagIn (decodedIn (now (store .entry)) own j)) (tagIn (decodedIn (now (store .entry)) other k)) ⌝ }
+    ensures { λ r. ⌜ r ≡ orderOf (tagIn (decodedIn (now (store .entry)) (placeOf own) j)) (tagIn (decodedIn (now (store .entry)) (placeOf other) k)) ⌝ }
 {
     let tag = fields::tag_of(stored(store, j, own.length));
     keys::compare(tag, fields::tag_of(stored(store, k, other.length)))
@@ -27,7 +28,7 @@ fn compare_tags(store: &[u8], own: Place, j: usize, other: Place, k: usize) -> O
 // How the key of the one place, j, stands to that of the other, k.
 fn compare(store: &[u8], key: Key, own: Place, j: usize, other: Place, k: usize) -> Order
     requires { ⌜ (j < 64) × (k < 64) ⌝ }
-    ensures { λ r. ⌜ r ≡ orderOf (keyIn (now (store .entry)) key own j) (keyIn (now (store .entry)) key other k) ⌝ }
+    ensures { λ r. ⌜ r ≡ orderOf (keyIn (now (store .entry)) key (placeOf own) j) (keyIn (now (store .entry)) key (placeOf other) k) ⌝ }
 {
     match key {
         Key::Id => compare_ids(own, other),
@@ -38,7 +39,7 @@ fn compare(store: &[u8], key: Key, own: Place, j: usize, other: Place, k: usize)
 // The list with place j among it, unless its key is there.
 fn insert(l: Ledger, store: &[u8], key: Key, places: Places, j: usize) -> Places
     requires { ⌜ Sound places × (places .count < 64) × (j < 64) ⌝ }
-    ensures { λ r. ⌜ Lists r (insertBy (keyOf l (now (store .entry)) key) j (placesIn places)) × (r .count ≤ places .count + 1) ⌝ }
+    ensures { λ r. ⌜ Lists r (insertBy (keyOf (bookOf l) (now (store .entry)) key) j (placesIn places)) × (r .count ≤ places .count + 1) ⌝ }
 {
     let count = places.count;
     let own = l.places[j];
@@ -56,8 +57,8 @@ fn insert(l: Ledger, store: &[u8], key: Key, places: Places, j: usize) -> Places
 
 // Whether place k is listed.
 fn candidate(l: Ledger, store: &[u8], key: Key, k: usize) -> bool
-    requires { ⌜ (l .used ≤ 64) × (k < 64) ⌝ }
-    ensures { λ r. ⌜ r ≡ candidateOf l (now (store .entry)) key k ⌝ }
+    requires { ⌜ (bookOf l .used ≤ 64) × (k < 64) ⌝ }
+    ensures { λ r. ⌜ r ≡ candidateOf (bookOf l) (now (store .entry)) key k ⌝ }
 {
     match key {
         Key::Id => true,
@@ -67,8 +68,8 @@ fn candidate(l: Ledger, store: &[u8], key: Key, k: usize) -> bool
 
 // The list with place k among it, if it is listed.
 fn insert_listed(l: Ledger, store: &[u8], key: Key, places: Places, k: usize) -> Places
-    requires { ⌜ (l .used ≤ 64) × Sound places × (places .count < 64) × (k < 64) ⌝ }
-    ensures { λ r. ⌜ Lists r (cond (candidateOf l (now (store .entry)) key k) (insertBy (keyOf l (now (store .entry)) key) k (placesIn places)) (placesIn places)) × (r .count ≤ places .count + 1) ⌝ }
+    requires { ⌜ (bookOf l .used ≤ 64) × Sound places × (places .count < 64) × (k < 64) ⌝ }
+    ensures { λ r. ⌜ Lists r (cond (candidateOf (bookOf l) (now (store .entry)) key k) (insertBy (keyOf (bookOf l) (now (store .entry)) key) k (placesIn places)) (placesIn places)) × (r .count ≤ places .count + 1) ⌝ }
 {
     if candidate(l, store, key, k) {
         insert(l, store, key, places, k)
@@ -79,8 +80,8 @@ fn insert_listed(l: Ledger, store: &[u8], key: Key, places: Places, k: usize) ->
 
 // The listed places, ascending by key, of each key one.
 pub fn sorted(l: Ledger, store: &[u8], key: Key) -> Places
-    requires { ⌜ l .used ≤ 64 ⌝ }
-    ensures { λ r. ⌜ Lists r (sortedBy l (now (store .entry)) key) ⌝ }
+    requires { ⌜ bookOf l .used ≤ 64 ⌝ }
+    ensures { λ r. ⌜ Lists r (sortedBy (bookOf l) (now (store .entry)) key) ⌝ }
 {
     let mut places = Places::none();
     let mut k = l.used;

@@ -16,9 +16,8 @@ use Rattle.keys.specs.ListLaws.{take-∈}
 use Rattle.bits.specs.Below.{firstBelow, orElse}
 use Rattle.bits.specs.BelowLaws.{firstBelow-more, firstBelow-some→, firstBelow-some←, firstBelow-none→}
 use Rattle.bits.specs.Bits.{has}
-use Rattle.state.specs.declared.Ledger.{Ledger}
 use Rattle.state.specs.declared.Found.the-variants.{At, Nowhere}
-use Rattle.state.specs.State.{placeAt, foundOf}
+use Rattle.state.specs.State.{Book, placeAt, foundOf}
 use Rattle.state.proofs.FindLaws.{found-at}
 use Rattle.orders.specs.declared.Places.{Places}
 use Rattle.relations.specs.PlaceTests.{headAt, order}
@@ -29,7 +28,7 @@ use Rattle.predecessors.specs.Choose.{headsOf, aboveAt, eightWith, eight
 
 -- heads
 
-module _ (l : Ledger) (s : List ℕ) (o : Places) (sound : Sound o) where
+module _ (l : Book) (s : List ℕ) (o : Places) (sound : Sound o) where
   pub heads-start : [] ≡ keep (headAt l s) (take 0 (placesIn o))
   unfolding keep
   heads-start = refl
@@ -47,14 +46,14 @@ module _ (l : Ledger) (s : List ℕ) (o : Places) (sound : Sound o) where
 
 -- a head at or above a place
 
-pub above-same : (l : Ledger) (t h : ℕ) → h ≡ t → true ≡ (eqb h t || has (placeAt l h .ancestors) t)
+pub above-same : (l : Book) (t h : ℕ) → h ≡ t → true ≡ (eqb h t || has (placeAt l h .ancestors) t)
 above-same l t h e = ap (λ (b : Bool). b || has (placeAt l h .ancestors) t) (sym (eq-eqb h t e))
 
-pub above-other : (l : Ledger) (t h : ℕ) {b : Bool} → (h ≡ t → ⊥) → b ≡ has (placeAt l h .ancestors) t
+pub above-other : (l : Book) (t h : ℕ) {b : Bool} → (h ≡ t → ⊥) → b ≡ has (placeAt l h .ancestors) t
     → b ≡ (eqb h t || has (placeAt l h .ancestors) t)
 above-other l t h n f = f ∙ ap (λ (b : Bool). b || has (placeAt l h .ancestors) t) (sym (ne-eqb h t n))
 
-module _ (l : Ledger) (s : List ℕ) (o : Places) (lists : Lists o (headsOf l s)) (t : ℕ) where
+module _ (l : Book) (s : List ℕ) (o : Places) (lists : Lists o (headsOf l s)) (t : ℕ) where
   heads-length : length (headsOf l s) ≡ o .count
   heads-length = ap length (sym (lists .are)) ∙ length-is o (lists .sound)
 
@@ -115,7 +114,7 @@ first-lists o n s h =
     isPlace k = ltb k 64
 
 -- eight of the heads
-module _ (l : Ledger) (s : List ℕ) (o : Places) (lists : Lists o (headsOf l s)) where
+module _ (l : Book) (s : List ℕ) (o : Places) (lists : Lists o (headsOf l s)) where
   module _ (t : ℕ) where
     pub eight-none : firstBelow (length (headsOf l s)) (aboveAt l s t) ≡ none → take 8 (placesIn o) ≡ eightFor l s (some t)
     unfolding eightFor eightWith

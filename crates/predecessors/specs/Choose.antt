@@ -11,12 +11,11 @@ use Rattle.keys.specs.Member.{keep}
 use Rattle.format.specs.Update.{maxPredecessors}
 use Rattle.bits.specs.Below.{firstBelow}
 use Rattle.bits.specs.Bits.{has}
-use Rattle.state.specs.declared.Ledger.{Ledger}
-use Rattle.state.specs.State.{placeAt}
+use Rattle.state.specs.State.{Book, placeAt}
 use Rattle.relations.specs.PlaceTests.{headAt, order}
 use Rattle.highest.specs.Top.{topBelow}
 
-module _ (l : Ledger) (s : List ℕ) where
+module _ (l : Book) (s : List ℕ) where
   -- the heads, ascending by id
   unfoldable pub headsOf : List ℕ
   headsOf = keep (headAt l s) (order l s)

@@ -23,8 +23,7 @@ use Rattle.rules.specs.Writing.{heldBy, ranked, atOrAbove, firstHeads, others, 
 use Rattle.bits.specs.Below.{firstBelow}
 use Rattle.bits.specs.BelowLaws.{firstBelow-some→, firstBelow-none→}
 use Rattle.bits.specs.Bits.{has}
-use Rattle.state.specs.declared.Ledger.{Ledger}
-use Rattle.state.specs.State.{placeAt}
+use Rattle.state.specs.State.{Book, placeAt}
 use Rattle.state.specs.Stands.{ident, Stands}
 use Rattle.relations.specs.PlaceTests.{idAt, heldAt, coveredAt, headAt, order}
 use Rattle.relations.specs.RowLaws.{rowAt, row-id, order-∈, order-ascending, table-rows, above-agrees, head-agrees, same-agrees}
@@ -33,7 +32,7 @@ use Rattle.highest.specs.TopLaws.{RankedBy, top-right}
 use Rattle.predecessors.specs.Choose.{headsOf, aboveAt, eightWith, eightFor, chosenPlaces}
 use Rattle.predecessors.specs.FrontLaws.{take-map, first-kept, none-kept, ascending-take, front-with}
 
-module _ {l : Ledger} {s : List ℕ} {us : List Update} (stands : Stands l s us) where
+module _ {l : Book} {s : List ℕ} {us : List Update} (stands : Stands l s us) where
   abbrev T : Table
   T = settled ident us
 

@@ -10,6 +10,7 @@ ghost use Rattle.keys.specs.Member.{keep};
 ghost use Rattle.bits.specs.Below.{firstBelow};
 ghost use Rattle.bits.specs.Bits.{has};
 ghost use Rattle.state.specs.State.{placeAt, foundOf};
+ghost use Rattle.state.specs.View.{bookOf};
 ghost use Rattle.relations.specs.PlaceTests.{headAt};
 ghost use Rattle.orders.specs.Pieces.{placesIn, Sound, Lists};
 ghost use Rattle.predecessors.specs.Choose.{headsOf, aboveAt, eightFor, chosenPlaces};
@@ -25,8 +26,8 @@ const NAMED_HEADS: usize = 8;
 
 // The list with place k at its end, if it is a head.
 fn with_head(l: Ledger, store: &[u8], places: Places, k: usize) -> Places
-    requires { ⌜ (l .used ≤ 64) × Sound places × (places .count < 64) × (k < 64) ⌝ }
-    ensures { λ r. ⌜ Lists r (placesIn places ++ keep (headAt l (now (store .entry))) (k ∷ [])) × (r .count ≤ places .count + 1) ⌝ }
+    requires { ⌜ (bookOf l .used ≤ 64) × Sound places × (places .count < 64) × (k < 64) ⌝ }
+    ensures { λ r. ⌜ Lists r (placesIn places ++ keep (headAt (bookOf l) (now (store .entry))) (k ∷ [])) × (r .count ≤ places .count + 1) ⌝ }
 {
     if relations::is_head(l, store, k) {
         let count = places.count;
@@ -38,8 +39,8 @@ fn with_head(l: Ledger, store: &[u8], places: Places, k: usize) -> Places
 
 // The heads, ascending by id.
 fn heads(l: Ledger, store: &[u8]) -> Places
-    requires { ⌜ l .used ≤ 64 ⌝ }
-    ensures { λ r. ⌜ Lists r (headsOf l (now (store .entry))) ⌝ }
+    requires { ⌜ bookOf l .used ≤ 64 ⌝ }
+    ensures { λ r. ⌜ Lists r (headsOf (bookOf l) (now (store .entry))) ⌝ }
 {
     let order = sorted::sorted(l, store, Key::Id);
     let count = order.count;
@@ -56,7 +57,7 @@ fn heads(l: Ledger, store: &[u8]) -> Places
 // Whether place h is place t or above it.
 fn is_above(l: Ledger, t: usize, h: usize) -> bool
     requires { ⌜ h < 64 ⌝ }
-    ensures { λ r. ⌜ r ≡ eqb h t || has (placeAt l h .ancestors) t ⌝ }
+    ensures { λ r. ⌜ r ≡ eqb h t || has (placeAt (bookOf l) h .ancestors) t ⌝ }
 {
     if h == t {
         return true;
@@ -67,8 +68,8 @@ fn is_above(l: Ledger, t: usize, h: usize) -> bool
 
 // The index of the first head at or above place t.
 fn first_above(l: Ledger, store: &[u8], heads: Places, t: usize) -> Found
-    requires { ⌜ Lists heads (headsOf l (now store)) ⌝ }
-    ensures { λ r. ⌜ r ≡ foundOf (firstBelow (length (headsOf l (now (store .entry)))) (aboveAt l (now (store .entry)) t)) ⌝ }
+    requires { ⌜ Lists heads (headsOf (bookOf l) (now store)) ⌝ }
+    ensures { λ r. ⌜ r ≡ foundOf (firstBelow (length (headsOf (bookOf l) (now (store .entry)))) (aboveAt (bookOf l) (now (store .entry)) t)) ⌝ }
 {
     let count = heads.count;
     let mut i: usize = 0;
@@ -93,8 +94,8 @@ fn first(places: Places, n: usize) -> Places
 
 // Eight of more than eight heads, with the first at or above place t among them.
 fn eight_above(l: Ledger, store: &[u8], heads: Places, t: usize) -> Places
-    requires { ⌜ Lists heads (headsOf l (now store)) × (8 < heads .count) ⌝ }
-    ensures { λ r. ⌜ Lists r (eightFor l (now (store .entry)) (some t)) × (r .count ≤ 8) ⌝ }
+    requires { ⌜ Lists heads (headsOf (bookOf l) (now store)) × (8 < heads .count) ⌝ }
+    ensures { λ r. ⌜ Lists r (eightFor (bookOf l) (now (store .entry)) (some t)) × (r .count ≤ 8) ⌝ }
 {
     match first_above(l, store, heads, t) {
         Found::At(j) => {
@@ -111,8 +112,8 @@ fn eight_above(l: Ledger, store: &[u8], heads: Places, t: usize) -> Places
 
 // The heads that a new update of the author names.
 pub fn chosen(l: Ledger, store: &[u8], author: u8) -> Places
-    requires { ⌜ l .used ≤ 64 ⌝ }
-    ensures { λ r. ⌜ Lists r (chosenPlaces l (now (store .entry)) author) × (r .count ≤ 8) ⌝ }
+    requires { ⌜ bookOf l .used ≤ 64 ⌝ }
+    ensures { λ r. ⌜ Lists r (chosenPlaces (bookOf l) (now (store .entry)) author) × (r .count ≤ 8) ⌝ }
 {
     let all = heads(l, store);
     if all.count <= NAMED_HEADS {

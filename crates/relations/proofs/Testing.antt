@@ -12,10 +12,8 @@ use Rattle.rules.specs.Settle.{isInsert}
 use Rattle.bits.specs.Below.{anyBelow}
 use Rattle.bits.specs.BelowLaws.{anyBelow←}
 use Rattle.bits.specs.Bits.{has, count}
-use Rattle.state.specs.declared.Ledger.{Ledger}
-use Rattle.state.specs.declared.Place.{Place}
 use Rattle.state.specs.declared.Standing.the-variants.{Held, Waiting, Void}
-use Rattle.state.specs.State.{placeAt, isHeld}
+use Rattle.state.specs.State.{Place, Book, placeAt, isHeld}
 use Rattle.state.specs.Number.{hasStanding}
 use Rattle.state.specs.NumberLaws.{is-held, is-waiting, is-void}
 use Rattle.fields.specs.Fields.{testOf, authorIn, isAnyAdd}
@@ -91,7 +89,7 @@ module _ (s : List ℕ) (p : Place) (k : ℕ) {b : Bool} (h : b ≡ hasStanding 
   ranked-insert n {c} e f g i =
       held-and p h e i ∙ sym (ap (λ (x : Bool). holdsInsert && x) (eq-eqb (count (p .ancestors)) n (sym f ∙ g)) ∙ with-true holdsInsert)
 
-module _ (l : Ledger) (s : List ℕ) (k : ℕ) where
+module _ (l : Book) (s : List ℕ) (k : ℕ) where
   -- the standings
   pub held-is : {b : Bool} → b ≡ hasStanding Held (placeAt l k .standing) → b ≡ heldAt l s k
   unfolding heldAt

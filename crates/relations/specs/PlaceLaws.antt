@@ -19,16 +19,15 @@ use Rattle.rules.specs.LeastSets.{held-not-void}
 use Rattle.bits.specs.Below.{upTo}
 use Rattle.bits.specs.BelowLaws.{upTo-∈, upTo-ascending}
 use Rattle.bits.specs.Bits.{has}
-use Rattle.state.specs.declared.Ledger.{Ledger}
 use Rattle.state.specs.declared.Standing.{Standing}
 use Rattle.state.specs.declared.Standing.the-variants.{Held as IsHeld, Waiting as IsWaiting, Void as IsVoid}
-use Rattle.state.specs.State.{placeAt, isHeld}
+use Rattle.state.specs.State.{Book, placeAt, isHeld}
 use Rattle.fields.specs.Fields.{testOf, authorIn}
 use Rattle.state.specs.Stands.{ident, noUpdate, updateAt, Stands}
 use Rattle.state.specs.StandingLaws.{isHeld→}
 use Rattle.relations.specs.PlaceTests.{idAt, decodedAt, heldAt, authorAt}
 
-module _ {l : Ledger} {s : List ℕ} {us : List Update} (stands : Stands l s us) where
+module _ {l : Book} {s : List ℕ} {us : List Update} (stands : Stands l s us) where
   -- a number of a taken place
   pub from-used : {k : ℕ} → k < l .used → k < length us
   from-used {k} h = subst (λ (n : ℕ). k < n) (stands .holds .number) h

@@ -11,11 +11,10 @@ use Rattle.format.specs.Decode.{Decoded, decode}
 use Rattle.rules.specs.Settle.{names, deletes}
 use Rattle.bits.specs.Below.{anyBelow, upTo}
 use Rattle.bits.specs.Bits.{has, count}
-use Rattle.state.specs.declared.Ledger.{Ledger}
-use Rattle.state.specs.State.{placeAt, storedAt, isHeld, isWaiting, isVoid}
+use Rattle.state.specs.State.{Book, placeAt, storedAt, isHeld, isWaiting, isVoid}
 use Rattle.fields.specs.Fields.{testOf, authorIn, isAnyAdd}
 
-module _ (l : Ledger) (s : List ℕ) where
+module _ (l : Book) (s : List ℕ) where
   abbrev pub idAt : ℕ → Id
   idAt k = placeAt l k .id
 

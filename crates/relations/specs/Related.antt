@@ -10,9 +10,7 @@ use Rattle.rules.specs.Settle.{isInsert, names, deletes}
 use Rattle.bits.specs.Below.{anyBelow}
 use Rattle.bits.specs.Bits.{has, count}
 use Rattle.fields.specs.Fields.{testOf, authorIn}
-use Rattle.state.specs.declared.Ledger.{Ledger}
-use Rattle.state.specs.declared.Place.{Place}
-use Rattle.state.specs.State.{placeAt, isHeld}
+use Rattle.state.specs.State.{Place, Book, placeAt, isHeld}
 use Rattle.relations.specs.declared.Relation.{Relation}
 use Rattle.relations.specs.declared.Relation.the-variants.{Covers, Forks, Removes, Deletes}
 
@@ -45,5 +43,5 @@ module _ (s : List ℕ) where
   rankedIn n p k = (isHeld (p .standing) && testOf isInsert (decodedIn p k)) && eqb (count (p .ancestors)) n
 
 -- some held place stands so to k
-unfoldable pub someHeld : Ledger → List ℕ → Relation → ℕ → Bool
+unfoldable pub someHeld : Book → List ℕ → Relation → ℕ → Bool
 someHeld l s r k = anyBelow (l .used) (λ (q : ℕ). heldRelates s r (placeAt l k) k (placeAt l q) q)

@@ -27,10 +27,9 @@ use Rattle.rules.specs.Settling.{settled-ascending, settled-decides}
 use Rattle.bits.specs.Below.{anyBelow, upTo}
 use Rattle.bits.specs.BelowLaws.{anyBelow→, anyBelow←, upTo-∈, ∈-upTo}
 use Rattle.bits.specs.Bits.{has}
-use Rattle.state.specs.declared.Ledger.{Ledger}
 use Rattle.state.specs.declared.Standing.{Standing}
 use Rattle.state.specs.declared.Standing.the-variants.{Held as IsHeld, Waiting as IsWaiting, Void as IsVoid}
-use Rattle.state.specs.State.{placeAt, isHeld as placeHeld, isWaiting as placeWaiting, isVoid as placeVoid}
+use Rattle.state.specs.State.{Book, placeAt, isHeld as placeHeld, isWaiting as placeWaiting, isVoid as placeVoid}
 use Rattle.fields.specs.Fields.{testOf}
 use Rattle.state.specs.Stands.{ident, noUpdate, updateAt, Stands}
 use Rattle.state.specs.Verdicts.{verdictOf}
@@ -61,7 +60,7 @@ row-in {r = r} (distinct-cons {x = q} {xs = T} n d) m = step (∈-cases m) (λ (
 pub rowAt : List Update → ℕ → Row
 rowAt us k = rowIn (settled ident us) (ident (updateAt us k))
 
-module _ {l : Ledger} {s : List ℕ} {us : List Update} (stands : Stands l s us) where
+module _ {l : Book} {s : List ℕ} {us : List Update} (stands : Stands l s us) where
   decides : Decides ident us (settled ident us)
   decides = settled-decides ident us (stands .holds .distinct)
 

@@ -1,6 +1,7 @@
 // How held places stand to a place of a ledger, and the tests of a place that go by it.
 ghost use mathlib.Core.Path.{_≡_};
 ghost use Prim.Native.Nat.{_≤_, _<_};
+ghost use Rattle.state.specs.View.{placeOf, bookOf};
 ghost use Rattle.relations.specs.PlaceTests.{headAt, forkedAt, presentAt, shownAt};
 ghost use Rattle.relations.specs.Related.{neither, forks as forksFrom, relates, heldRelates, someHeld, rankedIn};
 use state::Ledger;
@@ -19,7 +20,7 @@ pub enum Relation {
 
 // Whether the places are two, neither an ancestor of the other.
 fn apart(own: Place, k: usize, other: Place, q: usize) -> bool
-    ensures { λ r. ⌜ r ≡ neither own k other q ⌝ }
+    ensures { λ r. ⌜ r ≡ neither (placeOf own) k (placeOf other) q ⌝ }
 {
     if k == q {
         return false;
@@ -33,7 +34,7 @@ fn apart(own: Place, k: usize, other: Place, q: usize) -> bool
 // Whether the places are apart and of one author.
 fn forks(store: &[u8], own: Place, k: usize, other: Place, q: usize) -> bool
     requires { ⌜ (k < 64) × (q < 64) ⌝ }
-    ensures { λ r. ⌜ r ≡ forksFrom (now (store .entry)) own k other q ⌝ }
+    ensures { λ r. ⌜ r ≡ forksFrom (now (store .entry)) (placeOf own) k (placeOf other) q ⌝ }
 {
     if apart(own, k, other, q) {
         let author = fields::author_of(stored(store, k, own.length));
@@ -46,7 +47,7 @@ fn forks(store: &[u8], own: Place, k: usize, other: Place, q: usize) -> bool
 // Whether the other place, q, stands so to the own place, k.
 fn related(store: &[u8], relation: Relation, own: Place, k: usize, other: Place, q: usize) -> bool
     requires { ⌜ (k < 64) × (q < 64) ⌝ }
-    ensures { λ r. ⌜ r ≡ relates (now (store .entry)) relation own k other q ⌝ }
+    ensures { λ r. ⌜ r ≡ relates (now (store .entry)) relation (placeOf own) k (placeOf other) q ⌝ }
 {
     let id = own.id;
     match relation {
@@ -67,7 +68,7 @@ fn held_related(
     q: usize,
 ) -> bool
     requires { ⌜ (k < 64) × (q < 64) ⌝ }
-    ensures { λ r. ⌜ r ≡ heldRelates (now (store .entry)) relation own k other q ⌝ }
+    ensures { λ r. ⌜ r ≡ heldRelates (now (store .entry)) relation (placeOf own) k (placeOf other) q ⌝ }
 {
     if has_standing(other, Standing::Held) {
         related(store, relation, own, k, other, q)
@@ -78,8 +79,8 @@ fn held_related(
 
 // Whether some held place stands so to place k.
 fn some_held(l: Ledger, store: &[u8], relation: Relation, k: usize) -> bool
-    requires { ⌜ (l .used ≤ 64) × (k < 64) ⌝ }
-    ensures { λ r. ⌜ r ≡ someHeld l (now (store .entry)) relation k ⌝ }
+    requires { ⌜ (bookOf l .used ≤ 64) × (k < 64) ⌝ }
+    ensures { λ r. ⌜ r ≡ someHeld (bookOf l) (now (store .entry)) relation k ⌝ }
 {
     let used = l.used;
     let own = l.places[k];
@@ -95,8 +96,8 @@ fn some_held(l: Ledger, store: &[u8], relation: Relation, k: usize) -> bool
 
 // Whether place k is a head.
 pub fn is_head(l: Ledger, store: &[u8], k: usize) -> bool
-    requires { ⌜ (l .used ≤ 64) × (k < 64) ⌝ }
-    ensures { λ r. ⌜ r ≡ headAt l (now (store .entry)) k ⌝ }
+    requires { ⌜ (bookOf l .used ≤ 64) × (k < 64) ⌝ }
+    ensures { λ r. ⌜ r ≡ headAt (bookOf l) (now (store .entry)) k ⌝ }
 {
     if has_standing(l.places[k], Standing::Held) {
         !some_held(l, store, Relation::Covers, k)
@@ -107,8 +108,8 @@ pub fn is_head(l: Ledger, store: &[u8], k: usize) -> bool
 
 // Whether place k is one of two that mark their author.
 pub fn is_forked(l: Ledger, store: &[u8], k: usize) -> bool
-    requires { ⌜ (l .used ≤ 64) × (k < 64) ⌝ }
-    ensures { λ r. ⌜ r ≡ forkedAt l (now (store .entry)) k ⌝ }
+    requires { ⌜ (bookOf l .used ≤ 64) × (k < 64) ⌝ }
+    ensures { λ r. ⌜ r ≡ forkedAt (bookOf l) (now (store .entry)) k ⌝ }
 {
     if has_standing(l.places[k], Standing::Held) {
         some_held(l, store, Relation::Forks, k)
@@ -119,8 +120,8 @@ pub fn is_forked(l: Ledger, store: &[u8], k: usize) -> bool
 
 // Whether place k holds an Add that no held Remove names.
 pub fn is_present(l: Ledger, store: &[u8], k: usize) -> bool
-    requires { ⌜ (l .used ≤ 64) × (k < 64) ⌝ }
-    ensures { λ r. ⌜ r ≡ presentAt l (now (store .entry)) k ⌝ }
+    requires { ⌜ (bookOf l .used ≤ 64) × (k < 64) ⌝ }
+    ensures { λ r. ⌜ r ≡ presentAt (bookOf l) (now (store .entry)) k ⌝ }
 {
     let p = l.places[k];
     if !has_standing(p, Standing::Held) {
@@ -135,8 +136,8 @@ pub fn is_present(l: Ledger, store: &[u8], k: usize) -> bool
 
 // Whether no held Delete names place k.
 pub fn is_shown(l: Ledger, store: &[u8], k: usize) -> bool
-    requires { ⌜ (l .used ≤ 64) × (k < 64) ⌝ }
-    ensures { λ r. ⌜ r ≡ shownAt l (now (store .entry)) k ⌝ }
+    requires { ⌜ (bookOf l .used ≤ 64) × (k < 64) ⌝ }
+    ensures { λ r. ⌜ r ≡ shownAt (bookOf l) (now (store .entry)) k ⌝ }
 {
     !some_held(l, store, Relation::Deletes, k)
 }
@@ -144,7 +145,7 @@ pub fn is_shown(l: Ledger, store: &[u8], k: usize) -> bool
 // Whether the place, k, holds a held Insert with n ancestors.
 pub fn is_ranked(store: &[u8], n: usize, p: Place, k: usize) -> bool
     requires { ⌜ k < 64 ⌝ }
-    ensures { λ r. ⌜ r ≡ rankedIn (now (store .entry)) n p k ⌝ }
+    ensures { λ r. ⌜ r ≡ rankedIn (now (store .entry)) n (placeOf p) k ⌝ }
 {
     if !has_standing(p, Standing::Held) {
         return false;

@@ -9,7 +9,8 @@ use lib.ListN.{length, take}
 use Rattle.keys.specs.Order.{same}
 use Rattle.keys.specs.OrderLaws.{same→eq, eq→same}
 use Rattle.state.specs.declared.Ledger.{Ledger}
-use Rattle.state.specs.State.{storeLength, freshLedger}
+use Rattle.state.specs.State.{storeLength}
+use Rattle.state.specs.View.{bookOf, freshLedger}
 use Rattle.refusals.specs.declared.Refusal.{Refusal}
 use Rattle.ledger.specs.declared.Reported.the-variants.{Written}
 use Rattle.ledger.specs.Calls.{Calls, stored, offers-stand}
@@ -72,7 +73,7 @@ module _ (first second : List ℕ) where
       omega arith
 
 -- a copy that was reported
-reported-copy : {l : Ledger} {s s′ o o′ : List ℕ} {bs : List (List ℕ)} (n : ℕ) → Calls freshLedger s bs l s′ → Reporting l s′ o (Written n) o′
+reported-copy : {l : Ledger} {s s′ o o′ : List ℕ} {bs : List (List ℕ)} (n : ℕ) → Calls freshLedger s bs l s′ → Reporting (bookOf l) s′ o (Written n) o′
     → Copy bs (take n o′)
 reported-copy {l} {s} {s′} {o} {o′} n c h =
     record {
@@ -89,8 +90,8 @@ reported-copy {l} {s} {s′} {o} {o′} n c h =
     }
 
 compared-says : {l m : Ledger} {s s′ o o′ t t′ p p′ : List ℕ} {xs ys : List (List ℕ)} (n k : ℕ)
-    → Calls freshLedger s xs l s′ → Reporting l s′ o (Written n) o′
-    → Calls freshLedger t ys m t′ → Reporting m t′ p (Written k) p′
+    → Calls freshLedger s xs l s′ → Reporting (bookOf l) s′ o (Written n) o′
+    → Calls freshLedger t ys m t′ → Reporting (bookOf m) t′ p (Written k) p′
     → Fits xs → Fits ys → NoCollision xs ys → CheckSays xs ys (comparedOf (take n o′) (take k p′)) o′ p′
 compared-says {o′ = o′} {p′ = p′} {xs = xs} {ys = ys} n k c h d q fits-first fits-second none =
     let first = take n o′ in

@@ -10,7 +10,8 @@ use lib.ListN.{length, take}
 use Rattle.rules.specs.Report.{reportOf}
 use Rattle.rules.specs.ReportLaws.{same-report, report-shows-set}
 use Rattle.state.specs.declared.Ledger.{Ledger}
-use Rattle.state.specs.State.{storeLength, freshLedger}
+use Rattle.state.specs.State.{storeLength}
+use Rattle.state.specs.View.{bookOf, freshLedger}
 use Rattle.state.specs.Stands.{ident}
 use Rattle.ledger.specs.declared.Reported.the-variants.{Written}
 use Rattle.ledger.specs.Calls.{Calls, stored, offers-stand}
@@ -31,7 +32,7 @@ pub record Copy (bs : List (List ℕ)) (full : List ℕ) : Type 0 where
   pub buffer : List ℕ
   pub buffer-after : List ℕ
   pub answer : ℕ
-  pub reported : Reporting ledger store buffer (Written answer) buffer-after
+  pub reported : Reporting (bookOf ledger) store buffer (Written answer) buffer-after
   pub shown : full ≡ take answer buffer-after
 
 pub record SideBySide (xs ys : List (List ℕ)) (first second : List ℕ) : Type 0 where

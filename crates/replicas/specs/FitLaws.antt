@@ -9,7 +9,7 @@ use Rattle.keys.specs.BoolLaws.{true-false}
 use Rattle.format.specs.Update.{Update}
 use Rattle.rules.specs.Report.{reportOf}
 use Rattle.rules.specs.ReportLaws.{report-length}
-use Rattle.state.specs.declared.Ledger.{Ledger}
+use Rattle.state.specs.State.{Book}
 use Rattle.state.specs.Stands.{ident, Stands}
 use Rattle.state.specs.TakeLaws.{stands-sound}
 use Rattle.refusals.specs.declared.Refusal.{Refusal}
@@ -20,7 +20,7 @@ use Rattle.state.specs.FindLaws.{ident-length}
 use Rattle.ledger.specs.Report.{Reporting, unfit, short, written}
 
 -- for a ledger that stands, row 11 does not apply where the buffer has 12,000 bytes
-pub report-fits : {l : Ledger} {s o o′ : List ℕ} {r : Reported} (us : List Update) → Stands l s us → Reporting l s o r o′ → 12000 ≤ length o
+pub report-fits : {l : Book} {s o o′ : List ℕ} {r : Reported} (us : List Update) → Stands l s us → Reporting l s o r o′ → 12000 ≤ length o
     → r ≡ Refused Short → ⊥
 report-fits us h (unfit e) k q = let z : _≡_ {A = ℕ} 0 1 = cc in omega arith
 report-fits us h (short text e t j) k q =
@@ -29,7 +29,7 @@ report-fits us h (short text e t j) k q =
 report-fits us h (written text e t j) k q = let z : _≡_ {A = ℕ} 0 1 = cc in omega arith
 
 -- so the report is not refused
-pub report-answers : {l : Ledger} {s o o′ : List ℕ} {r : Reported} (us : List Update) → Stands l s us → Reporting l s o r o′ → 12000 ≤ length o
+pub report-answers : {l : Book} {s o o′ : List ℕ} {r : Reported} (us : List Update) → Stands l s us → Reporting l s o r o′ → 12000 ≤ length o
     → (e : Refusal) → r ≡ Refused e → ⊥
 report-answers {l = l} {s = s} us h (unfit f) k e q = true-false (stands-sound l s us h) f
 report-answers {o = o} us h (short text f t j) k e q = report-fits {o = o} us h (short text f t j) k refl

@@ -8,7 +8,6 @@ use lib.ListN.{drop}
 use Rattle.keys.specs.Member.{keep, concatMap}
 use Rattle.keys.specs.MemberLaws.{keep-all}
 use Rattle.rules.specs.Report.{codes, ascii, bytesLine, markLine, part}
-use Rattle.state.specs.declared.Ledger.{Ledger}
 use Rattle.wording.specs.declared.Part.{Part}
 use Rattle.wording.specs.declared.Part.the-variants.{Held, Heads, Waiting, Void, Marks, Set, List as Entries}
 use Rattle.relations.specs.PlaceTests.{idAt, decodedAt, authorAt, order}
@@ -16,9 +15,10 @@ use Rattle.views.specs.Board.{marksOf, tagAt, tagOrder, entriesOf, valueAt}
 use Rattle.report.specs.Text.{updateLineAt, textOf}
 use Rattle.wording.specs.Lines.{wordOf, lineBy}
 use Rattle.report.specs.Parts.{passes, lineOf, linesOf, partOf, standings, readOffs}
+use Rattle.state.specs.State.{Book}
 
 -- the line of a place
-pub line-of : (l : Ledger) (s : List ℕ) (k : ℕ) (p : Part) → lineBy p (idAt l s k) (decodedAt l s k) k ≡ lineOf l s p k
+pub line-of : (l : Book) (s : List ℕ) (k : ℕ) (p : Part) → lineBy p (idAt l s k) (decodedAt l s k) k ≡ lineOf l s p k
 unfolding updateLineAt authorAt tagAt valueAt
 line-of l s k Held = refl
 line-of l s k Heads = refl
@@ -28,7 +28,7 @@ line-of l s k Marks = refl
 line-of l s k Set = refl
 line-of l s k Entries = refl
 
-module _ (l : Ledger) (s : List ℕ) where
+module _ (l : Book) (s : List ℕ) where
   pub lines-next : (p : Part) (xs : List ℕ) (i k : ℕ) → drop i xs ≡ k ∷ drop (i + 1) xs →
       cond (passes l s p k) (lineOf l s p k) [] ++ linesOf l s p (drop (i + 1) xs) ≡ linesOf l s p (drop i xs)
   unfolding linesOf concatMap keep

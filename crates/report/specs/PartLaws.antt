@@ -9,7 +9,6 @@ use Rattle.keys.specs.Member.{keep, concatMap}
 use Rattle.format.specs.Update.{Update}
 use Rattle.rules.specs.Settle.{Row, Table, isHeld, isWaiting, isVoid, heldRow, covered, heads, settled, updatesIn, partsIn, partsOf}
 use Rattle.rules.specs.Report.{ascii, hex, decimal, updateLine, idLine, bytesLine}
-use Rattle.state.specs.declared.Ledger.{Ledger}
 use Rattle.state.specs.Stands.{ident, Stands}
 use Rattle.relations.specs.PlaceTests.{idAt, heldAt, waitingAt, voidAt, headAt, shownAt, order}
 use Rattle.views.specs.Board.{tagAt, tagOrder, entriesOf, valueAt}
@@ -18,8 +17,9 @@ use Rattle.views.specs.ListFacts.{concatMap-map, concatMap-keep-map}
 use Rattle.views.specs.BoardLaws.{tags-agree}
 use Rattle.views.specs.ListedLaws.{values-agree}
 use Rattle.relations.specs.RowLaws.{rowAt, update-id, order-∈, table-rows, held-agrees, waiting-agrees, void-agrees, author-agrees, head-agrees}
+use Rattle.state.specs.State.{Book}
 
-module _ {l : Ledger} {s : List ℕ} {us : List Update} (stands : Stands l s us) where
+module _ {l : Book} {s : List ℕ} {us : List Update} (stands : Stands l s us) where
   -- the lines of the updates whose rows pass a test
   lines-agree : (line : Update → List ℕ) (p : Row → Bool) (line′ : ℕ → List ℕ) (p′ : ℕ → Bool)
       → ((k : ℕ) → k < length us → line (rowAt us k .update) ≡ line′ k) → ((k : ℕ) → k < length us → p (rowAt us k) ≡ p′ k)

@@ -4,11 +4,11 @@ use Prim.Native.Nat.{ℕ}
 use mathlib.Core.List.{List, _++_}
 use Rattle.keys.specs.Member.{keep}
 use Rattle.rules.specs.Report.{ascii, hex, decimal, bytesLine, markLine, part}
-use Rattle.state.specs.declared.Ledger.{Ledger}
 use Rattle.relations.specs.PlaceTests.{idAt, authorAt, heldAt, waitingAt, voidAt, headAt, shownAt, order}
 use Rattle.views.specs.Board.{marksOf, tagOrder, tagAt, entriesOf, valueAt}
+use Rattle.state.specs.State.{Book}
 
-module _ (l : Ledger) (s : List ℕ) where
+module _ (l : Book) (s : List ℕ) where
   unfoldable pub updateLineAt : ℕ → List ℕ
   updateLineAt k = ascii "(" ++ (hex (idAt l s k) ++ (ascii " " ++ (decimal (authorAt l s k) ++ ascii ")\n")))
 

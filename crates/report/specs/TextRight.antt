@@ -8,17 +8,17 @@ use Rattle.format.specs.Update.{Update}
 use Rattle.keys.specs.Member.{concatMap}
 use Rattle.rules.specs.Settle.{partsIn, partsOf}
 use Rattle.rules.specs.Report.{ascii, markLine, part, reportText, reportOf}
-use Rattle.state.specs.declared.Ledger.{Ledger}
 use Rattle.state.specs.Stands.{ident, Stands}
 use Rattle.report.specs.Text.{textOf}
 use Rattle.views.specs.BoardLaws.{marks-part}
 use Rattle.report.specs.PartLaws.{held-part, heads-part, waiting-part, void-part, set-part, list-part}
+use Rattle.state.specs.State.{Book}
 
 -- one part, by its lines
 abbrev partOf : String → List ℕ → List ℕ → List ℕ
 partOf word lines rest = ascii word ++ (lines ++ (ascii ")\n" ++ rest))
 
-pub text-right : (l : Ledger) (s : List ℕ) (us : List Update) → Stands l s us → textOf l s ≡ reportOf ident us
+pub text-right : (l : Book) (s : List ℕ) (us : List Update) → Stands l s us → textOf l s ≡ reportOf ident us
 unfolding textOf part reportOf reportText partsOf partsIn
 text-right l s us stands =
     λ i.

@@ -1,5 +1,6 @@
 // The report of a ledger and its store, printed on a page that the caller lends.
 ghost use Prim.Native.Nat.{_≤_};
+ghost use Rattle.state.specs.View.{bookOf};
 ghost use Rattle.report.specs.Text.{textOf};
 ghost use Rattle.printing.specs.Page.{Prints};
 ghost use Rattle.orders.specs.Pieces.{Lists};
@@ -19,8 +20,8 @@ use wording::Part;
 
 // The parts that go by standing.
 fn print_standings(l: Ledger, store: &[u8], order: Places, page: &mut [u8]) -> usize
-    requires { ⌜ (l .used ≤ 64) × Lists order (orderOf l (now store)) ⌝ }
-    ensures prints { λ r. ⌜ Prints (now (page .entry)) 0 (standings l (now (store .entry))) (now (page .exit)) r ⌝ }
+    requires { ⌜ (bookOf l .used ≤ 64) × Lists order (orderOf (bookOf l) (now store)) ⌝ }
+    ensures prints { λ r. ⌜ Prints (now (page .entry)) 0 (standings (bookOf l) (now (store .entry))) (now (page .exit)) r ⌝ }
     ensures small { λ r. ⌜ r ≤ 30000 ⌝ }
 {
     let start = put(page, 0, b"(ledger 1\n");
@@ -32,8 +33,8 @@ fn print_standings(l: Ledger, store: &[u8], order: Places, page: &mut [u8]) -> u
 
 // The parts that are read from the held updates, and the closing bracket.
 fn print_read_offs(l: Ledger, store: &[u8], order: Places, page: &mut [u8], at: usize) -> usize
-    requires { ⌜ (l .used ≤ 64) × Lists order (orderOf l (now store)) × (at ≤ 30000) ⌝ }
-    ensures { λ r. ⌜ Prints (now (page .entry)) at (readOffs l (now (store .entry))) (now (page .exit)) r ⌝ }
+    requires { ⌜ (bookOf l .used ≤ 64) × Lists order (orderOf (bookOf l) (now store)) × (at ≤ 30000) ⌝ }
+    ensures { λ r. ⌜ Prints (now (page .entry)) at (readOffs (bookOf l) (now (store .entry))) (now (page .exit)) r ⌝ }
 {
     let marked = marks::marks(l, store);
     let marks = parts::print(l, store, Part::Marks, marked, page, at);
@@ -46,8 +47,8 @@ fn print_read_offs(l: Ledger, store: &[u8], order: Places, page: &mut [u8], at: 
 
 // Prints the report of a ledger and its store at the start of the page.
 pub fn print(l: Ledger, store: &[u8], page: &mut [u8]) -> usize
-    requires { ⌜ l .used ≤ 64 ⌝ }
-    ensures { λ r. ⌜ Prints (now (page .entry)) 0 (textOf l (now (store .entry))) (now (page .exit)) r ⌝ }
+    requires { ⌜ bookOf l .used ≤ 64 ⌝ }
+    ensures { λ r. ⌜ Prints (now (page .entry)) 0 (textOf (bookOf l) (now (store .entry))) (now (page .exit)) r ⌝ }
 {
     let order = sorted::sorted(l, store, Key::Id);
     let standings = print_standings(l, store, order, page);

@@ -4,6 +4,7 @@ ghost use mathlib.Core.Bool.{cond};
 ghost use mathlib.Core.List.{[]};
 ghost use Prim.Native.Nat.{_+_, _≤_, _<_};
 ghost use Rattle.printing.specs.Page.{Prints, farthest};
+ghost use Rattle.state.specs.View.{placeOf, bookOf};
 ghost use Rattle.report.specs.Parts.{passes, lineOf, linesOf, partOf};
 ghost use Rattle.relations.specs.Related.{decodedIn};
 ghost use Rattle.wording.specs.Lines.{lineBy};
@@ -20,7 +21,7 @@ use wording::Part;
 // The line in a part of the place, k, or of author k.
 fn line(p: Place, store: &[u8], part: Part, k: usize, page: &mut [u8], at: usize) -> usize
     requires { ⌜ (at + 100 ≤ farthest) × (k < 64) ⌝ }
-    ensures prints { λ r. ⌜ Prints (now (page .entry)) at (lineBy part (p .id) (decodedIn (now (store .entry)) p k) k) (now (page .exit)) r ⌝ }
+    ensures prints { λ r. ⌜ Prints (now (page .entry)) at (lineBy part (p .id) (decodedIn (now (store .entry)) (placeOf p) k) k) (now (page .exit)) r ⌝ }
     ensures small { λ r. ⌜ r ≤ at + 100 ⌝ }
 {
     let id = p.id;
@@ -29,8 +30,8 @@ fn line(p: Place, store: &[u8], part: Part, k: usize, page: &mut [u8], at: usize
 
 // Whether a listed place has a line in the part.
 fn shows(l: Ledger, store: &[u8], part: Part, k: usize) -> bool
-    requires { ⌜ (l .used ≤ 64) × (k < 64) ⌝ }
-    ensures { λ r. ⌜ r ≡ passes l (now (store .entry)) part k ⌝ }
+    requires { ⌜ (bookOf l .used ≤ 64) × (k < 64) ⌝ }
+    ensures { λ r. ⌜ r ≡ passes (bookOf l) (now (store .entry)) part k ⌝ }
 {
     let p = l.places[k];
     match part {
@@ -46,8 +47,8 @@ fn shows(l: Ledger, store: &[u8], part: Part, k: usize) -> bool
 
 // The line of a listed place, if it has one in the part.
 fn shown_line(l: Ledger, store: &[u8], part: Part, k: usize, page: &mut [u8], at: usize) -> usize
-    requires { ⌜ (l .used ≤ 64) × (k < 64) × (at + 100 ≤ farthest) ⌝ }
-    ensures prints { λ r. ⌜ Prints (now (page .entry)) at (cond (passes l (now (store .entry)) part k) (lineOf l (now (store .entry)) part k) []) (now (page .exit)) r ⌝ }
+    requires { ⌜ (bookOf l .used ≤ 64) × (k < 64) × (at + 100 ≤ farthest) ⌝ }
+    ensures prints { λ r. ⌜ Prints (now (page .entry)) at (cond (passes (bookOf l) (now (store .entry)) part k) (lineOf (bookOf l) (now (store .entry)) part k) []) (now (page .exit)) r ⌝ }
     ensures small { λ r. ⌜ r ≤ at + 100 ⌝ }
 {
     if shows(l, store, part, k) {
@@ -59,8 +60,8 @@ fn shown_line(l: Ledger, store: &[u8], part: Part, k: usize, page: &mut [u8], at
 
 // The lines of a part.
 fn lines(l: Ledger, store: &[u8], part: Part, places: Places, page: &mut [u8], at: usize) -> usize
-    requires { ⌜ (l .used ≤ 64) × Sound places × (at + 6400 ≤ farthest) ⌝ }
-    ensures prints { λ r. ⌜ Prints (now (page .entry)) at (linesOf l (now (store .entry)) part (placesIn places)) (now (page .exit)) r ⌝ }
+    requires { ⌜ (bookOf l .used ≤ 64) × Sound places × (at + 6400 ≤ farthest) ⌝ }
+    ensures prints { λ r. ⌜ Prints (now (page .entry)) at (linesOf (bookOf l) (now (store .entry)) part (placesIn places)) (now (page .exit)) r ⌝ }
     ensures small { λ r. ⌜ r ≤ at + 6400 ⌝ }
 {
     let count = places.count;
@@ -83,8 +84,8 @@ pub fn print(
     page: &mut [u8],
     at: usize,
 ) -> usize
-    requires { ⌜ (l .used ≤ 64) × Sound places × (at + 6500 ≤ farthest) ⌝ }
-    ensures prints { λ r. ⌜ Prints (now (page .entry)) at (partOf l (now (store .entry)) part (placesIn places)) (now (page .exit)) r ⌝ }
+    requires { ⌜ (bookOf l .used ≤ 64) × Sound places × (at + 6500 ≤ farthest) ⌝ }
+    ensures prints { λ r. ⌜ Prints (now (page .entry)) at (partOf (bookOf l) (now (store .entry)) part (placesIn places)) (now (page .exit)) r ⌝ }
     ensures small { λ r. ⌜ r ≤ at + 6500 ⌝ }
 {
     let opened = wording::word(part, page, at);

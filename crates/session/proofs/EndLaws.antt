@@ -8,6 +8,7 @@ use lib.ListN.{length, take, drop, length-append, length-drop}
 use lib.Seq.{length-take-le, take-append-le}
 use Rattle.rules.specs.Report.{reportOf}
 use Rattle.state.specs.declared.Ledger.{Ledger}
+use Rattle.state.specs.View.{bookOf}
 use Rattle.state.specs.Stands.{ident}
 use Rattle.answers.specs.Answers.{maxAnswer}
 use Rattle.session.specs.declared.Fed.{Fed}
@@ -35,7 +36,7 @@ unfolding finish
 finish-is m k e = sym (ap (λ (x : Machine). x .out ++ reportOf ident (x .stored)) e)
 
 module _ {l : Ledger} {s buffer : List ℕ} {fill : ℕ} (out : List ℕ) (room : maxEnd ≤ length out) where
-  pub end-begun : fill ≡ 0 → {n : ℕ} {out′ : List ℕ} → Reports l s 0 out n out′ → Finishes l s buffer fill out (Written n) s buffer out′
+  pub end-begun : fill ≡ 0 → {n : ℕ} {out′ : List ℕ} → Reports (bookOf l) s 0 out n out′ → Finishes l s buffer fill out (Written n) s buffer out′
   end-begun e {n} {out′} r =
       written n s buffer out′ room (r .within)
       (λ m h.
@@ -64,7 +65,7 @@ module _ {l : Ledger} {s buffer : List ℕ} {fill : ℕ} (out : List ℕ) (room 
     unfolding feed feedByte
     ended m = ap (feed m) one
 
-    pub end-line : (fill ≡ 0 → ⊥) → {n : ℕ} {out′ : List ℕ} → Reports (r .ledger) s′ (r .written) (o ++ drop maxAnswer out) n out′
+    pub end-line : (fill ≡ 0 → ⊥) → {n : ℕ} {out′ : List ℕ} → Reports (bookOf (r .ledger)) s′ (r .written) (o ++ drop maxAnswer out) n out′
         → Finishes l s buffer fill out (Written n) s′ buffer′ out′
     end-line begun {n} {out′} p =
         written n s′ buffer′ out′ room (omega (arith, p .within, all-long))

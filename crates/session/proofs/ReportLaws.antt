@@ -9,7 +9,7 @@ use Rattle.keys.specs.BoolLaws.{true-false}
 use Rattle.format.specs.Update.{Update}
 use Rattle.rules.specs.Report.{reportOf}
 use Rattle.rules.specs.ReportLaws.{report-length}
-use Rattle.state.specs.declared.Ledger.{Ledger}
+use Rattle.state.specs.State.{Book}
 use Rattle.state.specs.Stands.{ident, Stands}
 use Rattle.state.specs.TakeLaws.{stands-sound}
 use Rattle.refusals.specs.declared.Refusal.{Refusal}
@@ -21,10 +21,10 @@ use Rattle.session.specs.Feeding.{Reports}
 use Rattle.session.proofs.OutLaws.{Extends, partFrom, withPart, part-length, puts}
 
 -- a report of a ledger that stands has at most 12,000 bytes
-report-short : {l : Ledger} {s : List ℕ} (us : List Update) → Stands l s us → length (reportOf ident us) ≤ 12000
+report-short : {l : Book} {s : List ℕ} (us : List Update) → Stands l s us → length (reportOf ident us) ≤ 12000
 report-short us h = report-length ident ident-length us (h .holds .distinct) (h .holds .room) (h .holds .bounded)
 
-module _ (l : Ledger) (s out : List ℕ) (at : ℕ) (room : at + 12000 ≤ length out) where
+module _ (l : Book) (s out : List ℕ) (at : ℕ) (room : at + 12000 ≤ length out) where
   inside : at ≤ length out
   inside = omega arith
 

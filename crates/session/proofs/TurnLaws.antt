@@ -11,7 +11,8 @@ use Rattle.bits.specs.BelowLaws.{countBelow-le}
 use Rattle.rules.specs.Report.{ascii}
 use Rattle.state.specs.declared.Ledger.{Ledger}
 use Rattle.state.specs.declared.Standing.{Standing}
-use Rattle.state.specs.State.{placeAt, isHeld, isVoid, countOf}
+use Rattle.state.specs.View.{bookOf}
+use Rattle.state.specs.State.{Book, placeAt, isHeld, isVoid, countOf}
 use Rattle.offering.specs.declared.Offered.{Offered}
 use Rattle.offering.specs.Offer.{Offering, unfit, malformed, known, full, taken}
 use Rattle.offering.specs.Words.{answerText}
@@ -27,7 +28,7 @@ use Rattle.session.specs.Feeding.{Follows}
 use Rattle.session.specs.FeedLaws.{withText, feed-text, feed-line, Moves}
 
 -- a count over the places is at most 64
-count-few : (p : Standing → Bool) (l : Ledger) → countOf p l ≤ l .used
+count-few : (p : Standing → Bool) (l : Book) → countOf p l ≤ l .used
 unfolding countOf
 count-few p l = countBelow-le (l .used) (λ (k : ℕ). p (placeAt l k .standing))
 
@@ -36,7 +37,7 @@ offering-printable (unfit e) = tt
 offering-printable (malformed m e d) = tt
 offering-printable (known u k e d f) = tt
 offering-printable (full u e d f n) = tt
-offering-printable (taken u r e d f n t) = (omega (arith, count-few isHeld r, t .used-next), omega (arith, count-few isVoid r, t .used-next))
+offering-printable (taken u r e d f n t) = (omega (arith, count-few isHeld (bookOf r), t .used-next), omega (arith, count-few isVoid (bookOf r), t .used-next))
 
 module _ {buffer buffer′ input : List ℕ} {fill : ℕ} {a : Assembled} (t : Takes buffer fill input a buffer′) where
   fed-text : a .ended ≡ false → (m : Machine) → feed m (take (a .consumed) input) ≡ withText m (t .text)

@@ -8,6 +8,8 @@ use lib.ListN.{length, take, drop}
 use Rattle.format.specs.Update.{Update}
 use Rattle.rules.specs.Report.{reportOf}
 use Rattle.state.specs.declared.Ledger.{Ledger}
+use Rattle.state.specs.State.{Book}
+use Rattle.state.specs.View.{bookOf}
 use Rattle.state.specs.Stands.{ident, Stands}
 use Rattle.input.specs.Lines.{Keeps}
 use Rattle.answers.specs.Answers.{maxAnswer}
@@ -22,7 +24,7 @@ maxEnd = maxAnswer + 12000
 
 -- the ledger, its store and the line so far are where the machine is
 pub record Follows (l : Ledger) (s buffer : List ℕ) (fill : ℕ) (m : Machine) : Type 0 where
-  pub stands : Stands l s (m .stored)
+  pub stands : Stands (bookOf l) s (m .stored)
   pub keeps : Keeps buffer fill (m .line)
 
 -- Feeding the piece `input`, with the output buffer `out`.
@@ -39,7 +41,7 @@ pub record Feeds (l : Ledger) (s buffer : List ℕ) (fill : ℕ) (input out : Li
   pub puts-out : (m : Machine) → Follows l s buffer fill m → feed m (take (r .consumed) input) .out ≡ m .out ++ take (r .written) out′
 
 -- A report after the first bytes of the output buffer.
-pub record Reports (l : Ledger) (s : List ℕ) (at : ℕ) (out : List ℕ) (end : ℕ) (out′ : List ℕ) : Type 0 where
+pub record Reports (l : Book) (s : List ℕ) (at : ℕ) (out : List ℕ) (end : ℕ) (out′ : List ℕ) : Type 0 where
   pub within : end ≤ length out
   pub text : (us : List Update) → Stands l s us → take end out′ ≡ take at out ++ reportOf ident us
 

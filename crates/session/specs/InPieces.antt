@@ -5,7 +5,8 @@ use Prim.Native.Nat.{ℕ}
 use mathlib.Core.List.{List, [], _++_}
 use lib.ListN.{length, take}
 use Rattle.state.specs.declared.Ledger.{Ledger}
-use Rattle.state.specs.State.{storeLength, freshLedger}
+use Rattle.state.specs.State.{storeLength}
+use Rattle.state.specs.View.{bookOf, freshLedger}
 use Rattle.state.specs.TakeLaws.{fresh-stands}
 use Rattle.reading.specs.Reading.{maxLine}
 use Rattle.input.specs.KeepLaws.{keeps-none}
@@ -33,7 +34,7 @@ pieces-move (piece r p) = moves-then (record { follows = r .follows; puts-out = 
 -- a fresh ledger, with any store and line buffer of their lengths, is where the machine begins
 fresh-follows : (s buffer : List ℕ) → length s ≡ storeLength → length buffer ≡ maxLine → Follows freshLedger s buffer 0 begin
 unfolding freshLedger
-fresh-follows s buffer h k = record { stands = fresh-stands freshLedger s refl refl h; keeps = keeps-none k }
+fresh-follows s buffer h k = record { stands = fresh-stands (bookOf freshLedger) s refl h; keeps = keeps-none k }
 
 -- For every input, and a store and a line buffer of their lengths: if the pieces consumed are the input's bytes up to the limit, then what they and the end put out is
 -- the output of the whole input.

@@ -1,6 +1,7 @@
 // The command's work on slices: input bytes to lines, lines to answers, and the report at the end. The input may come in pieces of any length.
 ghost use Prim.Native.Nat.{_+_, _≤_};
 ghost use lib.ListN.{length};
+ghost use Rattle.state.specs.View.{bookOf};
 ghost use Rattle.session.specs.Feeding.{Feeds, Reports, Finishes};
 use answers::Begun;
 use answers::begin_answer;
@@ -77,7 +78,7 @@ pub fn feed(
 // Puts the report after the first `at` bytes of the output buffer, and gives where it ends.
 fn report_at(ledger: Ledger, store: &[u8], out: &mut [u8], at: usize) -> usize
     requires { ⌜ at + 12000 ≤ length (now out) ⌝ }
-    ensures { λ r. ⌜ Reports ledger (now (store .entry)) at (now (out .entry)) r (now (out .exit)) ⌝ }
+    ensures { λ r. ⌜ Reports (bookOf ledger) (now (store .entry)) at (now (out .entry)) r (now (out .exit)) ⌝ }
 {
     match ledger::report(ledger, store, &mut out[at..]) {
         Reported::Written(n) => at + n,

@@ -7,7 +7,6 @@ use mathlib.Core.Bool.{Bool, true, false, cond, _&&_, _||_, true≢false, false�
 use native.Mathlib.Nat.{le-of-eq}
 use native.Mathlib.Numerals.{add-one}
 use native.Mathlib.Omega.{arith}
-use lib.ListN.{length}
 use Rattle.keys.specs.BoolLaws.{true-false, not-true→false, and-true}
 use Rattle.keys.specs.Member.{member}
 use Rattle.format.specs.Update.{Id, maxLength}
@@ -17,44 +16,42 @@ use Rattle.format.specs.declared.Malformed.{Malformed}
 use Rattle.format.specs.declared.Parsed.{Parsed}
 use Rattle.format.specs.declared.Reading.{Reading}
 use Rattle.format.specs.declared.Reading.the-variants.{Update as Accepted, Refused}
-use Rattle.state.specs.declared.Ledger.{Ledger}
-use Rattle.settling.specs.declared.Pass.{Pass}
 use Rattle.state.specs.declared.Standing.{Standing}
 use Rattle.state.specs.declared.Standing.the-variants.{Held, Waiting, Void}
 use Rattle.judging.specs.declared.Judgement.the-variants.{Holds, Fails, Waits}
-use Rattle.state.specs.State.{placeAt, withStanding, isWaiting, countOf}
+use Rattle.state.specs.State.{Book, placeAt, withStanding, isWaiting, countOf}
 use Rattle.judging.specs.Judge.{judge}
-use Rattle.settling.specs.Settle.{settleBy, settleFrom, settlePlace, settleNext, settleBelow, passOver, every, pass, passes, lastSettled, newestSettled}
+use Rattle.settling.specs.Settle.{Outcome, settleBy, settleFrom, settlePlace, settleNext, settleBelow, passOver, every, pass, passes, lastSettled, newestSettled}
 use Rattle.settling.specs.Settle.{follows, chosen, followers, lastFollowers, successors, begun, PassedFrom, SettledFrom}
 use Rattle.settling.specs.Passes.{next-cases, over-same}
 use Rattle.settling.specs.SettleLaws.{Kept, kept-refl, kept-trans, place-kept, pass-kept, newest-kept, begun-kept, pass-falls}
 use Rattle.settling.specs.SuccessorLaws.{begun-unchanged}
 
 -- the place k by its judgement
-module _ (l : Ledger) (s : List ℕ) (k : ℕ) where
-  pub by-holds : {m : Ledger} {w : ℕ} → m ≡ withStanding l k Held w → judge l s k ≡ Holds w
-      → record { ledger = m; changed = true } ≡ settleBy l k (judge l s k)
+module _ (l : Book) (s : List ℕ) (k : ℕ) where
+  pub by-holds : {m : Book} {w : ℕ} → m ≡ withStanding l k Held w → judge l s k ≡ Holds w
+      → record { book = m; changed = true } ≡ settleBy l k (judge l s k)
   unfolding settleBy
-  by-holds e j = ap (λ (m : Ledger). record { ledger = m; changed = true }) e ∙ ap (settleBy l k) (sym j)
+  by-holds e j = ap (λ (m : Book). record { book = m; changed = true }) e ∙ ap (settleBy l k) (sym j)
 
-  pub by-fails : {m : Ledger} → m ≡ withStanding l k Void 0 → judge l s k ≡ Fails
-      → record { ledger = m; changed = true } ≡ settleBy l k (judge l s k)
+  pub by-fails : {m : Book} → m ≡ withStanding l k Void 0 → judge l s k ≡ Fails
+      → record { book = m; changed = true } ≡ settleBy l k (judge l s k)
   unfolding settleBy
-  by-fails e j = ap (λ (m : Ledger). record { ledger = m; changed = true }) e ∙ ap (settleBy l k) (sym j)
+  by-fails e j = ap (λ (m : Book). record { book = m; changed = true }) e ∙ ap (settleBy l k) (sym j)
 
-  pub by-waits : judge l s k ≡ Waits → record { ledger = l; changed = false } ≡ settleBy l k (judge l s k)
+  pub by-waits : judge l s k ≡ Waits → record { book = l; changed = false } ≡ settleBy l k (judge l s k)
   unfolding settleBy
   by-waits j = ap (settleBy l k) (sym j)
 
 -- a standing that waits is judged, any other stays
-module _ (l : Ledger) (s : List ℕ) (k : ℕ) where
+module _ (l : Book) (s : List ℕ) (k : ℕ) where
   judged : (v : Standing) → isWaiting v ≡ true → settleBy l k (judge l s k) ≡ settleFrom v l s k
   unfolding isWaiting settleFrom
   judged Held e = absurd (false≢true e)
   judged Waiting e = refl
   judged Void e = absurd (false≢true e)
 
-  stays : (v : Standing) → isWaiting v ≡ false → record { ledger = l; changed = false } ≡ settleFrom v l s k
+  stays : (v : Standing) → isWaiting v ≡ false → record { book = l; changed = false } ≡ settleFrom v l s k
   unfolding isWaiting settleFrom
   stays Held e = refl
   stays Waiting e = absurd (true≢false e)
@@ -69,35 +66,35 @@ module _ {x y r : Bool} where
   either e f = f ∙ ap (λ (b : Bool). b || y) (sym e)
 
 -- one place more of a pass, by whether it waits
-module _ (p : Pass) (s : List ℕ) (k : ℕ) where
-  abbrev after : Pass → Pass
-  after q = record { ledger = q .ledger; changed = p .changed || q .changed }
+module _ (p : Outcome) (s : List ℕ) (k : ℕ) where
+  abbrev after : Outcome → Outcome
+  after q = record { book = q .book; changed = p .changed || q .changed }
 
-  pub next-judged : isWaiting (placeAt (p .ledger) k .standing) ≡ true → (q : Pass) → q ≡ settleBy (p .ledger) k (judge (p .ledger) s k)
-      → {m : Ledger} {b : Bool} → m ≡ q .ledger → b ≡ (p .changed || q .changed) → record { ledger = m; changed = b } ≡ settleNext p s k
+  pub next-judged : isWaiting (placeAt (p .book) k .standing) ≡ true → (q : Outcome) → q ≡ settleBy (p .book) k (judge (p .book) s k)
+      → {m : Book} {b : Bool} → m ≡ q .book → b ≡ (p .changed || q .changed) → record { book = m; changed = b } ≡ settleNext p s k
   unfolding settleNext settlePlace
   next-judged w q e f g =
-      ap₂ (λ (x : Ledger) (y : Bool). record { ledger = x; changed = y }) f g ∙ ap after (e ∙ judged (p .ledger) s k _ w)
+      ap₂ (λ (x : Book) (y : Bool). record { book = x; changed = y }) f g ∙ ap after (e ∙ judged (p .book) s k _ w)
 
-  next-stays : isWaiting (placeAt (p .ledger) k .standing) ≡ false → {m : Ledger} {b : Bool} → m ≡ p .ledger → b ≡ p .changed
-      → record { ledger = m; changed = b } ≡ settleNext p s k
+  next-stays : isWaiting (placeAt (p .book) k .standing) ≡ false → {m : Book} {b : Bool} → m ≡ p .book → b ≡ p .changed
+      → record { book = m; changed = b } ≡ settleNext p s k
   unfolding settleNext settlePlace
   next-stays w f g =
-      ap₂ (λ (x : Ledger) (y : Bool). record { ledger = x; changed = y }) f (g ∙ sym (or-false (p .changed)))
-      ∙ ap after (stays (p .ledger) s k _ w)
+      ap₂ (λ (x : Book) (y : Bool). record { book = x; changed = y }) f (g ∙ sym (or-false (p .changed)))
+      ∙ ap after (stays (p .book) s k _ w)
 
 -- a pass over the places of l that pass a test: what has been done, and the places below k, which are left
-pub record Passing (t : ℕ → Bool) (l : Ledger) (s : List ℕ) (p : Pass) (k : ℕ) : Type 0 where
+pub record Passing (t : ℕ → Bool) (l : Book) (s : List ℕ) (p : Outcome) (k : ℕ) : Type 0 where
   pub below : k ≤ l .used
-  pub kept : Kept l (p .ledger)
+  pub kept : Kept l (p .book)
   pub comes-to : settleBelow t p s k ≡ passOver t l s
 
-module _ (t : ℕ → Bool) (l : Ledger) (s : List ℕ) where
-  pub passing-all : {k : ℕ} → k ≡ l .used → Passing t l s (record { ledger = l; changed = false }) k
+module _ (t : ℕ → Bool) (l : Book) (s : List ℕ) where
+  pub passing-all : {k : ℕ} → k ≡ l .used → Passing t l s (record { book = l; changed = false }) k
   unfolding passOver
-  passing-all e = record { below = le-of-eq e; kept = kept-refl l; comes-to = ap (settleBelow t (record { ledger = l; changed = false }) s) e }
+  passing-all e = record { below = le-of-eq e; kept = kept-refl l; comes-to = ap (settleBelow t (record { book = l; changed = false }) s) e }
 
-  module _ {p q : Pass} {k j : ℕ} (h : Passing t l s p k) (e : k ≡ j + 1) where
+  module _ {p q : Outcome} {k j : ℕ} (h : Passing t l s p k) (e : k ≡ j + 1) where
     passing-by : q ≡ cond (t j) (settleNext p s j) p → Passing t l s q j
     unfolding settleBelow settleNext
     passing-by f =
@@ -105,24 +102,24 @@ module _ (t : ℕ → Bool) (l : Ledger) (s : List ℕ) where
           below = omega (arith, h .below);
           kept =
               kept-trans (h .kept)
-              (subst (λ (x : Pass). Kept (p .ledger) (x .ledger)) (sym f)
-              (next-cases t p s j (λ x. Kept (p .ledger) (x .ledger))
-              (λ _. place-kept (p .ledger) s j (omega (arith, h .below, h .kept .used-kept))) (λ _. kept-refl (p .ledger))));
-          comes-to = ap (λ (x : Pass). settleBelow t x s j) f ∙ ap (settleBelow t p s) (sym (e ∙ add-one j)) ∙ h .comes-to;
+              (subst (λ (x : Outcome). Kept (p .book) (x .book)) (sym f)
+              (next-cases t p s j (λ x. Kept (p .book) (x .book))
+              (λ _. place-kept (p .book) s j (omega (arith, h .below, h .kept .used-kept))) (λ _. kept-refl (p .book))));
+          comes-to = ap (λ (x : Outcome). settleBelow t x s j) f ∙ ap (settleBelow t p s) (sym (e ∙ add-one j)) ∙ h .comes-to;
         }
 
     pub passing-next : t j ≡ true → q ≡ settleNext p s j → Passing t l s q j
     passing-next y f = passing-by (f ∙ ap (λ (b : Bool). cond b (settleNext p s j) p) (sym y))
 
     -- a place that does not wait, or does not pass the test
-    pub passing-over : (isWaiting (placeAt (p .ledger) j .standing) && t j) ≡ false → q ≡ p → Passing t l s q j
+    pub passing-over : (isWaiting (placeAt (p .book) j .standing) && t j) ≡ false → q ≡ p → Passing t l s q j
     passing-over n f =
         passing-by
         (f
         ∙ next-cases t p s j (λ x. p ≡ x)
         (λ y. next-stays p s j (not-true→false _ (λ w. true-false (and-true _ _ w y) n)) refl refl) (λ _. refl))
 
-  pub passing-none : {p : Pass} {k : ℕ} → Passing t l s p k → k ≡ 0 → p ≡ passOver t l s
+  pub passing-none : {p : Outcome} {k : ℕ} → Passing t l s p k → k ≡ 0 → p ≡ passOver t l s
   unfolding settleBelow
   passing-none {p} h e = ap (settleBelow t p s) (sym e) ∙ h .comes-to
 
@@ -137,7 +134,7 @@ module _ (i : Id) (b : List ℕ) (r : Reading) (read : decodedOf b r ≡ decode 
   follows-refused m e = ap (follows i) (ap (decodedOf b) (sym e) ∙ read)
 
 -- a place of a ledger that kept the lengths of l is chosen where that of l is
-module _ (l m : Ledger) (s : List ℕ) (kept : Kept l m) (all : Bool) (i : Id) (k : ℕ) where
+module _ (l m : Book) (s : List ℕ) (kept : Kept l m) (all : Bool) (i : Id) (k : ℕ) where
   pub chosen-kept : chosen l s all i k ≡ chosen m s all i k
   chosen-kept = ap (λ (n : ℕ). all || follows i (decode (part s (maxLength * k) n))) (sym (kept .length-kept k))
 
@@ -146,9 +143,9 @@ module _ (l m : Ledger) (s : List ℕ) (kept : Kept l m) (all : Bool) (i : Id) (
   not-due-kept e = ap (λ (b : Bool). isWaiting (placeAt m k .standing) && b) chosen-kept ∙ e
 
 -- the newest place by its standing
-module _ (l : Ledger) (s : List ℕ) where
-  abbrev to-pass : Pass
-  to-pass = record { ledger = l; changed = true }
+module _ (l : Book) (s : List ℕ) where
+  abbrev to-pass : Outcome
+  to-pass = record { book = l; changed = true }
 
   pub newest-none : l .used ≡ 0 → to-pass ≡ newestSettled l s
   unfolding newestSettled lastSettled
@@ -163,53 +160,51 @@ module _ (l : Ledger) (s : List ℕ) where
     pub newest-stays : isWaiting (placeAt l k .standing) ≡ false → to-pass ≡ newestSettled l s
     newest-stays w = newest-by w
 
-    pub newest-judged : isWaiting (placeAt l k .standing) ≡ true → {p : Pass} → p ≡ settleBy l k (judge l s k) → p ≡ newestSettled l s
+    pub newest-judged : isWaiting (placeAt l k .standing) ≡ true → {p : Outcome} → p ≡ settleBy l k (judge l s k) → p ≡ newestSettled l s
     newest-judged w e = e ∙ newest-by w
 
 -- r is what passes over b come to; where `changed` is false, a further pass changes nothing, if it changes nothing of b where `first` is false
-pub record Reached (b : Ledger) (s : List ℕ) (first : Bool) (r : Ledger) (changed : Bool) : Type 0 where
+pub record Reached (b : Book) (s : List ℕ) (first : Bool) (r : Book) (changed : Bool) : Type 0 where
   pub turns : ℕ
   pub is : r ≡ passes turns b s
   pub used-kept : r .used ≡ b .used
-  pub places-kept : length (r .places) ≡ length (b .places)
   pub done : changed ≡ false → (first ≡ false → pass b s .changed ≡ false) → pass r s .changed ≡ false
 
 -- how many places wait, and one more while there is a pass to make
-unfoldable pub left : Ledger → Bool → ℕ
+unfoldable pub left : Book → Bool → ℕ
 left r changed = countOf isWaiting r + cond changed 1 0
 
-module _ (b : Ledger) (s : List ℕ) (first : Bool) where
+module _ (b : Book) (s : List ℕ) (first : Bool) where
   pub reached-none : {more : Bool} → more ≡ first → Reached b s first b more
   unfolding passes
-  reached-none e = record { turns = 0; is = refl; used-kept = refl; places-kept = refl; done = λ c f. f (sym e ∙ c) }
+  reached-none e = record { turns = 0; is = refl; used-kept = refl; done = λ c f. f (sym e ∙ c) }
 
-  module _ (r : Ledger) (changed : Bool) (reached : Reached b s first r changed) (p : Pass) (passed : p ≡ pass r s) where
-    pub reached-next : {more : Bool} → more ≡ p .changed → Reached b s first (p .ledger) more
+  module _ (r : Book) (changed : Bool) (reached : Reached b s first r changed) (p : Outcome) (passed : p ≡ pass r s) where
+    pub reached-next : {more : Bool} → more ≡ p .changed → Reached b s first (p .book) more
     unfolding passes
     reached-next m =
-        let e : p .ledger ≡ pass r s .ledger = ap (λ (q : Pass). q .ledger) passed in
+        let e : p .book ≡ pass r s .book = ap (λ (q : Outcome). q .book) passed in
         let k = pass-kept r s in
         record {
           turns = suc (reached .turns);
-          is = e ∙ ap (λ (m : Ledger). pass m s .ledger) (reached .is);
-          used-kept = ap (λ (m : Ledger). m .used) e ∙ k .used-kept ∙ reached .used-kept;
-          places-kept = ap (λ (m : Ledger). length (m .places)) e ∙ k .places-kept ∙ reached .places-kept;
+          is = e ∙ ap (λ (m : Book). pass m s .book) (reached .is);
+          used-kept = ap (λ (m : Book). m .used) e ∙ k .used-kept ∙ reached .used-kept;
           done = λ h _.
-              let c : pass r s .changed ≡ false = ap (λ (q : Pass). q .changed) (sym passed) ∙ sym m ∙ h in
-              ap (λ (m : Ledger). pass m s .changed) (e ∙ over-same r s every c) ∙ c;
+              let c : pass r s .changed ≡ false = ap (λ (q : Outcome). q .changed) (sym passed) ∙ sym m ∙ h in
+              ap (λ (m : Book). pass m s .changed) (e ∙ over-same r s every c) ∙ c;
         }
 
-    pub left-falls : r .used ≤ length (r .places) → {more was : Bool} → more ≡ p .changed → was ≡ true → left (p .ledger) more < left r was
+    pub left-falls : {more was : Bool} → more ≡ p .changed → was ≡ true → left (p .book) more < left r was
     unfolding left
-    left-falls room m w = subst₂ (λ (x y : Bool). left (p .ledger) x < left r y) (sym m) (sym w) (rw passed (by (pass r s .changed) refl))
+    left-falls m w = subst₂ (λ (x y : Bool). left (p .book) x < left r y) (sym m) (sym w) (rw passed (by (pass r s .changed) refl))
       where
-        by : (c : Bool) → pass r s .changed ≡ c → left (pass r s .ledger) c < left r true
-        by true e = let f = pass-falls r s room e in omega arith
-        by false e = let f : countOf isWaiting (pass r s .ledger) ≡ countOf isWaiting r = ap (countOf isWaiting) (over-same r s every e) in omega arith
+        by : (c : Bool) → pass r s .changed ≡ c → left (pass r s .book) c < left r true
+        by true e = let f = pass-falls r s e in omega arith
+        by false e = let f : countOf isWaiting (pass r s .book) ≡ countOf isWaiting r = ap (countOf isWaiting) (over-same r s every e) in omega arith
 
 -- the successors of the newest place
-module _ (l : Ledger) (s : List ℕ) where
-  pub successors-none : l .used ≡ 0 → record { ledger = l; changed = false } ≡ successors l s
+module _ (l : Book) (s : List ℕ) where
+  pub successors-none : l .used ≡ 0 → record { book = l; changed = false } ≡ successors l s
   unfolding successors lastFollowers
   successors-none e = ap (lastFollowers l s) (sym e)
 
@@ -217,39 +212,39 @@ module _ (l : Ledger) (s : List ℕ) where
   unfolding successors lastFollowers
   successors-last k e = ap (lastFollowers l s) (sym (e ∙ add-one k))
 
-pub newest-used : (l : Ledger) (s : List ℕ) (p : Pass) → p ≡ newestSettled l s → p .ledger .used ≡ l .used
-newest-used l s p e = ap (λ (q : Pass). q .ledger .used) e ∙ newest-kept l s .used-kept
+pub newest-used : (l : Book) (s : List ℕ) (p : Outcome) → p ≡ newestSettled l s → p .book .used ≡ l .used
+newest-used l s p e = ap (λ (q : Outcome). q .book .used) e ∙ newest-kept l s .used-kept
 
 -- how settling begins, by whether passes are to be made
-module _ (l : Ledger) (s : List ℕ) (p : Pass) (e : p ≡ newestSettled l s) where
-  begun-by : {c : Bool} → p .changed ≡ c → cond c (successors (p .ledger) s) p ≡ begun l s
+module _ (l : Book) (s : List ℕ) (p : Outcome) (e : p ≡ newestSettled l s) where
+  begun-by : {c : Bool} → p .changed ≡ c → cond c (successors (p .book) s) p ≡ begun l s
   unfolding begun
   begun-by f = rw (sym f, e)
 
-  pub begun-goes-on : p .changed ≡ true → successors (p .ledger) s ≡ begun l s
+  pub begun-goes-on : p .changed ≡ true → successors (p .book) s ≡ begun l s
   begun-goes-on f = begun-by f
 
-  pub begun-ends : p .changed ≡ false → record { ledger = p .ledger; changed = false } ≡ begun l s
-  begun-ends f = ap (λ (b : Bool). record { ledger = p .ledger; changed = b }) (sym f) ∙ begun-by f
+  pub begun-ends : p .changed ≡ false → record { book = p .book; changed = false } ≡ begun l s
+  begun-ends f = ap (λ (b : Bool). record { book = p .book; changed = b }) (sym f) ∙ begun-by f
 
 -- once no pass is left to make
-pub reached-passed : (p : Pass) (s : List ℕ) (r : Ledger) → Reached (p .ledger) s (p .changed) r false → PassedFrom p s r
+pub reached-passed : (p : Outcome) (s : List ℕ) (r : Book) → Reached (p .book) s (p .changed) r false → PassedFrom p s r
 reached-passed p s r h = record { turns = h .turns; is = h .is; done = h .done refl }
 
 -- the passes over all places begin from what this leaves of l
-module _ (l : Ledger) (s : List ℕ) (p : Pass) (e : p ≡ begun l s) where
-  pub first-used : p .ledger .used ≡ l .used
-  first-used = ap (λ (q : Pass). q .ledger .used) e ∙ begun-kept l s .used-kept
+module _ (l : Book) (s : List ℕ) (p : Outcome) (e : p ≡ begun l s) where
+  pub first-used : p .book .used ≡ l .used
+  first-used = ap (λ (q : Outcome). q .book .used) e ∙ begun-kept l s .used-kept
 
-  pub passed-settled : l .used ≤ length (l .places) → (r : Ledger) → PassedFrom p s r → SettledFrom l s r
-  passed-settled room r h =
-      let same : p .ledger ≡ begun l s .ledger = ap (λ (q : Pass). q .ledger) e in
+  pub passed-settled : (r : Book) → PassedFrom p s r → SettledFrom l s r
+  passed-settled r h =
+      let same : p .book ≡ begun l s .book = ap (λ (q : Outcome). q .book) e in
       record {
         turns = h .turns;
-        is = h .is ∙ ap (λ (m : Ledger). passes (h .turns) m s) same;
+        is = h .is ∙ ap (λ (m : Book). passes (h .turns) m s) same;
         done = λ others.
             h .done
             (λ c.
-            ap (λ (m : Ledger). pass m s .changed) same
-            ∙ begun-unchanged l s room others (ap (λ (q : Pass). q .changed) (sym e) ∙ c));
+            ap (λ (m : Book). pass m s .changed) same
+            ∙ begun-unchanged l s others (ap (λ (q : Outcome). q .changed) (sym e) ∙ c));
       }

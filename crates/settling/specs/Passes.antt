@@ -9,24 +9,22 @@ use mathlib.Core.Logic.{⊎-elim}
 use mathlib.Core.List.{List}
 use mathlib.Core.Bool.{Bool, true, false, cond, true≢false, false≢true}
 use Rattle.keys.specs.BoolLaws.{true-false, or-false→}
-use Rattle.state.specs.declared.Ledger.{Ledger}
-use Rattle.settling.specs.declared.Pass.{Pass}
 use Rattle.state.specs.declared.Standing.{Standing}
 use Rattle.state.specs.declared.Standing.the-variants.{Held as IsHeld, Waiting as IsWaiting, Void as IsVoid}
 use Rattle.judging.specs.declared.Judgement.{Judgement}
 use Rattle.judging.specs.declared.Judgement.the-variants.{Holds as Judged-holds, Fails, Waits}
-use Rattle.state.specs.State.{placeAt, withStanding, isWaiting}
+use Rattle.state.specs.State.{Book, placeAt, withStanding, isWaiting}
 use Rattle.state.specs.StandingLaws.{held≢waiting, void≢waiting, held≢void}
 use Rattle.judging.specs.Judge.{judge}
-use Rattle.settling.specs.Settle.{settleBy, settleFrom, settlePlace, settleNext, settleBelow, passOver, every, pass, passes, isWaits}
+use Rattle.settling.specs.Settle.{Outcome, settleBy, settleFrom, settlePlace, settleNext, settleBelow, passOver, every, pass, passes, isWaits}
 use Rattle.settling.specs.Settle.{lastSettled, newestSettled, lastFollowers, successors, begun, OthersWait, SettledFrom}
 
 -- the place k is judged, and gets this standing and ancestor word
-pub data Settles (l : Ledger) (s : List ℕ) (k : ℕ) : Standing → ℕ → Type 0 where
+pub data Settles (l : Book) (s : List ℕ) (k : ℕ) : Standing → ℕ → Type 0 where
   to-held : {w : ℕ} → judge l s k ≡ Judged-holds w → Settles l s k IsHeld w
   to-void : judge l s k ≡ Fails → Settles l s k IsVoid 0
 
-module _ {l : Ledger} {s : List ℕ} {k : ℕ} where
+module _ {l : Book} {s : List ℕ} {k : ℕ} where
   pub settles-not-waiting : {v : Standing} {w : ℕ} → Settles l s k v w → isWaiting v ≡ false
   unfolding isWaiting
   settles-not-waiting (to-held e) = refl
@@ -46,10 +44,10 @@ module _ {l : Ledger} {s : List ℕ} {k : ℕ} where
   settles-not-waits (to-void e) q = false≢true (ap isWaits (sym e ∙ q))
 
 -- settling one place: nothing changes, or a waiting place is settled
-module _ (l : Ledger) (s : List ℕ) (k : ℕ) (P : Pass → Type 0)
-    (stays : (placeAt l k .standing ≡ IsWaiting → judge l s k ≡ Waits) → P (record { ledger = l; changed = false }))
+module _ (l : Book) (s : List ℕ) (k : ℕ) (P : Outcome → Type 0)
+    (stays : (placeAt l k .standing ≡ IsWaiting → judge l s k ≡ Waits) → P (record { book = l; changed = false }))
     (settles : (v : Standing) (w : ℕ) → placeAt l k .standing ≡ IsWaiting → Settles l s k v w
-    → P (record { ledger = withStanding l k v w; changed = true })) where
+    → P (record { book = withStanding l k v w; changed = true })) where
   by-judgement : placeAt l k .standing ≡ IsWaiting → (j : Judgement) → judge l s k ≡ j → P (settleBy l k j)
   unfolding settleBy
   by-judgement q (Judged-holds w) e = settles IsHeld w q (to-held e)
@@ -67,16 +65,16 @@ module _ (l : Ledger) (s : List ℕ) (k : ℕ) (P : Pass → Type 0)
   settle-cases = by-standing (placeAt l k .standing) refl
 
 -- the last of the places is settled as in a pass; and where no passes are to be made, a pass would have changed nothing there
-module _ (l : Ledger) (s : List ℕ) (n : ℕ) where
+module _ (l : Book) (s : List ℕ) (n : ℕ) where
   last-by : (v : Standing)
-      → let p : Pass = cond (isWaiting v) (settleBy l n (judge l s n)) (record { ledger = l; changed = true }) in
-      (p .ledger ≡ settleFrom v l s n .ledger) × (p .changed ≡ false → settleFrom v l s n .changed ≡ false)
+      → let p : Outcome = cond (isWaiting v) (settleBy l n (judge l s n)) (record { book = l; changed = true }) in
+      (p .book ≡ settleFrom v l s n .book) × (p .changed ≡ false → settleFrom v l s n .changed ≡ false)
   unfolding settleFrom isWaiting
   last-by IsHeld = (refl, λ e. refl)
   last-by IsWaiting = (refl, λ e. e)
   last-by IsVoid = (refl, λ e. refl)
 
-  pub last-place : lastSettled l s (suc n) .ledger ≡ settlePlace l s n .ledger
+  pub last-place : lastSettled l s (suc n) .book ≡ settlePlace l s n .book
   unfolding lastSettled settlePlace
   last-place = last-by (placeAt l n .standing) .0
 
@@ -85,7 +83,7 @@ module _ (l : Ledger) (s : List ℕ) (n : ℕ) where
   last-unchanged = last-by (placeAt l n .standing) .1
 
 -- one place more of a pass over the places that pass a test
-pub next-cases : (t : ℕ → Bool) (p : Pass) (s : List ℕ) (n : ℕ) (P : Pass → Type 0) → (t n ≡ true → P (settleNext p s n)) → (t n ≡ false → P p)
+pub next-cases : (t : ℕ → Bool) (p : Outcome) (s : List ℕ) (n : ℕ) (P : Outcome → Type 0) → (t n ≡ true → P (settleNext p s n)) → (t n ≡ false → P p)
     → P (cond (t n) (settleNext p s n) p)
 next-cases t p s n P judged left = by (t n) refl
   where
@@ -94,77 +92,77 @@ next-cases t p s n P judged left = by (t n) refl
     by false e = left e
 
 -- what settling a waiting place below m keeps
-module _ (I : Ledger → Type 0) (s : List ℕ) (m : ℕ)
-    (step : (l : Ledger) (k : ℕ) (v : Standing) (w : ℕ) → k < m → placeAt l k .standing ≡ IsWaiting → Settles l s k v w → I l
+module _ (I : Book → Type 0) (s : List ℕ) (m : ℕ)
+    (step : (l : Book) (k : ℕ) (v : Standing) (w : ℕ) → k < m → placeAt l k .standing ≡ IsWaiting → Settles l s k v w → I l
     → I (withStanding l k v w)) where
-  pub place-keeps : (l : Ledger) (k : ℕ) → k < m → I l → I (settlePlace l s k .ledger)
-  place-keeps l k h i = settle-cases l s k (λ p. I (p .ledger)) (λ _. i) (λ v w q j. step l k v w h q j i)
+  pub place-keeps : (l : Book) (k : ℕ) → k < m → I l → I (settlePlace l s k .book)
+  place-keeps l k h i = settle-cases l s k (λ p. I (p .book)) (λ _. i) (λ v w q j. step l k v w h q j i)
 
-  below-keeps : (t : ℕ → Bool) (p : Pass) (n : ℕ) → n ≤ m → I (p .ledger) → I (settleBelow t p s n .ledger)
+  below-keeps : (t : ℕ → Bool) (p : Outcome) (n : ℕ) → n ≤ m → I (p .book) → I (settleBelow t p s n .book)
   unfolding settleBelow settleNext
   below-keeps t p zero h i = i
   below-keeps t p (suc n) h i =
       below-keeps t (cond (t n) (settleNext p s n) p) n (omega arith)
-      (next-cases t p s n (λ q. I (q .ledger)) (λ _. place-keeps (p .ledger) n h i) (λ _. i))
+      (next-cases t p s n (λ q. I (q .book)) (λ _. place-keeps (p .book) n h i) (λ _. i))
 
-  last-keeps : (l : Ledger) (n : ℕ) → n ≤ m → I l → I (lastSettled l s n .ledger)
+  last-keeps : (l : Book) (n : ℕ) → n ≤ m → I l → I (lastSettled l s n .book)
   unfolding lastSettled
   last-keeps l zero h i = i
   last-keeps l (suc n) h i = subst I (sym (last-place l s n)) (place-keeps l n h i)
 
-  module _ (few : (l : Ledger) → I l → l .used ≤ m) where
-    pub newest-keeps : (l : Ledger) → I l → I (newestSettled l s .ledger)
+  module _ (few : (l : Book) → I l → l .used ≤ m) where
+    pub newest-keeps : (l : Book) → I l → I (newestSettled l s .book)
     unfolding newestSettled
     newest-keeps l i = last-keeps l (l .used) (few l i) i
 
-    pub over-keeps : (t : ℕ → Bool) (l : Ledger) → I l → I (passOver t l s .ledger)
+    pub over-keeps : (t : ℕ → Bool) (l : Book) → I l → I (passOver t l s .book)
     unfolding passOver
-    over-keeps t l i = below-keeps t (record { ledger = l; changed = false }) (l .used) (few l i) i
+    over-keeps t l i = below-keeps t (record { book = l; changed = false }) (l .used) (few l i) i
 
-    pub passes-keep : (n : ℕ) (l : Ledger) → I l → I (passes n l s)
+    pub passes-keep : (n : ℕ) (l : Book) → I l → I (passes n l s)
     unfolding passes
     passes-keep zero l i = i
     passes-keep (suc n) l i = over-keeps every (passes n l s) (passes-keep n l i)
 
-    followers-keep : (l : Ledger) (n : ℕ) → I l → I (lastFollowers l s n .ledger)
+    followers-keep : (l : Book) (n : ℕ) → I l → I (lastFollowers l s n .book)
     unfolding lastFollowers
     followers-keep l zero i = i
     followers-keep l (suc n) i = over-keeps _ l i
 
-    pub begun-keeps : (l : Ledger) → I l → I (begun l s .ledger)
+    pub begun-keeps : (l : Book) → I l → I (begun l s .book)
     unfolding begun successors
     begun-keeps l i = by (newestSettled l s .changed)
       where
-        by : (c : Bool) → I (cond c (successors (newestSettled l s .ledger) s) (newestSettled l s) .ledger)
-        by true = followers-keep (newestSettled l s .ledger) (newestSettled l s .ledger .used) (newest-keeps l i)
+        by : (c : Bool) → I (cond c (successors (newestSettled l s .book) s) (newestSettled l s) .book)
+        by true = followers-keep (newestSettled l s .book) (newestSettled l s .book .used) (newest-keeps l i)
         by false = newest-keeps l i
 
-    pub settled-keeps : (l r : Ledger) → SettledFrom l s r → I l → I r
-    settled-keeps l r f i = subst I (sym (f .is)) (passes-keep (f .turns) (begun l s .ledger) (begun-keeps l i))
+    pub settled-keeps : (l r : Book) → SettledFrom l s r → I l → I r
+    settled-keeps l r f i = subst I (sym (f .is)) (passes-keep (f .turns) (begun l s .book) (begun-keeps l i))
 
 -- where nothing changed, the ledger is as it was, and each place that waits was judged to
-place-unchanged : (l : Ledger) (s : List ℕ) (k : ℕ) → settlePlace l s k .changed ≡ false
-    → (settlePlace l s k .ledger ≡ l) × (placeAt l k .standing ≡ IsWaiting → judge l s k ≡ Waits)
+place-unchanged : (l : Book) (s : List ℕ) (k : ℕ) → settlePlace l s k .changed ≡ false
+    → (settlePlace l s k .book ≡ l) × (placeAt l k .standing ≡ IsWaiting → judge l s k ≡ Waits)
 place-unchanged l s k =
-    settle-cases l s k (λ p. p .changed ≡ false → (p .ledger ≡ l) × (placeAt l k .standing ≡ IsWaiting → judge l s k ≡ Waits))
+    settle-cases l s k (λ p. p .changed ≡ false → (p .book ≡ l) × (placeAt l k .standing ≡ IsWaiting → judge l s k ≡ Waits))
     (λ f e. (refl, f)) (λ v w q j e. absurd (true≢false e))
 
 -- the same of the places below n that pass a test
 module _ (t : ℕ → Bool) (s : List ℕ) where
-  record Unchanged (p : Pass) (n : ℕ) (r : Pass) : Type 0 where
+  record Unchanged (p : Outcome) (n : ℕ) (r : Outcome) : Type 0 where
     before : p .changed ≡ false
-    as-was : r .ledger ≡ p .ledger
-    waits : (k : ℕ) → k < n → t k ≡ true → placeAt (p .ledger) k .standing ≡ IsWaiting → judge (p .ledger) s k ≡ Waits
+    as-was : r .book ≡ p .book
+    waits : (k : ℕ) → k < n → t k ≡ true → placeAt (p .book) k .standing ≡ IsWaiting → judge (p .book) s k ≡ Waits
 
-  below-unchanged : (p : Pass) (n : ℕ) → settleBelow t p s n .changed ≡ false → Unchanged p n (settleBelow t p s n)
+  below-unchanged : (p : Outcome) (n : ℕ) → settleBelow t p s n .changed ≡ false → Unchanged p n (settleBelow t p s n)
   unfolding settleBelow settleNext
   below-unchanged p zero e = record { before = e; as-was = refl; waits = λ k h. absurd (not-suc-le-zero h) }
   below-unchanged p (suc n) e =
-      let l = p .ledger in
+      let l = p .book in
       let b = below-unchanged (cond (t n) (settleNext p s n) p) n e in
       let u = next-cases t p s n
       (λ q. q .changed ≡ false
-      → (p .changed ≡ false) × (q .ledger ≡ l) × (t n ≡ true → placeAt l n .standing ≡ IsWaiting → judge l s n ≡ Waits))
+      → (p .changed ≡ false) × (q .book ≡ l) × (t n ≡ true → placeAt l n .standing ≡ IsWaiting → judge l s n ≡ Waits))
       (λ _ c.
       let o = or-false→ (p .changed) (settlePlace l s n .changed) c in
       let v = place-unchanged l s n (o .1) in
@@ -177,13 +175,13 @@ module _ (t : ℕ → Bool) (s : List ℕ) where
         waits = λ k h.
             ⊎-elim
             (λ (g : k ≡ n). subst (λ (i : ℕ). t i ≡ true → placeAt l i .standing ≡ IsWaiting → judge l s i ≡ Waits) (sym g) (u .2))
-            (λ (g : k < n). subst (λ (m : Ledger). t k ≡ true → placeAt m k .standing ≡ IsWaiting → judge m s k ≡ Waits) (u .1) (b .waits k g))
+            (λ (g : k < n). subst (λ (m : Book). t k ≡ true → placeAt m k .standing ≡ IsWaiting → judge m s k ≡ Waits) (u .1) (b .waits k g))
             (eq-or-lt-of-le (le-of-suc-le-suc h));
       }
 
-module _ (l : Ledger) (s : List ℕ) where
-  abbrev none-yet : Pass
-  none-yet = record { ledger = l; changed = false }
+module _ (l : Book) (s : List ℕ) where
+  abbrev none-yet : Outcome
+  none-yet = record { book = l; changed = false }
 
   pub over-unchanged : (t : ℕ → Bool) → passOver t l s .changed ≡ false
       → (k : ℕ) → k < l .used → t k ≡ true → placeAt l k .standing ≡ IsWaiting → judge l s k ≡ Waits
@@ -191,7 +189,7 @@ module _ (l : Ledger) (s : List ℕ) where
   over-unchanged t e = below-unchanged t s none-yet (l .used) e .waits
 
   -- where a pass changed nothing, the ledger is as it was
-  pub over-same : (t : ℕ → Bool) → passOver t l s .changed ≡ false → passOver t l s .ledger ≡ l
+  pub over-same : (t : ℕ → Bool) → passOver t l s .changed ≡ false → passOver t l s .book ≡ l
   unfolding passOver
   over-same t e = below-unchanged t s none-yet (l .used) e .as-was
 
@@ -205,15 +203,15 @@ module _ (l : Ledger) (s : List ℕ) where
   unfolding settleBelow settleNext
   below-stays zero f = refl
   below-stays (suc n) f =
-      ap (λ (q : Pass). settleBelow every (record { ledger = q .ledger; changed = q .changed }) s n) (place-stays n (f n (omega arith)))
+      ap (λ (q : Outcome). settleBelow every (record { book = q .book; changed = q .changed }) s n) (place-stays n (f n (omega arith)))
       ∙ below-stays n (λ k h. f k (omega arith))
 
   pub pass-stays : ((k : ℕ) → k < l .used → placeAt l k .standing ≡ IsWaiting → judge l s k ≡ Waits) → pass l s .changed ≡ false
   unfolding passOver
-  pass-stays f = ap (λ (p : Pass). p .changed) (below-stays (l .used) f)
+  pass-stays f = ap (λ (p : Outcome). p .changed) (below-stays (l .used) f)
 
   last-same : (n : ℕ) → lastSettled l s n .changed ≡ false
-      → (lastSettled l s n .ledger ≡ l) × ((k : ℕ) → k + 1 ≡ n → placeAt l k .standing ≡ IsWaiting → judge l s k ≡ Waits)
+      → (lastSettled l s n .book ≡ l) × ((k : ℕ) → k + 1 ≡ n → placeAt l k .standing ≡ IsWaiting → judge l s k ≡ Waits)
   unfolding lastSettled
   last-same zero e = absurd (true≢false e)
   last-same (suc n) e =
@@ -223,10 +221,10 @@ module _ (l : Ledger) (s : List ℕ) where
       )
 
   -- the others wait, and the newest place goes on waiting
-  pub newest-unchanged : OthersWait l s → newestSettled l s .changed ≡ false → pass (newestSettled l s .ledger) s .changed ≡ false
+  pub newest-unchanged : OthersWait l s → newestSettled l s .changed ≡ false → pass (newestSettled l s .book) s .changed ≡ false
   unfolding newestSettled
   newest-unchanged others e =
       let u = last-same (l .used) e in
-      ap (λ (m : Ledger). pass m s .changed) (u .0)
+      ap (λ (m : Book). pass m s .changed) (u .0)
       ∙ pass-stays
       (λ k h q. ⊎-elim (λ (g : k + 1 ≡ l .used). u .1 k g q) (λ (g : k + 1 < l .used). others k g q) (eq-or-lt-of-le (omega arith)))

@@ -7,8 +7,7 @@ use native.Mathlib.Nat.{le-refl, le-of-eq, le-trans, lt-of-lt-of-le, lt-of-le-of
 use mathlib.Core.Logic.{⊎-elim}
 use mathlib.Core.List.{List}
 use mathlib.Core.Bool.{Bool, true, false, false≢true}
-use lib.ListN.{length, length-set}
-use lib.Seq.{getD-set-same, getD-set-other}
+use lib.ListN.{length}
 use Rattle.keys.specs.BoolLaws.{or-true→}
 use Rattle.keys.specs.Member.{_∈_}
 use Rattle.keys.specs.MemberLaws.{getD-∈}
@@ -20,32 +19,29 @@ use Rattle.rules.specs.LeastSets.{Sound as SoundVerdicts, Stable, settled-waiti
 use Rattle.bits.specs.Bits.{has, within}
 use Rattle.bits.specs.BitsLaws.{within-none}
 use Rattle.bits.specs.BelowLaws.{countBelow-one}
-use Rattle.state.specs.declared.Ledger.{Ledger}
-use Rattle.state.specs.declared.Place.{Place}
-use Rattle.settling.specs.declared.Pass.{Pass}
 use Rattle.state.specs.declared.Standing.{Standing}
 use Rattle.state.specs.declared.Standing.the-variants.{Held as IsHeld, Waiting as IsWaiting, Void as IsVoid}
 use Rattle.judging.specs.declared.Judgement.the-variants.{Waits}
-use Rattle.state.specs.State.{places, noPlace, placeAt, withStanding, isWaiting, countOf}
+use Rattle.state.specs.State.{places, Place, Book, placeAt, withStanding, isWaiting, countOf}
 use Rattle.state.specs.Row1.{sound}
 use Rattle.state.specs.Row1Laws.{SoundPlace, sound→, sound←, holds-sound}
 use Rattle.state.specs.Verdicts.{verdictOf, verdict-held, verdict-waiting, verdict-void, verdict, verdict-at, Placed, placed}
 use Rattle.judging.specs.Judge.{judge}
-use Rattle.settling.specs.Settle.{settlePlace, settleNext, settleBelow, passOver, every, pass, newestSettled, begun, OthersWait, SettledFrom}
+use Rattle.settling.specs.Settle.{Outcome, settlePlace, settleNext, settleBelow, passOver, every, pass, newestSettled, begun, OthersWait, SettledFrom}
 use Rattle.state.specs.Stands.{ident, noUpdate, updateAt, Holds, Truthful, Settled, Stands}
-use Rattle.state.specs.ListFacts.{set-cases}
+use Rattle.state.specs.BookLaws.{replaced-same, replaced-other, replaced-cases}
 use Rattle.judging.specs.JudgeWithin.{judge-within}
 use Rattle.judging.specs.JudgeLaws.{judged-held, judged-above, judged-above-all, judged-void, judged-no-void, judged-not-ready}
 use Rattle.settling.specs.Passes.{Settles, to-held, to-void, settles-not-waiting, settles-held, settles-void}
 use Rattle.settling.specs.Passes.{settle-cases, place-keeps, over-keeps, newest-keeps, begun-keeps, settled-keeps, over-unchanged}
 
 -- a place of a ledger in which the place k was settled: what it was, or the new one
-module _ (l : Ledger) (k : ℕ) (v : Standing) (w : ℕ) where
+module _ (l : Book) (k : ℕ) (v : Standing) (w : ℕ) where
   abbrev pub settled-place : Place
   settled-place = record { id = placeAt l k .id; length = placeAt l k .length; ancestors = w; standing = v }
 
   place-cases : (P : Place → Type 0) (j : ℕ) → P (placeAt l j) → (j ≡ k → P settled-place) → P (placeAt (withStanding l k v w) j)
-  place-cases P j = set-cases P (l .places) k j settled-place noPlace
+  place-cases P = replaced-cases (l .place) k settled-place P
 
   pub same-id : (j : ℕ) → placeAt (withStanding l k v w) j .id ≡ placeAt l j .id
   same-id j = place-cases (λ p. p .id ≡ placeAt l j .id) j refl (λ e. ap (λ (i : ℕ). placeAt l i .id) (sym e))
@@ -54,30 +50,27 @@ module _ (l : Ledger) (k : ℕ) (v : Standing) (w : ℕ) where
   same-length j = place-cases (λ p. p .length ≡ placeAt l j .length) j refl (λ e. ap (λ (i : ℕ). placeAt l i .length) (sym e))
 
 -- what settling keeps of any ledger: the places and their ids and lengths; and each place that did not wait
-pub record Kept (l r : Ledger) : Type 0 where
+pub record Kept (l r : Book) : Type 0 where
   pub used-kept : r .used ≡ l .used
-  pub places-kept : length (r .places) ≡ length (l .places)
   pub id-kept : (k : ℕ) → placeAt r k .id ≡ placeAt l k .id
   pub length-kept : (k : ℕ) → placeAt r k .length ≡ placeAt l k .length
   pub settled-kept : (k : ℕ) → (placeAt l k .standing ≡ IsWaiting → ⊥) → placeAt r k ≡ placeAt l k
   pub untaken-kept : (k : ℕ) → l .used ≤ k → placeAt r k ≡ placeAt l k
 
-pub kept-refl : (l : Ledger) → Kept l l
+pub kept-refl : (l : Book) → Kept l l
 kept-refl l =
     record {
       used-kept = refl;
-      places-kept = refl;
       id-kept = λ k. refl;
       length-kept = λ k. refl;
       settled-kept = λ k n. refl;
       untaken-kept = λ k h. refl;
     }
 
-pub kept-trans : {l m r : Ledger} → Kept l m → Kept m r → Kept l r
+pub kept-trans : {l m r : Book} → Kept l m → Kept m r → Kept l r
 kept-trans {l} {m} {r} a b =
     record {
       used-kept = b .used-kept ∙ a .used-kept;
-      places-kept = b .places-kept ∙ a .places-kept;
       id-kept = λ k. b .id-kept k ∙ a .id-kept k;
       length-kept = λ k. b .length-kept k ∙ a .length-kept k;
       settled-kept = λ k n.
@@ -85,11 +78,10 @@ kept-trans {l} {m} {r} a b =
       untaken-kept = λ k h. b .untaken-kept k (subst (λ (u : ℕ). u ≤ k) (sym (a .used-kept)) h) ∙ a .untaken-kept k h;
     }
 
-kept-step : (l : Ledger) (k : ℕ) (v : Standing) (w : ℕ) → k < l .used → placeAt l k .standing ≡ IsWaiting → Kept l (withStanding l k v w)
+kept-step : (l : Book) (k : ℕ) (v : Standing) (w : ℕ) → k < l .used → placeAt l k .standing ≡ IsWaiting → Kept l (withStanding l k v w)
 kept-step l k v w h q =
     record {
       used-kept = refl;
-      places-kept = length-set (l .places) k (settled-place l k v w);
       id-kept = same-id l k v w;
       length-kept = same-length l k v w;
       settled-kept = λ j n.
@@ -98,61 +90,61 @@ kept-step l k v w h q =
       untaken-kept = λ j g. place-cases l k v w (λ p. p ≡ placeAt l j) j refl (λ (e : j ≡ k). absurd (omega arith));
     }
 
-kept-on : (l : Ledger) (s : List ℕ) (r : Ledger) (k : ℕ) (v : Standing) (w : ℕ) → k < l .used → placeAt r k .standing ≡ IsWaiting
+kept-on : (l : Book) (s : List ℕ) (r : Book) (k : ℕ) (v : Standing) (w : ℕ) → k < l .used → placeAt r k .standing ≡ IsWaiting
     → Settles r s k v w → Kept l r → Kept l (withStanding r k v w)
 kept-on l s r k v w h q j i = kept-trans i (kept-step r k v w (subst (λ (u : ℕ). k < u) (sym (i .used-kept)) h) q)
 
-pub place-kept : (l : Ledger) (s : List ℕ) (k : ℕ) → k < l .used → Kept l (settlePlace l s k .ledger)
+pub place-kept : (l : Book) (s : List ℕ) (k : ℕ) → k < l .used → Kept l (settlePlace l s k .book)
 place-kept l s k h = place-keeps (Kept l) s (l .used) (kept-on l s) l k h (kept-refl l)
 
-pub pass-kept : (l : Ledger) (s : List ℕ) → Kept l (pass l s .ledger)
+pub pass-kept : (l : Book) (s : List ℕ) → Kept l (pass l s .book)
 pass-kept l s = over-keeps (Kept l) s (l .used) (kept-on l s) (λ r i. le-of-eq (i .used-kept)) every l (kept-refl l)
 
-pub newest-kept : (l : Ledger) (s : List ℕ) → Kept l (newestSettled l s .ledger)
+pub newest-kept : (l : Book) (s : List ℕ) → Kept l (newestSettled l s .book)
 newest-kept l s = newest-keeps (Kept l) s (l .used) (kept-on l s) (λ r i. le-of-eq (i .used-kept)) l (kept-refl l)
 
-pub begun-kept : (l : Ledger) (s : List ℕ) → Kept l (begun l s .ledger)
+pub begun-kept : (l : Book) (s : List ℕ) → Kept l (begun l s .book)
 begun-kept l s = begun-keeps (Kept l) s (l .used) (kept-on l s) (λ r i. le-of-eq (i .used-kept)) l (kept-refl l)
 
-pub settled-kept-all : (l : Ledger) (s : List ℕ) (r : Ledger) → SettledFrom l s r → Kept l r
+pub settled-kept-all : (l : Book) (s : List ℕ) (r : Book) → SettledFrom l s r → Kept l r
 settled-kept-all l s r f = settled-keeps (Kept l) s (l .used) (kept-on l s) (λ r i. le-of-eq (i .used-kept)) l r f (kept-refl l)
 
 -- fewer places wait, or nothing changed
-record Falls (l : Ledger) (p : Pass) : Type 0 where
-  no-more : countOf isWaiting (p .ledger) ≤ countOf isWaiting l
-  fewer : p .changed ≡ true → countOf isWaiting (p .ledger) < countOf isWaiting l
+record Falls (l : Book) (p : Outcome) : Type 0 where
+  no-more : countOf isWaiting (p .book) ≤ countOf isWaiting l
+  fewer : p .changed ≡ true → countOf isWaiting (p .book) < countOf isWaiting l
 
-settled-falls : (l : Ledger) (k : ℕ) (v : Standing) (w : ℕ) → k < l .used → l .used ≤ length (l .places) → placeAt l k .standing ≡ IsWaiting
+settled-falls : (l : Book) (k : ℕ) (v : Standing) (w : ℕ) → k < l .used → placeAt l k .standing ≡ IsWaiting
     → isWaiting v ≡ false → countOf isWaiting l ≡ countOf isWaiting (withStanding l k v w) + 1
 unfolding countOf isWaiting
-settled-falls l k v w h room q n =
+settled-falls l k v w h q n =
     countBelow-one (l .used) (waitsIn l) (waitsIn (withStanding l k v w)) k h (ap isWaiting q)
-    (ap test (getD-set-same (l .places) k (settled-place l k v w) noPlace (lt-of-lt-of-le h room)) ∙ n)
-    (λ j _ ne. ap test (sym (getD-set-other (l .places) k j (settled-place l k v w) noPlace ne)))
+    (ap test (replaced-same (l .place) k (settled-place l k v w)) ∙ n)
+    (λ j _ ne. ap test (sym (replaced-other (l .place) k (settled-place l k v w) j ne)))
   where
     test : Place → Bool
     test p = isWaiting (p .standing)
 
-    waitsIn : Ledger → ℕ → Bool
+    waitsIn : Book → ℕ → Bool
     waitsIn m j = isWaiting (placeAt m j .standing)
 
-place-falls : (l : Ledger) (s : List ℕ) (k : ℕ) → k < l .used → l .used ≤ length (l .places) → Falls l (settlePlace l s k)
-place-falls l s k h room =
+place-falls : (l : Book) (s : List ℕ) (k : ℕ) → k < l .used → Falls l (settlePlace l s k)
+place-falls l s k h =
     settle-cases l s k (Falls l)
     (λ _. record { no-more = le-refl _; fewer = λ e. absurd (false≢true e) })
     (λ v w q j.
-    let e = settled-falls l k v w h room q (settles-not-waiting j) in
+    let e = settled-falls l k v w h q (settles-not-waiting j) in
     record { no-more = omega (arith, e); fewer = λ _. omega (arith, e) })
 
-below-falls : (l : Ledger) (s : List ℕ) (p : Pass) (n : ℕ) → n ≤ l .used → l .used ≤ length (l .places) → Kept l (p .ledger) → Falls l p
+below-falls : (l : Book) (s : List ℕ) (p : Outcome) (n : ℕ) → n ≤ l .used → Kept l (p .book) → Falls l p
     → Falls l (settleBelow every p s n)
 unfolding settleBelow settleNext
-below-falls l s p zero h room c b = b
-below-falls l s p (suc n) h room c b =
-    let m = p .ledger in
+below-falls l s p zero h c b = b
+below-falls l s p (suc n) h c b =
+    let m = p .book in
     let inside : n < m .used = omega (arith, c .used-kept) in
-    let f = place-falls m s n inside (omega (arith, c .used-kept, c .places-kept)) in
-    below-falls l s (settleNext p s n) n (omega arith) room (kept-trans c (place-kept m s n inside))
+    let f = place-falls m s n inside in
+    below-falls l s (settleNext p s n) n (omega arith) (kept-trans c (place-kept m s n inside))
     (record {
       no-more = le-trans (f .no-more) (b .no-more);
       fewer = λ e.
@@ -161,20 +153,20 @@ below-falls l s p (suc n) h room c b =
     })
 
 -- a pass that changes a standing leaves fewer waiting
-pub pass-falls : (l : Ledger) (s : List ℕ) → l .used ≤ length (l .places) → pass l s .changed ≡ true
-    → countOf isWaiting (pass l s .ledger) < countOf isWaiting l
+pub pass-falls : (l : Book) (s : List ℕ) → pass l s .changed ≡ true
+    → countOf isWaiting (pass l s .book) < countOf isWaiting l
 unfolding passOver
-pass-falls l s room =
-    below-falls l s (record { ledger = l; changed = false }) (l .used) (le-refl _) room (kept-refl l)
+pass-falls l s =
+    below-falls l s (record { book = l; changed = false }) (l .used) (le-refl _) (kept-refl l)
     (record { no-more = le-refl _; fewer = λ e. absurd (false≢true e) }) .fewer
 
 -- the word of a place that is settled names taken places only, if those of the taken places do
-settles-within : (l : Ledger) → ((j : ℕ) → j < l .used → within (placeAt l j .ancestors) (l .used) ≡ true)
+settles-within : (l : Book) → ((j : ℕ) → j < l .used → within (placeAt l j .ancestors) (l .used) ≡ true)
     → {s : List ℕ} {k : ℕ} {v : Standing} {w : ℕ} → Settles l s k v w → within w (l .used) ≡ true
 settles-within l taken {s} {k} {w = w} (to-held e) = judge-within l taken s k w e
 settles-within l taken (to-void e) = within-none (l .used)
 
-sound-step : (s : List ℕ) (l : Ledger) (k : ℕ) (v : Standing) (w : ℕ) → Settles l s k v w → sound l s ≡ true
+sound-step : (s : List ℕ) (l : Book) (k : ℕ) (v : Standing) (w : ℕ) → Settles l s k v w → sound l s ≡ true
     → sound (withStanding l k v w) s ≡ true
 sound-step s l k v w j e =
     let h = sound→ l s e in
@@ -190,18 +182,17 @@ sound-step s l k v w j e =
     })
 
 -- row 1 does not come up by settling
-pub settled-sound : (l : Ledger) (s : List ℕ) (r : Ledger) → SettledFrom l s r → length (l .places) ≡ places → sound l s ≡ true → sound r s ≡ true
-settled-sound l s r f whole e =
+pub settled-sound : (l : Book) (s : List ℕ) (r : Book) → SettledFrom l s r → sound l s ≡ true → sound r s ≡ true
+settled-sound l s r f e =
     settled-keeps (λ m. sound m s ≡ true) s places (λ m k v w _ _ j. sound-step s m k v w j)
     (λ m h. sound→ m s h .few) l r f e
 
 -- settling a place keeps what is so
 module _ (s : List ℕ) (us : List Update) where
-  holds-step : (l : Ledger) (k : ℕ) (v : Standing) (w : ℕ) → within w (l .used) ≡ true → Holds l s us → Holds (withStanding l k v w) s us
+  holds-step : (l : Book) (k : ℕ) (v : Standing) (w : ℕ) → within w (l .used) ≡ true → Holds l s us → Holds (withStanding l k v w) s us
   holds-step l k v w inside h =
       record {
         store-whole = h .store-whole;
-        places-whole = length-set (l .places) k (settled-place l k v w) ∙ h .places-whole;
         room = h .room;
         number = h .number;
         bounded = h .bounded;
@@ -213,7 +204,7 @@ module _ (s : List ℕ) (us : List Update) where
             (λ _. subst (λ (n : ℕ). within w n ≡ true) (h .number) inside);
       }
 
-  truthful-step : (l : Ledger) (k : ℕ) (v : Standing) (w : ℕ) → k < length us → Settles l s k v w → Holds l s us → Truthful l us
+  truthful-step : (l : Book) (k : ℕ) (v : Standing) (w : ℕ) → k < length us → Settles l s k v w → Holds l s us → Truthful l us
       → Truthful (withStanding l k v w) us
   truthful-step l k v w hk j h t =
       record {
@@ -241,7 +232,7 @@ module _ (s : List ℕ) (us : List Update) where
             (subst (λ (x : ℕ). Ancestor ident us (updateAt us a) (updateAt us x)) e b));
       }
 
-  settled-right : (l r : Ledger) → SettledFrom l s r → Holds l s us × Truthful l us → Holds r s us × Truthful r us
+  settled-right : (l r : Book) → SettledFrom l s r → Holds l s us × Truthful l us → Holds r s us × Truthful r us
   settled-right =
       settled-keeps (λ l. Holds l s us × Truthful l us) s (length us)
       (λ l k v w hk _ j i. (
@@ -251,7 +242,7 @@ module _ (s : List ℕ) (us : List Update) where
       (λ l i. le-of-eq (i .0 .number))
 
 -- a ledger that says what is so, and judges each waiting place to go on waiting, is settled
-module _ (l : Ledger) (s : List ℕ) (us : List Update) (h : Holds l s us) (t : Truthful l us)
+module _ (l : Book) (s : List ℕ) (us : List Update) (h : Holds l s us) (t : Truthful l us)
     (still : (k : ℕ) → k < length us → placeAt l k .standing ≡ IsWaiting → judge l s k ≡ Waits) where
   ledger-sound : SoundVerdicts ident us (verdict l)
   ledger-sound =
@@ -294,7 +285,7 @@ module _ (l : Ledger) (s : List ℕ) (us : List Update) (h : Holds l s us) (t : 
       }
 
 -- settling ends with a ledger that stands
-pub settled-stands : (l : Ledger) (s : List ℕ) (us : List Update) (r : Ledger) → Holds l s us → Truthful l us → OthersWait l s → SettledFrom l s r
+pub settled-stands : (l : Book) (s : List ℕ) (us : List Update) (r : Book) → Holds l s us → Truthful l us → OthersWait l s → SettledFrom l s r
     → Stands r s us
 settled-stands l s us r h t others f =
     let i = settled-right s us l r f (h, t) in

@@ -9,8 +9,6 @@ use mathlib.Core.Logic.{⊎-elim}
 use mathlib.Core.List.{List, [], _∷_}
 use mathlib.Core.Option.{Option, none, some}
 use mathlib.Core.Bool.{Bool, true, false, cond}
-use lib.ListN.{length}
-use lib.Seq.{getD-set-same, getD-set-other}
 use Rattle.keys.specs.BoolLaws.{bool-cases, true-false, or-false→}
 use Rattle.keys.specs.Order.{same}
 use Rattle.keys.specs.Member.{member}
@@ -18,27 +16,25 @@ use Rattle.format.specs.Update.{Id, maxLength}
 use Rattle.format.specs.Decode.{decode, part}
 use Rattle.bits.specs.Below.{firstBelow}
 use Rattle.bits.specs.BelowLaws.{firstBelow-some→}
-use Rattle.state.specs.declared.Ledger.{Ledger}
-use Rattle.state.specs.declared.Place.{Place}
-use Rattle.settling.specs.declared.Pass.{Pass}
 use Rattle.state.specs.declared.Standing.{Standing}
 use Rattle.state.specs.declared.Standing.the-variants.{Waiting}
 use Rattle.judging.specs.declared.Gathered.{Gathered}
 use Rattle.judging.specs.declared.Judgement.the-variants.{Waits}
-use Rattle.state.specs.State.{noPlace, placeAt, storedAt, withStanding, isWaiting, findIn}
+use Rattle.state.specs.State.{Place, Book, placeAt, storedAt, withStanding, isWaiting, findIn}
+use Rattle.state.specs.BookLaws.{replaced-same, replaced-other}
 use Rattle.judging.specs.Judge.{nothingGathered, gatherAt, gather, judgeDecoded, judge}
-use Rattle.settling.specs.Settle.{settlePlace, pass, lastSettled, newestSettled, follows, followsAt, lastFollowers, successors, begun, OthersWait}
+use Rattle.settling.specs.Settle.{Outcome, settlePlace, pass, lastSettled, newestSettled, follows, followsAt, lastFollowers, successors, begun, OthersWait}
 use Rattle.settling.specs.Passes.{settles-not-waiting, settle-cases, last-place, over-unchanged, over-same, pass-stays, newest-unchanged}
 use Rattle.settling.specs.SettleLaws.{settled-place, same-id, place-kept}
 use Rattle.settling.specs.WaitLaws.{decoded-waits, gather-same}
 
 -- the place n is settled: what the others gather from ids that are not its own is as it was
-module _ (l : Ledger) (n : ℕ) (v : Standing) (w : ℕ) where
-  abbrev after : Ledger
+module _ (l : Book) (n : ℕ) (v : Standing) (w : ℕ) where
+  abbrev after : Book
   after = withStanding l n v w
 
   other : (k : ℕ) → (k ≡ n → ⊥) → placeAt after k ≡ placeAt l k
-  other k ne = getD-set-other (l .places) n k (settled-place l n v w) noPlace ne
+  other = replaced-other (l .place) n (settled-place l n v w)
 
   find-same : (x : Id) → findIn after x ≡ findIn l x
   unfolding findIn
@@ -75,35 +71,35 @@ module _ (l : Ledger) (n : ℕ) (v : Standing) (w : ℕ) where
       (ap (λ (b : List ℕ). judgeDecoded l s (decode b)) (sym stored) ∙ e)
 
 -- where each place that names the last one, n, is judged to go on waiting, so is each place that waits
-module _ (l : Ledger) (s : List ℕ) (n : ℕ) (last : l .used ≡ n + 1) (room : l .used ≤ length (l .places)) (others : OthersWait l s) where
-  abbrev WaitsIn : Ledger → ℕ → Type 0
+module _ (l : Book) (s : List ℕ) (n : ℕ) (last : l .used ≡ n + 1) (others : OthersWait l s) where
+  abbrev WaitsIn : Book → ℕ → Type 0
   WaitsIn m k = placeAt m k .standing ≡ Waiting → judge m s k ≡ Waits
 
-  all-wait : let m = settlePlace l s n .ledger in
+  all-wait : let m = settlePlace l s n .book in
       ((k : ℕ) → k < l .used → followsAt m s (placeAt m n .id) k ≡ true → WaitsIn m k)
       → (k : ℕ) → k < l .used → WaitsIn m k
   unfolding isWaiting
   all-wait =
       settle-cases l s n
       (λ p.
-      ((k : ℕ) → k < l .used → followsAt (p .ledger) s (placeAt (p .ledger) n .id) k ≡ true → WaitsIn (p .ledger) k)
-      → (k : ℕ) → k < l .used → WaitsIn (p .ledger) k)
+      ((k : ℕ) → k < l .used → followsAt (p .book) s (placeAt (p .book) n .id) k ≡ true → WaitsIn (p .book) k)
+      → (k : ℕ) → k < l .used → WaitsIn (p .book) k)
       (λ f _ k h q.
       ⊎-elim (λ (g : k ≡ n). subst (WaitsIn l) (sym g) f q) (λ (g : k < n). others k (omega arith) q) (eq-or-lt-of-le (omega arith)))
       (λ v w _ j named k h q.
       let ne : k ≡ n → ⊥ = λ g.
       true-false (ap isWaiting q)
       (ap (λ (i : ℕ). isWaiting (placeAt (withStanding l n v w) i .standing)) g
-      ∙ ap (λ (p : Place). isWaiting (p .standing)) (getD-set-same (l .places) n (settled-place l n v w) noPlace (omega arith))
+      ∙ ap (λ (p : Place). isWaiting (p .standing)) (replaced-same (l .place) n (settled-place l n v w))
       ∙ settles-not-waiting j) in
       ⊎-elim (λ y. named k h y q)
       (λ out. stays-waiting l n v w s k ne out (others k (omega (arith, ne)) (ap (λ (p : Place). p .standing) (sym (other l n v w k ne)) ∙ q)))
       (bool-cases (followsAt (withStanding l n v w) s (placeAt (withStanding l n v w) n .id) k)))
 
 -- where the pass over the successors changed nothing, the ledger is as it was, and each of them that waits was judged to
-module _ (m : Ledger) (s : List ℕ) where
+module _ (m : Book) (s : List ℕ) where
   successors-unchanged : (u : ℕ) → lastFollowers m s u .changed ≡ false
-      → (lastFollowers m s u .ledger ≡ m)
+      → (lastFollowers m s u .book ≡ m)
       × ((n k : ℕ) → u ≡ n + 1 → k < m .used → followsAt m s (placeAt m n .id) k ≡ true → placeAt m k .standing ≡ Waiting → judge m s k ≡ Waits)
   unfolding lastFollowers
   successors-unchanged zero e = (refl, λ n k q. absurd (omega arith))
@@ -115,32 +111,32 @@ module _ (m : Ledger) (s : List ℕ) where
         (over-unchanged m s (followsAt m s (placeAt m i .id)) e k h),
   )
 
-module _ (l : Ledger) (s : List ℕ) (room : l .used ≤ length (l .places)) (others : OthersWait l s) where
-  successors-done : (u : ℕ) → l .used ≡ u → successors (lastSettled l s u .ledger) s .changed ≡ false
-      → pass (successors (lastSettled l s u .ledger) s .ledger) s .changed ≡ false
+module _ (l : Book) (s : List ℕ) (others : OthersWait l s) where
+  successors-done : (u : ℕ) → l .used ≡ u → successors (lastSettled l s u .book) s .changed ≡ false
+      → pass (successors (lastSettled l s u .book) s .book) s .changed ≡ false
   unfolding lastSettled successors
   successors-done zero q e =
-      ap (λ (m : Ledger). pass m s .changed) (successors-unchanged l s (l .used) e .0) ∙ pass-stays l s (λ k h. absurd (omega arith))
+      ap (λ (m : Book). pass m s .changed) (successors-unchanged l s (l .used) e .0) ∙ pass-stays l s (λ k h. absurd (omega arith))
   successors-done (suc n) q e =
-      subst (λ (m : Ledger). successors m s .changed ≡ false → pass (successors m s .ledger) s .changed ≡ false) (sym (last-place l s n))
+      subst (λ (m : Book). successors m s .changed ≡ false → pass (successors m s .book) s .changed ≡ false) (sym (last-place l s n))
       (λ f.
-      let m = settlePlace l s n .ledger in
+      let m = settlePlace l s n .book in
       let same-used : m .used ≡ l .used = place-kept l s n (omega arith) .used-kept in
       let b = successors-unchanged m s (m .used) f in
-      ap (λ (x : Ledger). pass x s .changed) (b .0)
+      ap (λ (x : Book). pass x s .changed) (b .0)
       ∙ pass-stays m s
       (λ k h.
-      all-wait l s n (omega arith) room others (λ i g. b .1 n i (omega arith) (omega arith)) k (omega arith)))
+      all-wait l s n (omega arith) others (λ i g. b .1 n i (omega arith) (omega arith)) k (omega arith)))
       e
 
-  abbrev either : Bool → Pass
-  either c = cond c (successors (newestSettled l s .ledger) s) (newestSettled l s)
+  abbrev either : Bool → Outcome
+  either c = cond c (successors (newestSettled l s .book) s) (newestSettled l s)
 
   -- where no passes over all places are to be made, one would change nothing
-  pub begun-unchanged : begun l s .changed ≡ false → pass (begun l s .ledger) s .changed ≡ false
+  pub begun-unchanged : begun l s .changed ≡ false → pass (begun l s .book) s .changed ≡ false
   unfolding begun newestSettled
   begun-unchanged = by (newestSettled l s .changed) refl
     where
-      by : (c : Bool) → newestSettled l s .changed ≡ c → either c .changed ≡ false → pass (either c .ledger) s .changed ≡ false
+      by : (c : Bool) → newestSettled l s .changed ≡ c → either c .changed ≡ false → pass (either c .book) s .changed ≡ false
       by true e f = successors-done (l .used) refl f
       by false e f = newest-unchanged l s others e

@@ -16,14 +16,12 @@ use Rattle.format.specs.Update.{Id, Operation, Update, maxLength}
 use Rattle.format.specs.Decode.{Decoded, refused, update, decode, part}
 use Rattle.bits.specs.Bits.{including, join, meet}
 use Rattle.bits.specs.BelowLaws.{firstBelow-some→, firstBelow-some←, firstBelow-none→}
-use Rattle.state.specs.declared.Ledger.{Ledger}
-use Rattle.state.specs.declared.Place.{Place}
 use Rattle.state.specs.declared.Standing.{Standing}
 use Rattle.state.specs.declared.Standing.the-variants.{Held, Waiting, Void}
 use Rattle.judging.specs.declared.Gathered.{Gathered}
 use Rattle.judging.specs.declared.Judgement.{Judgement}
 use Rattle.judging.specs.declared.Judgement.the-variants.{Holds as Judged-holds, Fails, Waits}
-use Rattle.state.specs.State.{places, placeAt, storedAt, withTaken, written, findIn}
+use Rattle.state.specs.State.{places, Place, Book, placeAt, storedAt, withTaken, written, findIn}
 use Rattle.judging.specs.Judge.{nothingGathered, gatherBy, gatherAt, gather, valid, judgeReady, judgeGathered, judgeDecoded, judge}
 use Rattle.settling.specs.Settle.{isWaits, OthersWait}
 use Rattle.state.specs.Stands.{Stands}
@@ -32,7 +30,7 @@ use Rattle.state.specs.FindLaws.{find-taken}
 use Rattle.judging.specs.JudgeLaws.{judged-held, judged-void}
 use Rattle.state.specs.TakeLaws.{taken-new, taken-old, written-before}
 
-waits-judged : (l : Ledger) (s : List ℕ) (us : List Update) → Stands l s us
+waits-judged : (l : Book) (s : List ℕ) (us : List Update) → Stands l s us
     → (k : ℕ) → k < length us → placeAt l k .standing ≡ Waiting → judge l s k ≡ Waits
 waits-judged l s us stands k h q = by (judge l s k) refl
   where
@@ -43,7 +41,7 @@ waits-judged l s us stands k h q = by (judge l s k) refl
     by Waits e = refl
 
 -- whether a place goes on waiting is said by what is gathered alone
-module _ (l m : Ledger) (s t : List ℕ) where
+module _ (l m : Book) (s t : List ℕ) where
   ready-decides : (o : Operation) (d a : ℕ) → isWaits (judgeReady l s o d a) ≡ false
   unfolding judgeReady isWaits
   ready-decides o d a = by (eqb (meet d a) 0) (valid l s (join d a) o)
@@ -70,7 +68,7 @@ module _ (l m : Ledger) (s t : List ℕ) where
   decoded-waits (update u) f e = ap (judgeGathered m t (u .op)) (f u refl) ∙ gathered-waits (u .op) (gather l nothingGathered (u .preds)) e
 
 -- a place that is the same says the same
-pub gather-same : (l m : Ledger) (g : Gathered) (j : ℕ) → placeAt m j ≡ placeAt l j → gatherAt m g (some j) ≡ gatherAt l g (some j)
+pub gather-same : (l m : Book) (g : Gathered) (j : ℕ) → placeAt m j ≡ placeAt l j → gatherAt m g (some j) ≡ gatherAt l g (some j)
 gather-same l m g j at = ap (gatherBy m g j) (ap (λ (p : Place). p .standing) at) ∙ by (placeAt l j .standing)
   where
     by : (v : Standing) → gatherBy m g j v ≡ gatherBy l g j v
@@ -79,8 +77,8 @@ gather-same l m g j at = ap (gatherBy m g j) (ap (λ (p : Place). p .standing) a
     by Void = refl
 
 -- the next place is taken, under the id i
-module _ (l : Ledger) (i : Id) (n : ℕ) (room : l .used < length (l .places)) where
-  abbrev taken : Ledger
+module _ (l : Book) (i : Id) (n : ℕ) where
+  abbrev taken : Book
   taken = withTaken l i n
 
   at-old : (k : ℕ) → k < l .used → placeAt taken k ≡ placeAt l k
@@ -88,7 +86,7 @@ module _ (l : Ledger) (i : Id) (n : ℕ) (room : l .used < length (l .places)) w
 
   -- an id is found where it was; where it was not, at most at the new place, which says what a missing one says
   module _ (x : Id) where
-    is-at : Ledger → ℕ → Bool
+    is-at : Book → ℕ → Bool
     is-at m k = same (placeAt m k .id) x
 
     same-test : (k : ℕ) → k < l .used → is-at taken k ≡ is-at l k
@@ -107,7 +105,7 @@ module _ (l : Ledger) (i : Id) (n : ℕ) (room : l .used < length (l .places)) w
     found-new e j f =
         let r = firstBelow-some→ (l .used + 1) (is-at taken) f in
         ⊎-elim
-        (λ (q : j ≡ l .used). ap (λ (k : ℕ). placeAt taken k .standing) q ∙ ap (λ (p : Place). p .standing) (taken-new l i n room))
+        (λ (q : j ≡ l .used). ap (λ (k : ℕ). placeAt taken k .standing) q ∙ ap (λ (p : Place). p .standing) (taken-new l i n))
         (λ (h : j < l .used). absurd (true-false (r .1) (same-test j h ∙ firstBelow-none→ (l .used) (is-at l) e j h)))
         (eq-or-lt-of-le (omega (arith, r .0)))
 
@@ -128,20 +126,19 @@ module _ (l : Ledger) (i : Id) (n : ℕ) (room : l .used < length (l .places)) w
   gather-taken g (x ∷ xs) = ap (λ (h : Gathered). gather taken h xs) (gather-one x g) ∙ gather-taken (gatherAt l g (findIn l x)) xs
 
 -- where the ledger stood, the others wait once the next place is taken and its bytes are written
-pub taken-others : (l : Ledger) (s : List ℕ) (us : List Update) → Stands l s us → (i : Id) (b : List ℕ) → l .used < places → length b ≤ maxLength
+pub taken-others : (l : Book) (s : List ℕ) (us : List Update) → Stands l s us → (i : Id) (b : List ℕ) → l .used < places → length b ≤ maxLength
     → OthersWait (withTaken l i (length b)) (written s (maxLength * l .used) b)
 unfolding judge
 taken-others l s us stands i b free short k h q =
     let r = withTaken l i (length b) in
     let s′ = written s (maxLength * l .used) b in
     let holds = stands .holds in
-    let room : l .used < length (l .places) = omega (arith, holds .places-whole) in
     let inside : k < l .used = omega arith in
-    let old : placeAt r k ≡ placeAt l k = at-old l i (length b) room k inside in
+    let old : placeAt r k ≡ placeAt l k = at-old l i (length b) k inside in
     let stored : storedAt r s′ k ≡ storedAt l s k =
     ap (λ (p : Place). part s′ (maxLength * k) (p .length)) old
     ∙ written-before s (maxLength * l .used) b (omega (arith, holds .store-whole)) (maxLength * k) (placeAt l k .length)
     (omega (arith, holds-sound l s us holds .each k inside .short)) in
     ap (λ (x : List ℕ). judgeDecoded r s′ (decode x)) stored
-    ∙ decoded-waits l r s s′ (decode (storedAt l s k)) (λ u _. gather-taken l i (length b) room nothingGathered (u .preds))
+    ∙ decoded-waits l r s s′ (decode (storedAt l s k)) (λ u _. gather-taken l i (length b) nothingGathered (u .preds))
     (waits-judged l s us stands k (omega (arith, holds .number)) (ap (λ (p : Place). p .standing) (sym old) ∙ q))

@@ -5,8 +5,9 @@ ghost use Prim.Native.Nat.{_*_, _≤_, _<_};
 ghost use Rattle.format.specs.Update.{maxLength};
 ghost use Rattle.format.specs.Decode.{part, decode};
 ghost use Rattle.state.specs.State.{isWaiting};
+ghost use Rattle.state.specs.View.{bookOf};
 ghost use Rattle.judging.specs.Judge.{judge as judgeAt};
-ghost use Rattle.settling.specs.Settle.{settleBy, passOver, pass as passOverAll, newestSettled, PassedFrom, SettledFrom};
+ghost use Rattle.settling.specs.Settle.{outcomeOf, settleBy, passOver, pass as passOverAll, newestSettled, PassedFrom, SettledFrom};
 ghost use Rattle.settling.specs.Settle.{follows as followsIn, chosen, successors as passOverSuccessors, begun};
 use format::Reading;
 use format::bounds::FIRST_PREDECESSOR;
@@ -62,8 +63,8 @@ fn waits_chosen(p: Place, store: &[u8], k: usize, all: bool, id: &[u8]) -> bool
 
 // The place k as it is judged.
 fn settle_waiting(l: Ledger, store: &[u8], k: usize) -> Pass
-    requires { ⌜ (l .used ≤ 64) × (k < 64) ⌝ }
-    ensures { λ r. ⌜ r ≡ settleBy l k (judgeAt l (now (store .entry)) k) ⌝ }
+    requires { ⌜ (bookOf l .used ≤ 64) × (k < 64) ⌝ }
+    ensures { λ r. ⌜ outcomeOf r ≡ settleBy (bookOf l) k (judgeAt (bookOf l) (now (store .entry)) k) ⌝ }
 {
     match judge(l, store, k) {
         Judgement::Holds(up) => {
@@ -89,8 +90,8 @@ fn settle_waiting(l: Ledger, store: &[u8], k: usize) -> Pass
 
 // One pass over the chosen places, from the last to the first.
 fn pass_over(l: Ledger, store: &[u8], all: bool, id: &[u8]) -> Pass
-    requires { ⌜ l .used ≤ 64 ⌝ }
-    ensures { λ r. ⌜ r ≡ passOver (chosen l (now (store .entry)) all (now (id .entry))) l (now (store .entry)) ⌝ }
+    requires { ⌜ bookOf l .used ≤ 64 ⌝ }
+    ensures { λ r. ⌜ outcomeOf r ≡ passOver (chosen (bookOf l) (now (store .entry)) all (now (id .entry))) (bookOf l) (now (store .entry)) ⌝ }
 {
     let mut k = l.used;
     let mut current = l;
@@ -112,16 +113,16 @@ fn pass_over(l: Ledger, store: &[u8], all: bool, id: &[u8]) -> Pass
 
 // One pass over the taken places.
 fn pass_all(l: Ledger, store: &[u8]) -> Pass
-    requires { ⌜ l .used ≤ 64 ⌝ }
-    ensures { λ r. ⌜ r ≡ passOverAll l (now (store .entry)) ⌝ }
+    requires { ⌜ bookOf l .used ≤ 64 ⌝ }
+    ensures { λ r. ⌜ outcomeOf r ≡ passOverAll (bookOf l) (now (store .entry)) ⌝ }
 {
     pass_over(l, store, true, &store[..0])
 }
 
 // The newest place as it is judged, and whether passes are to be made: not where it goes on waiting.
 fn newest(l: Ledger, store: &[u8]) -> Pass
-    requires { ⌜ l .used ≤ 64 ⌝ }
-    ensures { λ r. ⌜ r ≡ newestSettled l (now (store .entry)) ⌝ }
+    requires { ⌜ bookOf l .used ≤ 64 ⌝ }
+    ensures { λ r. ⌜ outcomeOf r ≡ newestSettled (bookOf l) (now (store .entry)) ⌝ }
 {
     let used = l.used;
     if used == 0 {
@@ -143,8 +144,8 @@ fn newest(l: Ledger, store: &[u8]) -> Pass
 
 // One pass over the taken places whose updates name the newest place's id.
 fn successors(l: Ledger, store: &[u8]) -> Pass
-    requires { ⌜ l .used ≤ 64 ⌝ }
-    ensures { λ r. ⌜ r ≡ passOverSuccessors l (now (store .entry)) ⌝ }
+    requires { ⌜ bookOf l .used ≤ 64 ⌝ }
+    ensures { λ r. ⌜ outcomeOf r ≡ passOverSuccessors (bookOf l) (now (store .entry)) ⌝ }
 {
     let used = l.used;
     if used == 0 {
@@ -160,8 +161,8 @@ fn successors(l: Ledger, store: &[u8]) -> Pass
 
 // The newest place as it is judged; then, where it does not go on waiting, its successors; and whether passes over all places are to be made.
 fn begin(l: Ledger, store: &[u8]) -> Pass
-    requires { ⌜ l .used ≤ 64 ⌝ }
-    ensures { λ r. ⌜ r ≡ begun l (now (store .entry)) ⌝ }
+    requires { ⌜ bookOf l .used ≤ 64 ⌝ }
+    ensures { λ r. ⌜ outcomeOf r ≡ begun (bookOf l) (now (store .entry)) ⌝ }
 {
     let first = newest(l, store);
     let settled = first.ledger;
@@ -178,8 +179,8 @@ fn begin(l: Ledger, store: &[u8]) -> Pass
 impl Pass {
     // Passes over the taken places, one after the other, until one changes nothing.
     pub fn settle(mut self, store: &[u8]) -> Ledger
-        requires { ⌜ self .ledger .used ≤ 64 ⌝ }
-        ensures { λ r. ⌜ PassedFrom self (now (store .entry)) r ⌝ }
+        requires { ⌜ bookOf (self .ledger) .used ≤ 64 ⌝ }
+        ensures { λ r. ⌜ PassedFrom (outcomeOf self) (now (store .entry)) (bookOf r) ⌝ }
     {
         let mut more = self.changed;
         while more {
@@ -194,8 +195,8 @@ impl Pass {
 // Judges the newest place; where it does not go on waiting, judges its successors; where that changes a standing, judges what waits, pass after
 // pass, until a pass changes nothing.
 pub fn settle(l: Ledger, store: &[u8]) -> Ledger
-    requires { ⌜ l .used ≤ 64 ⌝ }
-    ensures { λ r. ⌜ SettledFrom l (now (store .entry)) r ⌝ }
+    requires { ⌜ bookOf l .used ≤ 64 ⌝ }
+    ensures { λ r. ⌜ SettledFrom (bookOf l) (now (store .entry)) (bookOf r) ⌝ }
 {
     let first = begin(l, store);
     first.settle(store)

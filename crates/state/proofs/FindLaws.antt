@@ -10,20 +10,19 @@ use Rattle.keys.specs.Order.{same}
 use Rattle.format.specs.Update.{Id}
 use Rattle.bits.specs.Below.{firstBelow, orElse}
 use Rattle.bits.specs.BelowLaws.{firstBelow-more, firstBelow-some←, firstBelow-none→}
-use Rattle.state.specs.State.{placeAt, findIn, foundOf}
+use Rattle.state.specs.State.{Book, placeAt, findIn, foundOf}
 use Rattle.state.specs.FindLaws.{find-taken}
-use Rattle.state.specs.declared.Ledger.{Ledger}
 use Rattle.state.specs.declared.Found.the-variants.{At, Nowhere}
 
 -- place k has the id i
-abbrev pub hasId : Ledger → List ℕ → ℕ → Bool
+abbrev pub hasId : Book → List ℕ → ℕ → Bool
 hasId l i k = same (placeAt l k .id) i
 
 -- no place below k has the id i
-unfoldable pub NoneBelow : Ledger → List ℕ → ℕ → Type 0
+unfoldable pub NoneBelow : Book → List ℕ → ℕ → Type 0
 NoneBelow l i k = firstBelow k (hasId l i) ≡ none
 
-module _ (l : Ledger) (i : Id) where
+module _ (l : Book) (i : Id) where
   pub none-first : NoneBelow l i 0
   unfolding NoneBelow firstBelow
   none-first = refl
@@ -49,5 +48,5 @@ pub found-nowhere : (o : Option ℕ) → foundOf o ≡ Nowhere → o ≡ none
 found-nowhere none e = refl
 found-nowhere (some k) e = let z : _≡_ {A = ℕ} 0 1 = cc in absurd (omega arith)
 
-pub found-below : (l : Ledger) (i : Id) {j : ℕ} → foundOf (findIn l i) ≡ At j → l .used ≤ 64 → j < 64
+pub found-below : (l : Book) (i : Id) {j : ℕ} → foundOf (findIn l i) ≡ At j → l .used ≤ 64 → j < 64
 found-below l i {j} e h = omega (arith, find-taken l i j (found-at (findIn l i) j e))

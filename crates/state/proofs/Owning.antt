@@ -10,7 +10,8 @@ use denote.Array.{each}
 use denote.Laws.{Is}
 use denote.Shadow.{shadow}
 use mir.Val.{Val}
-use Rattle.state.specs.State.{placeAt, noPlace}
+use Rattle.state.specs.State.{placeAt}
+use Rattle.state.specs.View.{noPlace, bookOf}
 use Rattle.state.specs.declared.Ledger.{Ledger}
 use Rattle.state.specs.declared.Place.{Place}
 use Rattle.state.proofs.Ledger.{the-row}
@@ -28,5 +29,5 @@ module _ (l : Ledger) (vs : List Val) (o : Is the-row l vs) where
   pub places-length : length (l .places) ≡ 64
   places-length = sym (length-map (l .places) _) ∙ o .1 .1 .1 .0 .1 .0 .1
 
-  pub id-length : (k : ℕ) → k < 64 → length (placeAt l k .id) ≡ 32
+  pub id-length : (k : ℕ) → k < 64 → length (placeAt (bookOf l) k .id) ≡ 32
   id-length k h = id-of-each (l .places) _ (o .1 .1 .1 .0 .1 .1) k (omega (arith, places-length))

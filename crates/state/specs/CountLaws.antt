@@ -17,10 +17,9 @@ use Rattle.rules.specs.LeastSets.{held-not-void}
 use Rattle.rules.specs.Settling.{settled-decides}
 use Rattle.bits.specs.Below.{countBelow}
 use Rattle.bits.specs.BelowLaws.{countBelow-cong}
-use Rattle.state.specs.declared.Ledger.{Ledger}
 use Rattle.state.specs.declared.Standing.{Standing}
 use Rattle.state.specs.declared.Standing.the-variants.{Held as IsHeld, Waiting as IsWaiting, Void as IsVoid}
-use Rattle.state.specs.State.{placeAt, isHeld, isVoid, countOf}
+use Rattle.state.specs.State.{Book, placeAt, isHeld, isVoid, countOf}
 use Rattle.state.specs.Stands.{ident, noUpdate, updateAt, Stands}
 use Rattle.state.specs.ListFacts.{count-keep}
 use Rattle.state.specs.Verdicts.{verdictOf, verdict, verdict-at, placed}
@@ -42,7 +41,7 @@ means-one us u void held a b = absurd (held-not-void ident us b a)
 means-one us u void waiting a b = absurd (b .not-void a)
 means-one us u void void a b = refl
 
-module _ (l : Ledger) (s : List ℕ) (us : List Update) (stands : Stands l s us) where
+module _ (l : Book) (s : List ℕ) (us : List Update) (stands : Stands l s us) where
   table : Table
   table = settled ident us
 

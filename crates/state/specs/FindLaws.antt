@@ -15,8 +15,7 @@ use Rattle.fips180.specs.Lengths.{length-digest}
 use Rattle.format.specs.Update.{Id, idLength, Update, encode}
 use Rattle.bits.specs.Below.{firstBelow}
 use Rattle.bits.specs.BelowLaws.{firstBelow-some→, firstBelow-one, firstBelow-none→}
-use Rattle.state.specs.declared.Ledger.{Ledger}
-use Rattle.state.specs.State.{placeAt, findIn}
+use Rattle.state.specs.State.{Book, placeAt, findIn}
 use Rattle.state.specs.Stands.{ident, noUpdate, updateAt, Holds}
 
 pub ident-length : (u : Update) → length (ident u) ≡ idLength
@@ -31,11 +30,11 @@ pub place-of : (us : List Update) {u : Update} → u ∈ us → (k : ℕ) × (k 
 place-of us m = ∈-getD noUpdate m
 
 -- an id is found at a taken place, whatever the ledger
-pub find-taken : (l : Ledger) (i : Id) (j : ℕ) → findIn l i ≡ some j → j < l .used
+pub find-taken : (l : Book) (i : Id) (j : ℕ) → findIn l i ≡ some j → j < l .used
 unfolding findIn
 find-taken l i j e = firstBelow-some→ (l .used) (λ (k : ℕ). same (placeAt l k .id) i) e .0
 
-module _ (l : Ledger) (s : List ℕ) (us : List Update) (holds : Holds l s us) where
+module _ (l : Book) (s : List ℕ) (us : List Update) (holds : Holds l s us) where
   has-id : Id → ℕ → Bool
   has-id i k = same (placeAt l k .id) i
 

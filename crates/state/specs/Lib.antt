@@ -1,4 +1,7 @@
 pub mod State
+pub mod BookLaws
+pub mod View
+pub mod ViewLaws
 pub mod Number
 pub mod NumberLaws
 pub mod Row1

@@ -1,10 +1,10 @@
--- A store in a list by cases, parts, and counts by index.
+-- Parts, and counts by index.
 -- Assumes nothing.
 use mathlib.Core.Path.{_≡_, refl, _∙_, ap}
 use Prim.Native.Nat.{ℕ, zero, suc, _+_, _≤_}
 use native.Mathlib.Omega.{arith}
 use mathlib.Core.List.{List, [], _∷_, _++_}
-use lib.ListN.{length, getD, set, take, drop, length-drop}
+use lib.ListN.{length, getD, take, drop, length-drop}
 use lib.Seq.{take-append-le, drop-append-le}
 use mathlib.Core.Bool.{Bool, true, false, cond}
 use Rattle.keys.specs.Member.{keep}
@@ -24,14 +24,6 @@ count-first p (suc n) = step (p 0) (p (suc n)) (countBelow n (λ (k : ℕ). p (s
     step false false d e = e
 
 module _ {A : Type 0} where
-  -- what stands at index j after a store at k: what stood there, or what was stored
-  pub set-cases : (P : A → Type 0) (xs : List A) (k j : ℕ) (a d : A) → P (getD xs j d) → (j ≡ k → P a) → P (getD (set xs k a) j d)
-  set-cases P [] k j a d p q = p
-  set-cases P (x ∷ xs) zero zero a d p q = q refl
-  set-cases P (x ∷ xs) zero (suc j) a d p q = p
-  set-cases P (x ∷ xs) (suc k) zero a d p q = p
-  set-cases P (x ∷ xs) (suc k) (suc j) a d p q = set-cases P xs k j a d p (λ e. q (ap suc e))
-
   -- a part that ends before the seam
   pub part-append : (p q : List A) (at n : ℕ) → at + n ≤ length p → take n (drop at (p ++ q)) ≡ take n (drop at p)
   part-append p q at n h =

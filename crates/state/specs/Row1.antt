@@ -9,14 +9,12 @@ use lib.Dec.{leb, eqb}
 use Rattle.format.specs.Update.{minLength, maxLength}
 use Rattle.bits.specs.Below.{allBelow}
 use Rattle.bits.specs.Bits.{within}
-use Rattle.state.specs.declared.Ledger.{Ledger}
-use Rattle.state.specs.declared.Place.{Place}
-use Rattle.state.specs.State.{places, storeLength, placeAt}
+use Rattle.state.specs.State.{places, storeLength, Place, Book, placeAt}
 
 unfoldable pub soundPlace : ℕ → Place → Bool
 soundPlace used p = leb minLength (p .length) && (leb (p .length) maxLength && within (p .ancestors) used)
 
 -- row 1 does not apply
-unfoldable pub sound : Ledger → List ℕ → Bool
+unfoldable pub sound : Book → List ℕ → Bool
 sound l s =
     eqb (length s) storeLength && (leb (l .used) places && allBelow (l .used) (λ (k : ℕ). soundPlace (l .used) (placeAt l k)))

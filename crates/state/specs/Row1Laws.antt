@@ -15,9 +15,7 @@ use Rattle.format.specs.Laws.{encode-within}
 use Rattle.bits.specs.Below.{allBelow}
 use Rattle.bits.specs.BelowLaws.{allBelow→, allBelow←}
 use Rattle.bits.specs.Bits.{within}
-use Rattle.state.specs.declared.Ledger.{Ledger}
-use Rattle.state.specs.declared.Place.{Place}
-use Rattle.state.specs.State.{places, storeLength, placeAt}
+use Rattle.state.specs.State.{places, storeLength, Place, Book, placeAt}
 use Rattle.state.specs.Row1.{soundPlace, sound}
 use Rattle.state.specs.Stands.{noUpdate, updateAt, Holds}
 
@@ -26,7 +24,7 @@ pub record SoundPlace (used : ℕ) (p : Place) : Type 0 where
   pub short : p .length ≤ maxLength
   pub inside : within (p .ancestors) used ≡ true
 
-pub record Sound (l : Ledger) (s : List ℕ) : Type 0 where
+pub record Sound (l : Book) (s : List ℕ) : Type 0 where
   pub store : length s ≡ storeLength
   pub few : l .used ≤ places
   pub each : (k : ℕ) → k < l .used → SoundPlace (l .used) (placeAt l k)
@@ -44,7 +42,7 @@ place← n p h =
     and-true (leb minLength (p .length)) (leb (p .length) maxLength && within (p .ancestors) n) (le-leb minLength (p .length) (h .long))
     (and-true (leb (p .length) maxLength) (within (p .ancestors) n) (le-leb (p .length) maxLength (h .short)) (h .inside))
 
-module _ (l : Ledger) (s : List ℕ) where
+module _ (l : Book) (s : List ℕ) where
   placeSound : ℕ → Bool
   placeSound k = soundPlace (l .used) (placeAt l k)
 
@@ -66,7 +64,7 @@ module _ (l : Ledger) (s : List ℕ) where
       (and-true (leb (l .used) places) (allBelow (l .used) placeSound) (le-leb (l .used) places (h .few))
       (allBelow← (l .used) placeSound (λ k g. place← (l .used) (placeAt l k) (h .each k g))))
 
-pub holds-sound : (l : Ledger) (s : List ℕ) (us : List Update) → Holds l s us → Sound l s
+pub holds-sound : (l : Book) (s : List ℕ) (us : List Update) → Holds l s us → Sound l s
 holds-sound l s us h =
     record {
       store = h .store-whole;

@@ -11,9 +11,8 @@ use Rattle.keys.specs.Distinct.{Distinct}
 use Rattle.format.specs.Update.{Id, Add, Update, encode, Bounded}
 use Rattle.rules.specs.Standing.{Ancestor, Held, Void, Waiting}
 use Rattle.bits.specs.Bits.{has, within}
-use Rattle.state.specs.declared.Ledger.{Ledger}
 use Rattle.state.specs.declared.Standing.the-variants.{Held as IsHeld, Waiting as IsWaiting, Void as IsVoid}
-use Rattle.state.specs.State.{places, storeLength, placeAt, storedAt}
+use Rattle.state.specs.State.{places, storeLength, Book, placeAt, storedAt}
 
 -- "An update's id is its SHA-256."
 unfoldable pub ident : Update → Id
@@ -27,9 +26,8 @@ abbrev pub updateAt : List Update → ℕ → Update
 updateAt us k = getD us k noUpdate
 
 -- the places hold exactly the updates `us`, in place order, each with its id, its length and its bytes
-pub record Holds (l : Ledger) (s : List ℕ) (us : List Update) : Type 0 where
+pub record Holds (l : Book) (s : List ℕ) (us : List Update) : Type 0 where
   pub store-whole : length s ≡ storeLength
-  pub places-whole : length (l .places) ≡ places
   pub room : length us ≤ places
   pub number : l .used ≡ length us
   pub bounded : (u : Update) → u ∈ us → Bounded u
@@ -40,7 +38,7 @@ pub record Holds (l : Ledger) (s : List ℕ) (us : List Update) : Type 0 where
   pub inside : (k : ℕ) → k < length us → within (placeAt l k .ancestors) (length us) ≡ true
 
 -- what a place says of its update is so: a held one is held, and its ancestor word has exactly the places of its ancestors; a void one is void
-pub record Truthful (l : Ledger) (us : List Update) : Type 0 where
+pub record Truthful (l : Book) (us : List Update) : Type 0 where
   pub held-right : (k : ℕ) → k < length us → placeAt l k .standing ≡ IsHeld → Held ident us (updateAt us k)
   pub void-right : (k : ℕ) → k < length us → placeAt l k .standing ≡ IsVoid → Void ident us (updateAt us k)
   pub above-right : (k j : ℕ) → k < length us → j < length us → placeAt l k .standing ≡ IsHeld
@@ -49,10 +47,10 @@ pub record Truthful (l : Ledger) (us : List Update) : Type 0 where
       → Ancestor ident us (updateAt us j) (updateAt us k) → has (placeAt l k .ancestors) j ≡ true
 
 -- nothing is left to settle: a place that waits holds an update that waits
-pub record Settled (l : Ledger) (us : List Update) : Type 0 where
+pub record Settled (l : Book) (us : List Update) : Type 0 where
   pub waiting-right : (k : ℕ) → k < length us → placeAt l k .standing ≡ IsWaiting → Waiting ident us (updateAt us k)
 
-pub record Stands (l : Ledger) (s : List ℕ) (us : List Update) : Type 0 where
+pub record Stands (l : Book) (s : List ℕ) (us : List Update) : Type 0 where
   pub holds : Holds l s us
   pub truthful : Truthful l us
   pub settled : Settled l us

@@ -1,16 +1,16 @@
--- Document 01, "Ledger and store": the bookkeeping and the lent store.
+-- Document 01, "Ledger and store": the bookkeeping, as the laws see it, and the lent store. How a ledger keeps its bookkeeping is not said here: `View` is the one
+-- file that meets the declared struct.
 -- Assumes nothing.
 use Prim.Native.Nat.{ℕ, _+_, _*_}
-use mathlib.Core.List.{List, [], _++_}
+use mathlib.Core.List.{List, _++_}
 use mathlib.Core.Option.{Option, none, some}
-use mathlib.Core.Bool.{Bool, true, false}
-use lib.ListN.{length, getD, set, take, drop, replicate}
+use mathlib.Core.Bool.{Bool, true, false, cond}
+use lib.ListN.{length, take, drop}
+use lib.Dec.{eqb}
 use Rattle.keys.specs.Order.{same}
 use Rattle.format.specs.Update.{Id, maxLength}
 use Rattle.format.specs.Decode.{part}
 use Rattle.bits.specs.Below.{countBelow, firstBelow}
-use Rattle.state.specs.declared.Ledger.{Ledger}
-use Rattle.state.specs.declared.Place.{Place}
 use Rattle.state.specs.declared.Found.{Found}
 use Rattle.state.specs.declared.Found.the-variants.{At, Nowhere}
 use Rattle.state.specs.declared.Standing.{Standing}
@@ -23,37 +23,44 @@ places = 64
 abbrev pub storeLength : ℕ
 storeLength = 34112
 
--- "a fresh ledger, no place taken"
-unfoldable pub freshLedger : Ledger
-freshLedger =
-    record { used = 0; places = replicate places (record { id = replicate 32 0; length = 0; ancestors = 0; standing = Held }) }
+-- one place: its update's id and length, the set of its ancestors' places as a number (bit k for place k), and how it stands
+pub record Place : Type 0 where
+  pub id : Id
+  pub length : ℕ
+  pub ancestors : ℕ
+  pub standing : Standing
 
--- what a place that is not there reads as
-abbrev pub noPlace : Place
-noPlace = record { id = []; length = 0; ancestors = 0; standing = Held }
+-- the bookkeeping: how many places are taken, and what each place keeps
+pub record Book : Type 0 where
+  pub used : ℕ
+  pub place : ℕ → Place
 
-abbrev pub placeAt : Ledger → ℕ → Place
-placeAt l k = getD (l .places) k noPlace
+abbrev pub placeAt : Book → ℕ → Place
+placeAt l k = l .place k
 
--- the ledger with another place k
-abbrev pub withPlace : Ledger → ℕ → Place → Ledger
-withPlace l k p = record { used = l .used; places = set (l .places) k p }
+-- a row of values with another one at k
+unfoldable pub replaced : {A : Type 0} → (ℕ → A) → ℕ → A → ℕ → A
+replaced f k a j = cond (eqb j k) a (f j)
 
--- the ledger with its next place taken, by an update that waits
-abbrev pub withTaken : Ledger → Id → ℕ → Ledger
+-- the bookkeeping with another place k
+abbrev pub withPlace : Book → ℕ → Place → Book
+withPlace l k p = record { used = l .used; place = replaced (l .place) k p }
+
+-- the bookkeeping with its next place taken, by an update that waits
+abbrev pub withTaken : Book → Id → ℕ → Book
 withTaken l i n =
     record {
       used = l .used + 1;
-      places = set (l .places) (l .used) (record { id = i; length = n; ancestors = 0; standing = Waiting });
+      place = replaced (l .place) (l .used) (record { id = i; length = n; ancestors = 0; standing = Waiting });
     }
 
--- the ledger with the place k settled: another standing and ancestor word
-abbrev pub withStanding : Ledger → ℕ → Standing → ℕ → Ledger
+-- the bookkeeping with the place k settled: another standing and ancestor set
+abbrev pub withStanding : Book → ℕ → Standing → ℕ → Book
 withStanding l k v w =
     withPlace l k (record { id = placeAt l k .id; length = placeAt l k .length; ancestors = w; standing = v })
 
 -- "Place k's update is written from byte 533 × k of the lent store"
-abbrev pub storedAt : Ledger → List ℕ → ℕ → List ℕ
+abbrev pub storedAt : Book → List ℕ → ℕ → List ℕ
 storedAt l s k = part s (maxLength * k) (placeAt l k .length)
 
 -- the store with the bytes b written from byte at on; "no other byte changes"
@@ -61,7 +68,7 @@ abbrev pub written : List ℕ → ℕ → List ℕ → List ℕ
 written s at b = take at s ++ (b ++ drop (at + length b) s)
 
 -- the first taken place with this id
-unfoldable pub findIn : Ledger → Id → Option ℕ
+unfoldable pub findIn : Book → Id → Option ℕ
 findIn l i = firstBelow (l .used) (λ (k : ℕ). same (placeAt l k .id) i)
 
 abbrev pub foundOf : Option ℕ → Found
@@ -84,5 +91,5 @@ isVoid Held = false
 isVoid Waiting = false
 isVoid Void = true
 
-unfoldable pub countOf : (Standing → Bool) → Ledger → ℕ
+unfoldable pub countOf : (Standing → Bool) → Book → ℕ
 countOf p l = countBelow (l .used) (λ (k : ℕ). p (placeAt l k .standing))

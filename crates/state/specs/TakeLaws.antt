@@ -7,8 +7,8 @@ use native.Mathlib.Nat.{not-suc-le-zero, le-refl, eq-or-lt-of-le}
 use mathlib.Core.Logic.{⊎-elim}
 use mathlib.Core.List.{List, [], _∷_, _++_, List·Memᴰ·not-nil}
 use mathlib.Core.Bool.{true}
-use lib.ListN.{length, take, drop, length-append, length-drop, length-set, take-append-drop, List·getD-append}
-use lib.Seq.{length-take-le, take-append-seam, drop-at, getD-at, getD-set-same, getD-set-other}
+use lib.ListN.{length, take, drop, length-append, length-drop, take-append-drop, List·getD-append}
+use lib.Seq.{length-take-le, take-append-seam, drop-at, getD-at}
 use Rattle.keys.specs.BoolLaws.{true-false}
 use Rattle.keys.specs.Member.{_∈_}
 use Rattle.keys.specs.MemberLaws.{∈-singleton}
@@ -22,10 +22,9 @@ use Rattle.rules.specs.LeastSets.{ancestor-stored}
 use Rattle.rules.specs.Growth.{grow-ancestor, grow-held, grow-void, held-ancestors-stay, added-more, added-cases}
 use Rattle.bits.specs.Bits.{has, within}
 use Rattle.bits.specs.BitsLaws.{within→, within-more, within-none}
-use Rattle.state.specs.declared.Ledger.{Ledger}
-use Rattle.state.specs.declared.Place.{Place}
 use Rattle.state.specs.declared.Standing.the-variants.{Held as IsHeld, Waiting as IsWaiting, Void as IsVoid}
-use Rattle.state.specs.State.{places, storeLength, noPlace, placeAt, withTaken, written}
+use Rattle.state.specs.State.{places, storeLength, Place, Book, placeAt, withTaken, written}
+use Rattle.state.specs.BookLaws.{replaced-same, replaced-other}
 use Rattle.state.specs.Row1.{sound}
 use Rattle.state.specs.Row1Laws.{sound←, holds-sound}
 use Rattle.state.specs.Stands.{ident, noUpdate, updateAt, Holds, Truthful, Stands}
@@ -33,17 +32,16 @@ use Rattle.state.specs.ListFacts.{part-append}
 use Rattle.state.specs.StandingLaws.{held≢waiting, void≢waiting}
 
 -- a ledger that stands is never row 1
-pub stands-sound : (l : Ledger) (s : List ℕ) (us : List Update) → Stands l s us → sound l s ≡ true
+pub stands-sound : (l : Book) (s : List ℕ) (us : List Update) → Stands l s us → sound l s ≡ true
 stands-sound l s us h = sound← l s (holds-sound l s us (h .holds))
 
 -- no place taken: it stands for no updates, with any store of the length, whatever the free places hold
-pub fresh-stands : (l : Ledger) (s : List ℕ) → l .used ≡ 0 → length (l .places) ≡ places → length s ≡ storeLength → Stands l s []
-fresh-stands l s empty whole store =
+pub fresh-stands : (l : Book) (s : List ℕ) → l .used ≡ 0 → length s ≡ storeLength → Stands l s []
+fresh-stands l s empty store =
     record {
       holds =
           record {
             store-whole = store;
-            places-whole = whole;
             room = zero-le;
             number = empty;
             bounded = λ u m. absurd (List·Memᴰ·not-nil m);
@@ -64,15 +62,15 @@ fresh-stands l s empty whole store =
     }
 
 -- the place that is taken, and the others, which are as they were
-module _ (l : Ledger) (i : Id) (n : ℕ) where
+module _ (l : Book) (i : Id) (n : ℕ) where
   abbrev new-place : Place
   new-place = record { id = i; length = n; ancestors = 0; standing = IsWaiting }
 
-  pub taken-new : l .used < length (l .places) → placeAt (withTaken l i n) (l .used) ≡ record { id = i; length = n; ancestors = 0; standing = IsWaiting }
-  taken-new = getD-set-same (l .places) (l .used) new-place noPlace
+  pub taken-new : placeAt (withTaken l i n) (l .used) ≡ record { id = i; length = n; ancestors = 0; standing = IsWaiting }
+  taken-new = replaced-same (l .place) (l .used) new-place
 
   pub taken-old : (k : ℕ) → (k ≡ l .used → ⊥) → placeAt (withTaken l i n) k ≡ placeAt l k
-  taken-old k = getD-set-other (l .places) (l .used) k new-place noPlace
+  taken-old = replaced-other (l .place) (l .used) new-place
 
 -- bytes written into a store
 module _ (s : List ℕ) (at : ℕ) (b : List ℕ) (fits : at + length b ≤ length s) where
@@ -95,7 +93,7 @@ module _ (s : List ℕ) (at : ℕ) (b : List ℕ) (fits : at + length b ≤ leng
       ∙ sym (part-append (take at s) (drop at s) j n (omega (arith, front)))
       ∙ ap (λ (r : List ℕ). part r j n) (take-append-drop at s)
 
-module _ (l : Ledger) (s : List ℕ) (us : List Update) (u : Update) (stands : Stands l s us) (bounded : Bounded u)
+module _ (l : Book) (s : List ℕ) (us : List Update) (u : Update) (stands : Stands l s us) (bounded : Bounded u)
     (free : length us < places) (new : (v : Update) → v ∈ us → ident v ≡ ident u → ⊥) where
   abbrev more : List Update
   more = us ++ (u ∷ [])
@@ -103,7 +101,7 @@ module _ (l : Ledger) (s : List ℕ) (us : List Update) (u : Update) (stands : S
   abbrev place : Place
   place = record { id = ident u; length = length (encode u); ancestors = 0; standing = IsWaiting }
 
-  abbrev taken : Ledger
+  abbrev taken : Book
   taken = withTaken l (ident u) (length (encode u))
 
   one-more : length more ≡ length us + 1
@@ -121,8 +119,7 @@ module _ (l : Ledger) (s : List ℕ) (us : List Update) (u : Update) (stands : S
       ⊎-elim
       (λ (e : k ≡ length us).
       let a : placeAt taken k ≡ place =
-      ap (placeAt taken) (e ∙ sym number)
-      ∙ taken-new l (ident u) (length (encode u)) (omega (arith, number, free, stands .holds .places-whole)) in
+      ap (placeAt taken) (e ∙ sym number) ∙ taken-new l (ident u) (length (encode u)) in
       let b : updateAt more k ≡ u = getD-at us u [] noUpdate k (sym e) in
       subst₂ (P k) (sym a) (sym b) (subst (λ (i : ℕ). P i place u) (sym e) last))
       (λ (h : k < length us).
@@ -142,7 +139,6 @@ module _ (l : Ledger) (s : List ℕ) (us : List Update) (u : Update) (stands : S
       let fits : at + length (encode u) ≤ length s = omega (arith, h .number, h .store-whole, free, encode-within u bounded .1) in
       record {
         store-whole = written-length s at (encode u) fits ∙ h .store-whole;
-        places-whole = length-set (l .places) (l .used) place ∙ h .places-whole;
         room = omega (arith, one-more, free);
         number = ap (λ (n : ℕ). n + 1) (h .number) ∙ sym one-more;
         bounded = λ v m.

@@ -10,10 +10,9 @@ use Rattle.keys.specs.Member.{_∈_}
 use Rattle.keys.specs.MemberLaws.{∈-getD}
 use Rattle.format.specs.Update.{Update}
 use Rattle.rules.specs.Settle.{Verdict, held, waiting, void, isHeld, isWaiting, isVoid}
-use Rattle.state.specs.declared.Ledger.{Ledger}
 use Rattle.state.specs.declared.Standing.{Standing}
 use Rattle.state.specs.declared.Standing.the-variants.{Held as IsHeld, Waiting as IsWaiting, Void as IsVoid}
-use Rattle.state.specs.State.{placeAt, findIn}
+use Rattle.state.specs.State.{Book, placeAt, findIn}
 use Rattle.state.specs.Stands.{ident, noUpdate, updateAt, Holds}
 use Rattle.state.specs.FindLaws.{find-all}
 
@@ -40,14 +39,14 @@ verdict-void IsHeld e = absurd (false≢true (ap isVoid e))
 verdict-void IsWaiting e = absurd (false≢true (ap isVoid e))
 verdict-void IsVoid e = refl
 
-abbrev verdictAt : Ledger → Option ℕ → Verdict
+abbrev verdictAt : Book → Option ℕ → Verdict
 verdictAt l none = waiting
 verdictAt l (some k) = verdictOf (placeAt l k .standing)
 
-pub verdict : Ledger → Update → Verdict
+pub verdict : Book → Update → Verdict
 verdict l u = verdictAt l (findIn l (ident u))
 
-module _ (l : Ledger) (s : List ℕ) (us : List Update) (holds : Holds l s us) where
+module _ (l : Book) (s : List ℕ) (us : List Update) (holds : Holds l s us) where
   pub verdict-at : (k : ℕ) → k < length us → verdict l (updateAt us k) ≡ verdictOf (placeAt l k .standing)
   unfolding verdict
   verdict-at k g = ap (verdictAt l) (find-all l s us holds k g)

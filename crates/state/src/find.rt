@@ -3,6 +3,7 @@ ghost use mathlib.Core.Path.{_≡_};
 ghost use Prim.Native.Nat.{_≤_};
 ghost use Rattle.keys.specs.Order.{same};
 ghost use Rattle.state.specs.State.{findIn, foundOf};
+ghost use Rattle.state.specs.View.{bookOf};
 use crate::Found;
 use crate::Ledger;
 use crate::Place;
@@ -17,8 +18,8 @@ pub fn has_id(p: Place, id: &[u8]) -> bool
 
 // The first taken place with this id.
 pub fn find(l: Ledger, id: &[u8]) -> Found
-    requires { ⌜ l .used ≤ 64 ⌝ }
-    ensures { λ r. ⌜ r ≡ foundOf (findIn l (now (id .entry))) ⌝ }
+    requires { ⌜ bookOf l .used ≤ 64 ⌝ }
+    ensures { λ r. ⌜ r ≡ foundOf (findIn (bookOf l) (now (id .entry))) ⌝ }
 {
     let used = l.used;
     let mut k: usize = 0;

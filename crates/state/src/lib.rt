@@ -4,7 +4,8 @@ pub mod store;
 
 ghost use mathlib.Core.Path.{_≡_};
 ghost use Prim.Native.Nat.{_+_, _<_};
-ghost use Rattle.state.specs.State.{freshLedger, withTaken, withStanding};
+ghost use Rattle.state.specs.State.{withTaken, withStanding};
+ghost use Rattle.state.specs.View.{bookOf, freshLedger};
 
 // How many places a ledger has.
 pub const PLACES: usize = 64;
@@ -58,8 +59,8 @@ pub fn fresh() -> Ledger
 impl Ledger {
     // The next place is taken, by an update that waits.
     pub fn taken(mut self, id: [u8; 32], length: usize) -> Ledger
-        requires { ⌜ self .used < 64 ⌝ }
-        ensures { λ r. ⌜ r ≡ withTaken self id length ⌝ }
+        requires { ⌜ bookOf self .used < 64 ⌝ }
+        ensures { λ r. ⌜ bookOf r ≡ withTaken (bookOf self) id length ⌝ }
     {
         let k = self.used;
         self.places[k] = Place {
@@ -75,7 +76,7 @@ impl Ledger {
     // The standing of place k is changed, and its ancestors with it.
     pub fn settled(mut self, k: usize, standing: Standing, ancestors: u64) -> Ledger
         requires { ⌜ k < 64 ⌝ }
-        ensures { λ r. ⌜ r ≡ withStanding self k standing ancestors ⌝ }
+        ensures { λ r. ⌜ bookOf r ≡ withStanding (bookOf self) k standing ancestors ⌝ }
     {
         let old = self.places[k];
         let id = old.id;

@@ -5,20 +5,19 @@ use mathlib.Core.Path.{_≡_, refl, ap, _∙_}
 use mathlib.Core.Bool.{Bool, true, false}
 use Rattle.bits.specs.Below.{countBelow}
 use Rattle.bits.specs.BelowLaws.{countBelow-more, countBelow-cong}
-use Rattle.state.specs.State.{placeAt, countOf}
+use Rattle.state.specs.State.{Book, placeAt, countOf}
 use Rattle.state.specs.Number.{hasStanding}
-use Rattle.state.specs.declared.Ledger.{Ledger}
 use Rattle.state.specs.declared.Standing.{Standing}
 
 -- place k has the standing s
-abbrev standsAt : Ledger → Standing → ℕ → Bool
+abbrev standsAt : Book → Standing → ℕ → Bool
 standsAt l s k = hasStanding s (placeAt l k .standing)
 
 -- how many places below k have the standing s
-unfoldable pub counted : Ledger → Standing → ℕ → ℕ
+unfoldable pub counted : Book → Standing → ℕ → ℕ
 counted l s k = countBelow k (standsAt l s)
 
-module _ (l : Ledger) (s : Standing) where
+module _ (l : Book) (s : Standing) where
   pub counted-first : 0 ≡ counted l s 0
   unfolding counted countBelow
   counted-first = refl
@@ -37,6 +36,6 @@ module _ (l : Ledger) (s : Standing) where
     unfolding counted
     counted-none b h = rw (countBelow-more, ← t, b, h)
 
-pub countOf-cong : (p q : Standing → Bool) → ((v : Standing) → p v ≡ q v) → (l : Ledger) → countOf p l ≡ countOf q l
+pub countOf-cong : (p q : Standing → Bool) → ((v : Standing) → p v ≡ q v) → (l : Book) → countOf p l ≡ countOf q l
 unfolding countOf
 countOf-cong p q f l = countBelow-cong (l .used) _ _ (λ k h. f (placeAt l k .standing))

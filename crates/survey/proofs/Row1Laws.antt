@@ -10,10 +10,8 @@ use Rattle.format.specs.Update.{minLength, maxLength}
 use Rattle.bits.specs.Below.{allBelow}
 use Rattle.bits.specs.BelowLaws.{allBelow-more, allBelow-false←}
 use Rattle.bits.specs.Bits.{within}
-use Rattle.state.specs.State.{places, storeLength, placeAt}
+use Rattle.state.specs.State.{places, storeLength, Place, Book, placeAt}
 use Rattle.state.specs.Row1.{soundPlace, sound}
-use Rattle.state.specs.declared.Ledger.{Ledger}
-use Rattle.state.specs.declared.Place.{Place}
 
 -- one place
 module _ (used : ℕ) (p : Place) where
@@ -30,19 +28,19 @@ module _ (used : ℕ) (p : Place) where
   by-ancestors l h = rw (le-leb _ _ l, le-leb _ _ h)
 
 -- place k is sound
-abbrev pub soundAt : Ledger → ℕ → Bool
+abbrev pub soundAt : Book → ℕ → Bool
 soundAt l k = soundPlace (l .used) (placeAt l k)
 
 -- the places below k are sound
-unfoldable pub SoundBelow : Ledger → ℕ → Type 0
+unfoldable pub SoundBelow : Book → ℕ → Type 0
 SoundBelow l k = allBelow k (soundAt l) ≡ true
 
-pub sound-first : (l : Ledger) → SoundBelow l 0
+pub sound-first : (l : Book) → SoundBelow l 0
 unfolding SoundBelow allBelow
 sound-first l = refl
 
 -- what a test of place k says
-module _ (l : Ledger) (k : ℕ) {r : Bool} (t : r ≡ soundAt l k) where
+module _ (l : Book) (k : ℕ) {r : Bool} (t : r ≡ soundAt l k) where
   pub sound-more : r ≡ true → SoundBelow l k → SoundBelow l (k + 1)
   unfolding SoundBelow
   sound-more b h = rw (allBelow-more, h, ← t, b)
@@ -51,7 +49,7 @@ module _ (l : Ledger) (k : ℕ) {r : Bool} (t : r ≡ soundAt l k) where
   unsound h b = allBelow-false← (l .used) (soundAt l) k h (sym t ∙ b)
 
 -- the ledger and the store
-module _ (l : Ledger) (s : List ℕ) where
+module _ (l : Book) (s : List ℕ) where
   pub wrong-store : (length s ≡ storeLength → ⊥) → false ≡ sound l s
   unfolding sound
   wrong-store h = rw (ne-eqb _ _ h)
@@ -64,6 +62,6 @@ module _ (l : Ledger) (s : List ℕ) where
   unfolding sound
   by-places e u = rw (eq-eqb _ _ e, le-leb _ _ u)
 
-pub all-sound : (l : Ledger) (k : ℕ) → k ≡ l .used → SoundBelow l k → allBelow (l .used) (soundAt l) ≡ true
+pub all-sound : (l : Book) (k : ℕ) → k ≡ l .used → SoundBelow l k → allBelow (l .used) (soundAt l) ≡ true
 unfolding SoundBelow
 all-sound l k q h = ap (λ (m : ℕ). allBelow m (soundAt l)) (sym q) ∙ h

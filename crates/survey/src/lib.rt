@@ -3,6 +3,7 @@ ghost use mathlib.Core.Path.{_≡_};
 ghost use Prim.Native.Nat.{_≤_};
 ghost use Rattle.keys.specs.Compare.{orderOf};
 ghost use Rattle.state.specs.State.{isHeld, isVoid, countOf};
+ghost use Rattle.state.specs.View.{placeOf, bookOf};
 ghost use Rattle.state.specs.Number.{numberOf, hasStanding};
 ghost use Rattle.state.specs.Row1.{sound as soundLedger, soundPlace};
 use format::bounds::MAX_LENGTH;
@@ -16,7 +17,7 @@ use state::Standing;
 
 // Whether a taken place's length and ancestors are possible ones.
 fn sound_place(used: usize, p: Place) -> bool
-    ensures { λ r. ⌜ r ≡ soundPlace used p ⌝ }
+    ensures { λ r. ⌜ r ≡ soundPlace used (placeOf p) ⌝ }
 {
     if p.length < MIN_LENGTH {
         return false;
@@ -29,7 +30,7 @@ fn sound_place(used: usize, p: Place) -> bool
 
 // Whether row 1 does not apply.
 pub fn sound(l: Ledger, store: &[u8]) -> bool
-    ensures { λ r. ⌜ r ≡ soundLedger l (now (store .entry)) ⌝ }
+    ensures { λ r. ⌜ r ≡ soundLedger (bookOf l) (now (store .entry)) ⌝ }
 {
     if store.len() != STORE_LENGTH {
         return false;
@@ -69,8 +70,8 @@ pub fn has_standing(p: Place, standing: Standing) -> bool
 
 // How many taken places have this standing.
 fn count(l: Ledger, standing: Standing) -> usize
-    requires { ⌜ l .used ≤ 64 ⌝ }
-    ensures { λ r. ⌜ r ≡ countOf (hasStanding standing) l ⌝ }
+    requires { ⌜ bookOf l .used ≤ 64 ⌝ }
+    ensures { λ r. ⌜ r ≡ countOf (hasStanding standing) (bookOf l) ⌝ }
 {
     let used = l.used;
     let mut n: usize = 0;
@@ -86,16 +87,16 @@ fn count(l: Ledger, standing: Standing) -> usize
 
 // How many taken places are held.
 pub fn held_count(l: Ledger) -> usize
-    requires { ⌜ l .used ≤ 64 ⌝ }
-    ensures { λ r. ⌜ r ≡ countOf isHeld l ⌝ }
+    requires { ⌜ bookOf l .used ≤ 64 ⌝ }
+    ensures { λ r. ⌜ r ≡ countOf isHeld (bookOf l) ⌝ }
 {
     count(l, Standing::Held)
 }
 
 // How many taken places are void.
 pub fn void_count(l: Ledger) -> usize
-    requires { ⌜ l .used ≤ 64 ⌝ }
-    ensures { λ r. ⌜ r ≡ countOf isVoid l ⌝ }
+    requires { ⌜ bookOf l .used ≤ 64 ⌝ }
+    ensures { λ r. ⌜ r ≡ countOf isVoid (bookOf l) ⌝ }
 {
     count(l, Standing::Void)
 }

@@ -11,27 +11,27 @@ use Rattle.keys.specs.BoolLaws.{test-ext}
 use Rattle.keys.specs.Member.{keep}
 use Rattle.keys.specs.MemberLaws.{keep-cong}
 use Rattle.bits.specs.Below.{anyBelow, upTo}
-use Rattle.bits.specs.Bits.{has, including}
-use Rattle.bits.specs.BitsLaws.{has-including, has-none}
-use Rattle.state.specs.declared.Ledger.{Ledger}
+use Rattle.bits.specs.Bits.{wordBits, has, includingBelow}
+use Rattle.bits.specs.BitsLaws.{included, has-including, has-none}
 use Rattle.fields.specs.Fields.{authorIn}
 use Rattle.relations.specs.PlaceTests.{decodedAt, authorAt, forkedAt}
 use Rattle.relations.proofs.Testing.{any-more, any-zero, with-true}
 use Rattle.views.specs.Board.{markedAt, marksOf}
+use Rattle.state.specs.State.{Book}
 
 eqb-sym : (a b : ℕ) → eqb a b ≡ eqb b a
 eqb-sym a b = test-ext (eqb a b) (eqb b a) (λ e. eq-eqb b a (sym (eqb-true a b e))) (λ e. eq-eqb a b (sym (eqb-true b a e)))
 
-module _ (l : Ledger) (s : List ℕ) where
+module _ (l : Book) (s : List ℕ) where
   -- place k marks author a
   abbrev marksAt : ℕ → ℕ → Bool
   marksAt a k = eqb (authorAt l s k) a && forkedAt l s k
 
-  pub author-added : (w k a : ℕ) {b : Bool} {c m : ℕ} → b ≡ forkedAt l s k → b ≡ true → c ≡ authorIn (decodedAt l s k) → c ≤ 15 → m ≡ including w c → has m a ≡ has w a || marksAt a k
+  pub author-added : (w k a : ℕ) {b : Bool} {c m : ℕ} → b ≡ forkedAt l s k → b ≡ true → c ≡ authorIn (decodedAt l s k) → c ≤ 15 → m ≡ includingBelow wordBits w c → has m a ≡ has w a || marksAt a k
   unfolding authorAt
   author-added w k a e t f h g =
-      ap (λ (x : ℕ). has x a) g
-      ∙ has-including w _ a (omega arith)
+      ap (λ (x : ℕ). has x a) (g ∙ included wordBits w _ (omega arith))
+      ∙ has-including w _ a
       ∙ ap (λ (x : Bool). has w a || x) (eqb-sym a _ ∙ ap (λ (c : ℕ). eqb c a) f ∙ sym (with-true (eqb (authorAt l s k) a)) ∙ ap (λ (x : Bool). eqb (authorAt l s k) a && x) (sym (sym e ∙ t)))
 
   pub author-kept : (w k a : ℕ) {b : Bool} → b ≡ forkedAt l s k → b ≡ false → has w a ≡ has w a || marksAt a k

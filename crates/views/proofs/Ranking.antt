@@ -15,8 +15,7 @@ use Rattle.keys.specs.Order.{same}
 use Rattle.keys.specs.Member.{keep}
 use Rattle.keys.specs.MemberLaws.{keep-append, keep-length}
 use Rattle.rules.specs.Standing.{beginning}
-use Rattle.state.specs.declared.Ledger.{Ledger}
-use Rattle.state.specs.State.{placeAt}
+use Rattle.state.specs.State.{Book, placeAt}
 use Rattle.relations.specs.PlaceTests.{decodedAt, heldAt, rankAt, order}
 use Rattle.relations.specs.Related.{rankedIn}
 use Rattle.views.specs.Board.{insertAt, byRank, after, putBy, put, putAll, entriesOf}
@@ -92,7 +91,7 @@ module _ (p : ℕ → Bool) (f : ℕ → ℕ) (n : ℕ) where
       go true i = i
       go false i = i
 
-module _ (l : Ledger) (s : List ℕ) where
+module _ (l : Book) (s : List ℕ) where
   pub ranked-is : (k n : ℕ) {b : Bool} → b ≡ rankedIn s n (placeAt l k) k → b ≡ ranked l s n k
   unfolding ranked
   ranked-is k n e = e

@@ -12,12 +12,11 @@ use Rattle.format.specs.Update.{Id, maxAuthor}
 use Rattle.rules.specs.Standing.{beginning}
 use Rattle.rules.specs.Settle.{isInsert}
 use Rattle.bits.specs.Below.{anyBelow, upTo}
-use Rattle.bits.specs.Bits.{wordBits}
-use Rattle.state.specs.declared.Ledger.{Ledger}
 use Rattle.fields.specs.Fields.{testOf, tagIn, valueIn, anchorIn}
 use Rattle.relations.specs.PlaceTests.{idAt, decodedAt, heldAt, authorAt, rankAt, order, forkedAt, presentAt}
+use Rattle.state.specs.State.{places, Book}
 
-module _ (l : Ledger) (s : List ℕ) where
+module _ (l : Book) (s : List ℕ) where
   -- marks
   unfoldable pub markedAt : ℕ → Bool
   markedAt a = anyBelow (l .used) (λ (r : ℕ). eqb (authorAt l s r) a && forkedAt l s r)
@@ -59,7 +58,7 @@ module _ (l : Ledger) (s : List ℕ) where
   putAll xs (e ∷ es) = putAll (put e xs) es
 
   unfoldable pub entriesOf : List ℕ
-  entriesOf = putAll [] (byRank wordBits)
+  entriesOf = putAll [] (byRank places)
 
   unfoldable pub valueAt : ℕ → List ℕ
   valueAt k = valueIn (decodedAt l s k)

@@ -19,7 +19,6 @@ use Rattle.rules.specs.Settle.{Row, Table, heldRow, forkedBy, marks, names, rem
 use Rattle.rules.specs.TableLaws.{tagsOf-∈, ∈-tagsOf}
 use Rattle.bits.specs.Below.{upTo}
 use Rattle.bits.specs.BelowLaws.{anyBelow→, anyBelow←, upTo-∈, ∈-upTo, upTo-ascending}
-use Rattle.state.specs.declared.Ledger.{Ledger}
 use Rattle.fields.specs.Fields.{testOf, isAnyAdd, tagIn}
 use Rattle.state.specs.Stands.{ident, updateAt, Stands}
 use Rattle.relations.specs.PlaceTests.{idAt, decodedAt, authorAt, heldAt, forkedAt, removedAt, presentAt, order}
@@ -29,6 +28,7 @@ use Rattle.views.specs.Board.{markedAt, marksOf, tagAt, tagOrder}
 use Rattle.views.specs.ListFacts.{concatMap-keep-map}
 use Rattle.relations.specs.PlaceLaws.{from-used, to-used, place-in, place-decoded, place-author, place-test}
 use Rattle.relations.specs.RowLaws.{rowAt, row-id, order-∈, ∈-order, table-rows, held-agrees, author-agrees, op-agrees, fork-agrees, op-test-agrees}
+use Rattle.state.specs.State.{Book}
 
 any-add : {o : Operation} {t : List ℕ} → o ≡ Add t → isAnyAdd o ≡ true
 unfolding isAnyAdd
@@ -41,7 +41,7 @@ isAnyAdd→ (Remove t named) e = absurd (false≢true e)
 isAnyAdd→ (Insert a v) e = absurd (false≢true e)
 isAnyAdd→ (Delete i) e = absurd (false≢true e)
 
-module _ {l : Ledger} {s : List ℕ} {us : List Update} (stands : Stands l s us) where
+module _ {l : Book} {s : List ℕ} {us : List Update} (stands : Stands l s us) where
   -- what is given for the rows that pass a test
   rows-agree : {B : Type 0} (f : Row → B) (p : Row → Bool) (f′ : ℕ → B) (p′ : ℕ → Bool)
       → ((k : ℕ) → k < length us → f (rowAt us k) ≡ f′ k) → ((k : ℕ) → k < length us → p (rowAt us k) ≡ p′ k)
@@ -138,6 +138,6 @@ module _ {l : Ledger} {s : List ℕ} {us : List Update} (stands : Stands l s us)
       (λ k m. kept-agrees k (order-∈ stands m)) (λ k m. ap tagsOf (op-agrees stands (order-∈ stands m)))))
 
 -- the places of the set are those listed by tag
-pub sorted-tags : (l : Ledger) (s : List ℕ) → sortedBy l s Tag ≡ tagOrder l s
+pub sorted-tags : (l : Book) (s : List ℕ) → sortedBy l s Tag ≡ tagOrder l s
 unfolding sortedBy tagOrder tagAt
 sorted-tags l s = refl

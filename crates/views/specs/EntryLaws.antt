@@ -16,12 +16,12 @@ use Rattle.keys.specs.MemberLaws.{∈-cases, keep-none, concatMap-append}
 use Rattle.format.specs.Update.{Id}
 use Rattle.rules.specs.Standing.{beginning}
 use Rattle.rules.specs.TableLaws.{not-true→}
-use Rattle.state.specs.declared.Ledger.{Ledger}
 use Rattle.relations.specs.PlaceTests.{idAt, decodedAt}
 use Rattle.views.specs.Board.{after, putBy, put, putAll}
 use Rattle.fields.specs.Fields.{anchorIn}
+use Rattle.state.specs.State.{Book}
 
-module _ (l : Ledger) (s : List ℕ) where
+module _ (l : Book) (s : List ℕ) where
   abbrev pub anchorAt : ℕ → Id
   anchorAt k = anchorIn (decodedAt l s k)
 

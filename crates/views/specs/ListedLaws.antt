@@ -29,10 +29,9 @@ use Rattle.rules.specs.Settling.{settled-decides}
 use Rattle.rules.specs.ReadOffLaws.{list-right, listed-unique}
 use Rattle.bits.specs.Below.{countBelow, upTo}
 use Rattle.bits.specs.BelowLaws.{upTo-∈, ∈-upTo, countBelow-le, countBelow-lt, countBelow-length, anyBelow→, anyBelow←}
-use Rattle.bits.specs.Bits.{has, wordBits}
-use Rattle.bits.specs.BitsLaws.{count-within}
-use Rattle.state.specs.declared.Ledger.{Ledger}
-use Rattle.state.specs.State.{placeAt}
+use Rattle.bits.specs.Bits.{has}
+use Rattle.bits.specs.BitsLaws.{within→lt, count-within, count-lt}
+use Rattle.state.specs.State.{places, Book, placeAt}
 use Rattle.fields.specs.Fields.{testOf, anchorOf, anchorIn, valueIn}
 use Rattle.state.specs.Stands.{ident, updateAt, Stands}
 use Rattle.relations.specs.PlaceTests.{idAt, decodedAt, heldAt, deletedAt, shownAt, order, rankAt}
@@ -41,7 +40,7 @@ use Rattle.relations.specs.PlaceLaws.{from-used, to-used, place-of, place-id, s
 use Rattle.relations.specs.RowLaws.{order-∈, ∈-order, order-ascending}
 use Rattle.views.specs.EntryLaws.{anchorAt, atStart, underAt, among, Walked, Descending, descending-nil, descending-cons, Rooted, IsWalk, put-all}
 
-module _ {l : Ledger} {s : List ℕ} {us : List Update} (stands : Stands l s us) where
+module _ {l : Book} {s : List ℕ} {us : List Update} (stands : Stands l s us) where
   -- ranks
 
   rank-count : {k : ℕ} → k < length us → rankAt l s k ≡ countBelow (length us) (has (placeAt l k .ancestors))
@@ -51,7 +50,7 @@ module _ {l : Ledger} {s : List ℕ} {us : List Update} (stands : Stands l s us)
   not-above : {k : ℕ} → k < length us → heldAt l s k ≡ true → has (placeAt l k .ancestors) k ≡ false
   not-above {k} h e = not-true→false (has (placeAt l k .ancestors) k) (λ b. held-acyclic ident us (held-at→ stands h e) (above-at→ stands h h e b))
 
-  rank-small : {k : ℕ} → k < length us → heldAt l s k ≡ true → rankAt l s k < wordBits
+  rank-small : {k : ℕ} → k < length us → heldAt l s k ≡ true → rankAt l s k < places
   rank-small {k} h e =
       omega (
         arith,
@@ -63,14 +62,11 @@ module _ {l : Ledger} {s : List ℕ} {us : List Update} (stands : Stands l s us)
 
   rank-grows : {j k : ℕ} → j < length us → k < length us → heldAt l s j ≡ true → heldAt l s k ≡ true → Ancestor ident us (updateAt us j) (updateAt us k)
       → rankAt l s j < rankAt l s k
+  unfolding rankAt
   rank-grows {j} {k} g h d e a =
-      omega (
-        arith,
-        rank-count g,
-        rank-count h,
-        countBelow-lt (length us) (has (placeAt l j .ancestors)) (has (placeAt l k .ancestors))
-            (λ i f b. →above-at stands f h e (ancestor-trans ident us (above-at→ stands f g d b) a)) j g (not-above g d) (→above-at stands g h e a),
-      )
+      count-lt (length us) (within→lt (placeAt l j .ancestors) (length us) (stands .holds .inside j g))
+      (within→lt (placeAt l k .ancestors) (length us) (stands .holds .inside k h))
+      (λ i f b. →above-at stands f h e (ancestor-trans ident us (above-at→ stands f g d b) a)) j (not-above g d) (→above-at stands g h e a)
 
   rank-right : {k : ℕ} → k < length us → heldAt l s k ≡ true → Rank ident us (updateAt us k) (rankAt l s k)
   rank-right {k} h e = record {
@@ -184,13 +180,13 @@ module _ {l : Ledger} {s : List ℕ} {us : List Update} (stands : Stands l s us)
       (λ x y m k. before-less (idAt l s x) (idAt l s y) (let h : rankAt l s x < n = by-rank-∈ n m .1 in let q : rankAt l s y ≡ n = rank-of n k in omega arith))
 
   abbrev entries : List ℕ
-  entries = byRank l s wordBits
+  entries = byRank l s places
 
   entry-at : {k : ℕ} → k ∈ entries → EntryAt k
-  entry-at m = by-rank-∈ wordBits m .0
+  entry-at m = by-rank-∈ places m .0
 
   at-entry : {k : ℕ} → EntryAt k → k ∈ entries
-  at-entry f = ∈-by-rank wordBits f (rank-small (f .taken) (f .is-held))
+  at-entry f = ∈-by-rank places f (rank-small (f .taken) (f .is-held))
 
   -- each is anchored at the beginning or at one of a lower rank
   anchored-at : {k : ℕ} (f : EntryAt k) → InsertAncestor ident us (updateAt us k) (f .anchor)
@@ -218,7 +214,7 @@ module _ {l : Ledger} {s : List ℕ} {us : List Update} (stands : Stands l s us)
 
   walk-of : IsWalk l s key entries (entriesOf l s)
   unfolding entriesOf
-  walk-of = put-all l s entries-rooted (by-rank-ascending wordBits)
+  walk-of = put-all l s entries-rooted (by-rank-ascending places)
 
   -- the siblings are those of the rules
 

@@ -4,6 +4,7 @@ ghost use mathlib.Core.List.{List};
 ghost use Prim.Native.Nat.{ℕ, _+_, _≤_, _<_};
 ghost use lib.ListN.{length};
 ghost use Rattle.keys.specs.Member.{keep};
+ghost use Rattle.state.specs.View.{bookOf};
 ghost use Rattle.views.specs.Board.{after, put as putPlace, putAll, entriesOf};
 ghost use Rattle.relations.specs.PlaceTests.{order as orderOf};
 ghost use Rattle.orders.specs.Pieces.{placesIn, ins, Sound, Lists};
@@ -20,7 +21,7 @@ const RANKS: usize = 64;
 // The index after the first entry with this id; past the end where there is none.
 fn index_after(l: Ledger, entries: Places, id: &[u8]) -> usize
     requires { ⌜ Sound entries ⌝ }
-    ensures { λ r. ⌜ (r ≤ entries .count) × ((s : List ℕ) (k : ℕ) → ins r k (placesIn entries) ≡ after l s (now (id .entry)) k (placesIn entries)) ⌝ }
+    ensures { λ r. ⌜ (r ≤ entries .count) × ((s : List ℕ) (k : ℕ) → ins r k (placesIn entries) ≡ after (bookOf l) s (now (id .entry)) k (placesIn entries)) ⌝ }
 {
     let count = entries.count;
     let mut i: usize = 0;
@@ -37,7 +38,7 @@ fn index_after(l: Ledger, entries: Places, id: &[u8]) -> usize
 // The index where place k is put.
 fn index_of(l: Ledger, store: &[u8], entries: Places, k: usize) -> usize
     requires { ⌜ Sound entries × (k < 64) ⌝ }
-    ensures { λ r. ⌜ (r ≤ entries .count) × (ins r k (placesIn entries) ≡ putPlace l (now (store .entry)) k (placesIn entries)) ⌝ }
+    ensures { λ r. ⌜ (r ≤ entries .count) × (ins r k (placesIn entries) ≡ putPlace (bookOf l) (now (store .entry)) k (placesIn entries)) ⌝ }
 {
     let p = l.places[k];
     let anchor = fields::anchor_of(stored(store, k, p.length));
@@ -51,15 +52,15 @@ fn index_of(l: Ledger, store: &[u8], entries: Places, k: usize) -> usize
 // The entries with place k put among them.
 fn put(l: Ledger, store: &[u8], entries: Places, k: usize) -> Places
     requires { ⌜ Sound entries × (entries .count < 64) × (k < 64) ⌝ }
-    ensures { λ r. ⌜ Lists r (putPlace l (now (store .entry)) k (placesIn entries)) × (r .count ≡ entries .count + 1) ⌝ }
+    ensures { λ r. ⌜ Lists r (putPlace (bookOf l) (now (store .entry)) k (placesIn entries)) × (r .count ≡ entries .count + 1) ⌝ }
 {
     entries.insert(index_of(l, store, entries, k), k)
 }
 
 // The entries with those of rank n put among them, in order.
 fn put_rank(l: Ledger, store: &[u8], order: Places, n: usize, entries: Places) -> Places
-    requires { ⌜ Sound order × Sound entries × (entries .count + length (keep (rankedAt l (now store) n) (placesIn order)) ≤ 64) ⌝ }
-    ensures { λ r. ⌜ Lists r (putAll l (now (store .entry)) (placesIn entries) (keep (rankedAt l (now (store .entry)) n) (placesIn order))) × (r .count ≡ entries .count + length (keep (rankedAt l (now (store .entry)) n) (placesIn order))) ⌝ }
+    requires { ⌜ Sound order × Sound entries × (entries .count + length (keep (rankedAt (bookOf l) (now store) n) (placesIn order)) ≤ 64) ⌝ }
+    ensures { λ r. ⌜ Lists r (putAll (bookOf l) (now (store .entry)) (placesIn entries) (keep (rankedAt (bookOf l) (now (store .entry)) n) (placesIn order))) × (r .count ≡ entries .count + length (keep (rankedAt (bookOf l) (now (store .entry)) n) (placesIn order))) ⌝ }
 {
     let count = order.count;
     let mut all = entries;
@@ -76,8 +77,8 @@ fn put_rank(l: Ledger, store: &[u8], order: Places, n: usize, entries: Places) -
 
 // The held Inserts, of lower rank first, each put among those before it.
 pub fn entries(l: Ledger, store: &[u8], order: Places) -> Places
-    requires { ⌜ (l .used ≤ 64) × Lists order (orderOf l (now store)) ⌝ }
-    ensures { λ r. ⌜ Lists r (entriesOf l (now (store .entry))) ⌝ }
+    requires { ⌜ (bookOf l .used ≤ 64) × Lists order (orderOf (bookOf l) (now store)) ⌝ }
+    ensures { λ r. ⌜ Lists r (entriesOf (bookOf l) (now (store .entry))) ⌝ }
 {
     let mut all = Places::none();
     let mut n: usize = 0;

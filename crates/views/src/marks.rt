@@ -7,6 +7,7 @@ ghost use Prim.Native.Nat.{ℕ, _+_, _≤_, _<_};
 ghost use Rattle.keys.specs.Member.{keep};
 ghost use Rattle.bits.specs.Bits.{has};
 ghost use Rattle.relations.specs.PlaceTests.{authorAt, forkedAt};
+ghost use Rattle.state.specs.View.{bookOf};
 ghost use Rattle.views.specs.Board.{markedAt, marksOf};
 ghost use Rattle.orders.specs.Pieces.{placesIn, Sound, Lists};
 use orders::Places;
@@ -18,8 +19,8 @@ const AUTHORS: usize = 16;
 
 // The set with the author of place k, if two held updates mark it there.
 fn with_author(l: Ledger, store: &[u8], authors: u64, k: usize) -> u64
-    requires { ⌜ (l .used ≤ 64) × (k < 64) ⌝ }
-    ensures { λ r. ⌜ ((a : ℕ) → has r a ≡ has authors a || (eqb (authorAt l (now (store .entry)) k) a && forkedAt l (now (store .entry)) k)) ⌝ }
+    requires { ⌜ (bookOf l .used ≤ 64) × (k < 64) ⌝ }
+    ensures { λ r. ⌜ ((a : ℕ) → has r a ≡ has authors a || (eqb (authorAt (bookOf l) (now (store .entry)) k) a && forkedAt (bookOf l) (now (store .entry)) k)) ⌝ }
 {
     if relations::is_forked(l, store, k) {
         let p = l.places[k];
@@ -32,8 +33,8 @@ fn with_author(l: Ledger, store: &[u8], authors: u64, k: usize) -> u64
 
 // The set of the authors that two held updates mark, bit a for author a.
 fn marked(l: Ledger, store: &[u8]) -> u64
-    requires { ⌜ l .used ≤ 64 ⌝ }
-    ensures { λ r. ⌜ ((a : ℕ) → has r a ≡ markedAt l (now (store .entry)) a) ⌝ }
+    requires { ⌜ bookOf l .used ≤ 64 ⌝ }
+    ensures { λ r. ⌜ ((a : ℕ) → has r a ≡ markedAt (bookOf l) (now (store .entry)) a) ⌝ }
 {
     let used = l.used;
     let mut authors: u64 = 0;
@@ -66,8 +67,8 @@ fn with_mark(authors: u64, places: Places, a: usize) -> Places
 
 // The marked authors, ascending.
 pub fn marks(l: Ledger, store: &[u8]) -> Places
-    requires { ⌜ l .used ≤ 64 ⌝ }
-    ensures { λ r. ⌜ Lists r (marksOf l (now (store .entry))) ⌝ }
+    requires { ⌜ bookOf l .used ≤ 64 ⌝ }
+    ensures { λ r. ⌜ Lists r (marksOf (bookOf l) (now (store .entry))) ⌝ }
 {
     let authors = marked(l, store);
     let mut places = Places::none();

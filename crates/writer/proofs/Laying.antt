@@ -7,8 +7,7 @@ use lib.ListN.{length, drop, length-map}
 use Rattle.keys.specs.Member.{concatMap}
 use Rattle.format.specs.Update.{Operation, encodeOperation, encode}
 use Rattle.format.specs.Parts.{joined}
-use Rattle.state.specs.declared.Ledger.{Ledger}
-use Rattle.state.specs.State.{placeAt}
+use Rattle.state.specs.State.{Book, placeAt}
 use Rattle.orders.specs.declared.Places.{Places}
 use Rattle.relations.specs.PlaceTests.{idAt}
 use Rattle.orders.specs.Pieces.{placesIn, Lists}
@@ -18,10 +17,10 @@ use Rattle.writer.specs.Written.{writtenAt}
 
 -- ids
 
-abbrev pub idsOf : Ledger → List ℕ → List ℕ
+abbrev pub idsOf : Book → List ℕ → List ℕ
 idsOf l ys = joined (map (λ (k : ℕ). placeAt l k .id) ys)
 
-module _ (l : Ledger) (xs : List ℕ) (i : ℕ) where
+module _ (l : Book) (xs : List ℕ) (i : ℕ) where
   pub ids-next : (k : ℕ) → drop i xs ≡ k ∷ drop (i + 1) xs → {b : List ℕ} → b ≡ placeAt l k .id → b ++ idsOf l (drop (i + 1) xs) ≡ idsOf l (drop i xs)
   unfolding concatMap
   ids-next k d e = ap (λ (b : List ℕ). b ++ idsOf l (drop (i + 1) xs)) e ∙ sym (ap (idsOf l) d)
@@ -31,7 +30,7 @@ module _ (l : Ledger) (xs : List ℕ) (i : ℕ) where
   ids-end d = sym (ap (idsOf l) d)
 
 -- the whole update
-pub update-bytes : (l : Ledger) (s : List ℕ) (a : ℕ) (o : Operation) (p : Places) → Lists p (chosenPlaces l s a)
+pub update-bytes : (l : Book) (s : List ℕ) (a : ℕ) (o : Operation) (p : Places) → Lists p (chosenPlaces l s a)
     → (1 ∷ a ∷ p .count ∷ []) ++ (joined (map (λ (k : ℕ). placeAt l k .id) (placesIn p)) ++ encodeOperation o) ≡ encode (writtenAt l s a o)
 unfolding encode writtenAt
 update-bytes l s a o p h =

@@ -8,15 +8,15 @@ use Rattle.format.specs.Update.{Operation, Update}
 use Rattle.format.specs.Decode.{update}
 use Rattle.rules.specs.Writing.{written, writable, writtenOf, writableOf}
 use Rattle.rules.specs.WritingLaws.{written-heads}
-use Rattle.state.specs.declared.Ledger.{Ledger}
 use Rattle.judging.specs.declared.Judgement.the-variants.{Holds, Fails}
 use Rattle.judging.specs.Judge.{judgeDecoded}
 use Rattle.state.specs.Stands.{ident, Stands}
 use Rattle.predecessors.specs.ChosenLaws.{chosen-ids}
 use Rattle.writer.specs.Written.{writtenAt}
 use Rattle.writer.specs.JudgedLaws.{wordOf, judged}
+use Rattle.state.specs.State.{Book}
 
-module _ (l : Ledger) (s : List ℕ) (us : List Update) (stands : Stands l s us) (a : ℕ) (o : Operation) where
+module _ (l : Book) (s : List ℕ) (us : List Update) (stands : Stands l s us) (a : ℕ) (o : Operation) where
   pub chosen-right : writtenAt l s a o ≡ writtenOf ident us a o
   unfolding writtenAt writtenOf written
   chosen-right = λ i. record { author = a; preds = chosen-ids stands a i; op = o }

@@ -23,22 +23,21 @@ use Rattle.rules.specs.TableLaws.{row-eq}
 use Rattle.rules.specs.ChoiceLaws.{rowId}
 use Rattle.bits.specs.Bits.{has, join, meet}
 use Rattle.bits.specs.BitsLaws.{has-join, meet-none←}
-use Rattle.state.specs.declared.Ledger.{Ledger}
 use Rattle.state.specs.declared.Standing.{Standing}
 use Rattle.state.specs.declared.Standing.the-variants.{Held as IsHeld, Waiting as IsWaiting, Void as IsVoid}
 use Rattle.judging.specs.declared.Gathered.{Gathered}
 use Rattle.judging.specs.declared.Judgement.the-variants.{Holds, Fails, Waits}
-use Rattle.state.specs.State.{placeAt, findIn, isHeld}
+use Rattle.state.specs.State.{Book, placeAt, findIn, isHeld}
 use Rattle.judging.specs.Judge.{nothingGathered, gather, namesAt, names, valid, judgeReady, judgeGathered, judgeDecoded}
 use Rattle.state.specs.Stands.{ident, updateAt, Stands}
 use Rattle.state.specs.FindLaws.{find-right, find-none}
-use Rattle.judging.specs.GatherLaws.{AllHeld, gathered-word, gathered-void→, gathered-ready←, gathered-direct→, gathered-direct←, gathered-above→, gathered-above←}
+use Rattle.judging.specs.GatherLaws.{AllHeld, gathered-taken, gathered-void→, gathered-ready←, gathered-direct→, gathered-direct←, gathered-above→, gathered-above←}
 use Rattle.relations.specs.PlaceTests.{heldAt}
 use Rattle.relations.specs.PlaceLaws.{place-in, place-of, place-id, place-test}
 use Rattle.relations.specs.RowLaws.{rowAt, row-id, above-agrees, op-agrees}
 use Rattle.highest.specs.TopLaws.{decides, row-at, at-row}
 
-module _ {l : Ledger} {s : List ℕ} {us : List Update} (stands : Stands l s us) where
+module _ {l : Book} {s : List ℕ} {us : List Update} (stands : Stands l s us) where
   abbrev T : Table
   T = settled ident us
 
@@ -110,8 +109,8 @@ module _ {l : Ledger} {s : List ℕ} {us : List Update} (stands : Stands l s us)
 
     apart : meet (gathered .direct) (gathered .above) ≡ 0
     apart =
-        meet-none← (gathered .above)
-        (gathered-word l s us (stands .holds) (w .preds))
+        meet-none← (l .used) (gathered .above)
+        (gathered-taken l s us (stands .holds) (w .preds))
         (λ j g e. not-true→false (has (gathered .above) j)
         (λ t.
         let d = gathered-direct→ l s us (stands .holds) (w .preds) j e in

@@ -4,10 +4,10 @@
 use Prim.Native.Nat.{ℕ}
 use mathlib.Core.List.{List, map}
 use Rattle.format.specs.Update.{Operation, Update}
-use Rattle.state.specs.declared.Ledger.{Ledger}
 use Rattle.relations.specs.PlaceTests.{idAt}
 use Rattle.predecessors.specs.Choose.{chosenPlaces}
+use Rattle.state.specs.State.{Book}
 
-module _ (l : Ledger) (s : List ℕ) where
+module _ (l : Book) (s : List ℕ) where
   unfoldable pub writtenAt : ℕ → Operation → Update
   writtenAt a o = record { author = a; preds = map (idAt l s) (chosenPlaces l s a); op = o }

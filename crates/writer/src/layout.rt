@@ -4,6 +4,7 @@ ghost use mathlib.Core.List.{[], _∷_, map};
 ghost use Prim.Native.Nat.{ℕ, _+_, _*_, _≤_, _<_};
 ghost use Rattle.format.specs.Parts.{joined};
 ghost use Rattle.state.specs.State.{placeAt};
+ghost use Rattle.state.specs.View.{bookOf};
 ghost use Rattle.printing.specs.Page.{Prints};
 ghost use Rattle.orders.specs.Pieces.{placesIn, Sound};
 use format::bounds::VERSION;
@@ -23,7 +24,7 @@ pub fn put_header(author: u8, count: usize, page: &mut [u8]) -> usize
 // The id of place k.
 fn put_id(l: Ledger, k: usize, page: &mut [u8], at: usize) -> usize
     requires { ⌜ (k < 64) × (at ≤ 3000) ⌝ }
-    ensures prints { λ r. ⌜ Prints (now (page .entry)) at (placeAt l k .id) (now (page .exit)) r ⌝ }
+    ensures prints { λ r. ⌜ Prints (now (page .entry)) at (placeAt (bookOf l) k .id) (now (page .exit)) r ⌝ }
     ensures small { λ r. ⌜ r ≡ at + 32 ⌝ }
 {
     let p = l.places[k];
@@ -34,7 +35,7 @@ fn put_id(l: Ledger, k: usize, page: &mut [u8], at: usize) -> usize
 // The ids of the places.
 pub fn put_ids(l: Ledger, places: Places, page: &mut [u8], at: usize) -> usize
     requires { ⌜ Sound places × (at ≤ 3) ⌝ }
-    ensures prints { λ r. ⌜ Prints (now (page .entry)) at (joined (map (λ (k : ℕ). placeAt l k .id) (placesIn places))) (now (page .exit)) r ⌝ }
+    ensures prints { λ r. ⌜ Prints (now (page .entry)) at (joined (map (λ (k : ℕ). placeAt (bookOf l) k .id) (placesIn places))) (now (page .exit)) r ⌝ }
     ensures small { λ r. ⌜ r ≤ at + 32 * places .count ⌝ }
 {
     let count = places.count;

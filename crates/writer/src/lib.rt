@@ -5,6 +5,7 @@ ghost use Prim.Native.Nat.{_≤_};
 ghost use Rattle.format.specs.Update.{encode};
 ghost use Rattle.printing.specs.Page.{Prints};
 ghost use Rattle.operations.specs.Operations.{operationFor, badNamed};
+ghost use Rattle.state.specs.View.{bookOf};
 ghost use Rattle.writer.specs.Written.{writtenAt};
 
 mod layout;
@@ -25,8 +26,8 @@ pub fn compose(
     named: &[u8],
     page: &mut [u8],
 ) -> usize
-    requires { ⌜ (l .used ≤ 64) × (badNamed kind (now named) ≡ false) ⌝ }
-    ensures prints { λ r. ⌜ Prints (now (page .entry)) 0 (encode (writtenAt l (now (store .entry)) author (operationFor kind tag id (now (named .entry))))) (now (page .exit)) r ⌝ }
+    requires { ⌜ (bookOf l .used ≤ 64) × (badNamed kind (now named) ≡ false) ⌝ }
+    ensures prints { λ r. ⌜ Prints (now (page .entry)) 0 (encode (writtenAt (bookOf l) (now (store .entry)) author (operationFor kind tag id (now (named .entry))))) (now (page .exit)) r ⌝ }
     ensures small { λ r. ⌜ r ≤ 533 ⌝ }
 {
     let places = chosen(l, store, author);

@@ -11,7 +11,6 @@ use lib.Seq.{take-at}
 use Rattle.format.specs.Update.{Id, Operation, Update, encode}
 use Rattle.format.specs.Decode.{decode, update}
 use Rattle.rules.specs.Writing.{writableOf}
-use Rattle.state.specs.declared.Ledger.{Ledger}
 use Rattle.judging.specs.declared.Judgement.{Judgement}
 use Rattle.judging.specs.declared.Judgement.the-variants.{Holds, Fails, Waits}
 use Rattle.judging.specs.Judge.{judgeDecoded}
@@ -25,6 +24,7 @@ use Rattle.refusals.specs.declared.Refusal.the-variants.{Short, Invalid}
 use Rattle.writing.specs.declared.Wrote.the-variants.{Written, Refused}
 use Rattle.writing.specs.Write.{WrittenUpdate, Writing, invalid, short, written, WellAsked}
 use Rattle.writing.specs.BoundLaws.{operation-bounded, rules-decode}
+use Rattle.state.specs.State.{Book}
 
 holds-fails : {h : ℕ} → Holds h ≡ Fails → ⊥
 holds-fails e = let z : _≡_ {A = ℕ} 0 1 = cc in omega arith
@@ -32,7 +32,7 @@ holds-fails e = let z : _≡_ {A = ℕ} 0 1 = cc in omega arith
 holds-waits : {h : ℕ} → Holds h ≡ Waits → ⊥
 holds-waits e = let z : _≡_ {A = ℕ} 0 1 = cc in omega arith
 
-module _ (l : Ledger) (s : List ℕ) (a : ℕ) (k : Kind) (t : List ℕ) (i : Id) (named : List ℕ) (asked : WellAsked l s a k named) (x : length t ≡ 16) (y : length i ≡ 32) where
+module _ (l : Book) (s : List ℕ) (a : ℕ) (k : Kind) (t : List ℕ) (i : Id) (named : List ℕ) (asked : WellAsked l s a k named) (x : length t ≡ 16) (y : length i ≡ 32) where
   abbrev op : Operation
   op = operationFor k t i named
 

@@ -13,13 +13,13 @@ use Rattle.format.specs.Parts.{ids-length, ids-sized}
 use Rattle.format.specs.Laws.{decode-complete}
 use Rattle.rules.specs.Writing.{writtenOf}
 use Rattle.rules.specs.WritingLaws.{written-bounded}
-use Rattle.state.specs.declared.Ledger.{Ledger}
 use Rattle.state.specs.Stands.{ident, Stands}
 use Rattle.state.specs.FindLaws.{ident-length}
 use Rattle.operations.specs.declared.Kind.{Kind}
 use Rattle.operations.specs.declared.Kind.the-variants.{Add as AnAdd, Remove as ARemove, Insert as AnInsert, Delete as ADelete}
 use Rattle.operations.specs.Operations.{operationFor, badNamed, unorderedNamed}
 use Rattle.operations.proofs.ByKind.{good-remove}
+use Rattle.state.specs.State.{Book}
 
 -- what rows 8 and 9 let through is laid out
 pub operation-bounded : (k : Kind) (t : List ℕ) (i : Id) (named : List ℕ) → length t ≡ tagLength → length i ≡ idLength
@@ -34,7 +34,7 @@ operation-bounded ARemove t i named x y g o =
 operation-bounded AnInsert t i named x y g o = insert y x
 operation-bounded ADelete t i named x y g o = delete y
 
-module _ (l : Ledger) (s : List ℕ) (us : List Update) (stands : Stands l s us) (a : ℕ) (o : Operation) (small : a ≤ maxAuthor) (bounded : BoundedOperation o) where
+module _ (l : Book) (s : List ℕ) (us : List Update) (stands : Stands l s us) (a : ℕ) (o : Operation) (small : a ≤ maxAuthor) (bounded : BoundedOperation o) where
   pub rules-bounded : Bounded (writtenOf ident us a o)
   rules-bounded = written-bounded ident us (stands .holds .distinct) a o ident-length small bounded
 

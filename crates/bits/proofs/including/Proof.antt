@@ -5,17 +5,17 @@ use borrow.Author.Needs.{needs}
 use mathlib.Core.Path.{sym, ap, _∙_}
 use lib.Bits.{bitOr}
 use lib.Pow.{shl-exact}
-use Rattle.bits.specs.Bits.{join}
-use Rattle.bits.specs.BitsLaws.{including-in, including-out}
+use Rattle.bits.specs.Bits.{wordBits, including}
+use Rattle.bits.specs.BitsLaws.{included, not-included}
 use Rattle.bits.proofs.including.Statement.{statement}
 use Rattle.bits.proofs.including.Tie as tie
 
 returns : tie.Need-returns
-unfolding join
-returns c = ap (bitOr (c .before .args .w)) (shl-exact 1 _ 64 (omega arith) (omega arith) ∙ one-mul _) ∙ sym (including-in _ _ (omega arith))
+unfolding including
+returns c = ap (bitOr (c .before .args .w)) (shl-exact 1 _ 64 (omega arith) (omega arith) ∙ one-mul _) ∙ sym (included wordBits _ _ (omega arith))
 
 returns-2 : tie.Need-returns-2
-returns-2 c = sym (including-out _ _ (omega arith))
+returns-2 c = sym (not-included wordBits _ _ (omega arith))
 
 pub including-spec : {M : Type 1} → statement M
 including-spec = tie.close (tie.spec (λ c. search needs) returns returns-2)

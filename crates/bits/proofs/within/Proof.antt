@@ -2,8 +2,8 @@
 use native.Mathlib.Omega.{arith}
 use borrow.Author.Needs.{needs}
 use mathlib.Core.Path.{sym}
-use Rattle.bits.specs.Bits.{within}
-use Rattle.bits.specs.BitsLaws.{within-word}
+use Rattle.bits.specs.Bits.{wordBits, within}
+use Rattle.bits.specs.BitsLaws.{within-more, lt→within}
 use Rattle.bits.proofs.within.Statement.{statement}
 use Rattle.bits.proofs.within.Tie as tie
 
@@ -12,7 +12,7 @@ unfolding within
 returns c = search needs
 
 returns-2 : tie.Need-returns-2
-returns-2 c = sym (within-word _ (omega arith) (omega arith))
+returns-2 c = sym (within-more _ wordBits _ (omega arith) (lt→within wordBits (omega arith)))
 
 pub within-spec : {M : Type 1} → statement M
 within-spec = tie.close (tie.spec (λ c. search needs) returns returns-2)

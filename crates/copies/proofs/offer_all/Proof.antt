@@ -4,7 +4,7 @@ use Prim.Native.Nat.{_≤_, _-_}
 use borrow.Author.Needs.{needs}
 use denote.Ref.{now}
 use lib.ListN.{length, take}
-use Rattle.state.specs.State.{freshLedger}
+use Rattle.state.specs.View.{freshLedger}
 use Rattle.ledger.specs.Calls.{Calls, done}
 use Rattle.copies.specs.LengthLaws.{calls-length}
 use Rattle.copies.proofs.OfferAll.{bytes, offered-next, offered-all}

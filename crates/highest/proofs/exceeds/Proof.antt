@@ -5,6 +5,7 @@ use native.Mathlib.Omega.{arith}
 use borrow.Author.Needs.{needs}
 use denote.Ref.{now}
 use Rattle.state.proofs.FindLaws.{found-at, found-nowhere}
+use Rattle.state.specs.View.{bookOf}
 use Rattle.highest.specs.Top.{topBelow}
 use Rattle.highest.proofs.Scanning.{top-inside, better-top, better-none}
 use Rattle.highest.proofs.exceeds.Statement.{statement}
@@ -18,15 +19,15 @@ exceeds-spec =
     (λ c κs.
     let args = c .before .before .before .before .args in
     let pre = c .before .before .before .before .pre in
-    let e = found-at (topBelow (args .l) (now (args .store)) (args .author) (args .k)) _ (sym (pre .2) ∙ c .before .top .given .1) in
-    (omega (arith, pre .0, pre .1), omega (arith, top-inside (args .l) (now (args .store)) (args .author) (args .k) _ e, pre .0, pre .1)))
+    let e = found-at (topBelow (bookOf (args .l)) (now (args .store)) (args .author) (args .k)) _ (sym (pre .2) ∙ c .before .top .given .1) in
+    (omega (arith, pre .0, pre .1), omega (arith, top-inside (bookOf (args .l)) (now (args .store)) (args .author) (args .k) _ e, pre .0, pre .1)))
     (λ c. search needs)
     (λ c.
     let args = c .before .before .before .before .before .args in
     let pre = c .before .before .before .before .before .pre in
     let top = c .before .before .top in
-    better-top (args .l) (now (args .store)) (args .author) (args .k) _ (found-at (topBelow (args .l) (now (args .store)) (args .author) (args .k)) _ (sym (pre .2) ∙ top .given .1)) (c .is-higher .ensures))
+    better-top (bookOf (args .l)) (now (args .store)) (args .author) (args .k) _ (found-at (topBelow (bookOf (args .l)) (now (args .store)) (args .author) (args .k)) _ (sym (pre .2) ∙ top .given .1)) (c .is-higher .ensures))
     (λ c.
     let args = c .before .before .before .args in
     let pre = c .before .before .before .pre in
-    better-none (args .l) (now (args .store)) (args .author) (args .k) (found-nowhere (topBelow (args .l) (now (args .store)) (args .author) (args .k)) (sym (pre .2) ∙ c .enum-told .given .1))))
+    better-none (bookOf (args .l)) (now (args .store)) (args .author) (args .k) (found-nowhere (topBelow (bookOf (args .l)) (now (args .store)) (args .author) (args .k)) (sym (pre .2) ∙ c .enum-told .given .1))))

@@ -7,6 +7,7 @@ use borrow.Author.Needs.{needs}
 use denote.Ref.{now}
 use Rattle.format.specs.Decode.{decode}
 use Rattle.fields.specs.Fields.{authorIn}
+use Rattle.state.specs.View.{bookOf}
 use Rattle.highest.proofs.Scanning.{own-held, own-waiting, own-void}
 use Rattle.highest.proofs.is_own.Statement.{statement}
 use Rattle.highest.proofs.is_own.Tie as tie
@@ -24,10 +25,10 @@ is-own-spec =
     (λ c. search needs)
     (λ c.
     let args = c .before .before .before .before .before .before .args in
-    own-held (args .t1) (now (args .store)) (args .author) (args .k) (c .before .before .enum-told .given .1) (c .author-of .ensures .0 ∙ ap (λ (b : List ℕ). authorIn (decode b)) (c .before .stored .ensures)))
+    own-held (bookOf (args .t1)) (now (args .store)) (args .author) (args .k) (c .before .before .enum-told .given .1) (c .author-of .ensures .0 ∙ ap (λ (b : List ℕ). authorIn (decode b)) (c .before .stored .ensures)))
     (λ c.
     let args = c .before .before .before .before .args in
-    own-waiting (args .t1) (now (args .store)) (args .author) (args .k) (c .enum-told2 .given .1))
+    own-waiting (bookOf (args .t1)) (now (args .store)) (args .author) (args .k) (c .enum-told2 .given .1))
     (λ c.
     let args = c .before .before .before .before .args in
-    own-void (args .t1) (now (args .store)) (args .author) (args .k) (c .enum-told3 .given .1)))
+    own-void (bookOf (args .t1)) (now (args .store)) (args .author) (args .k) (c .enum-told3 .given .1)))

@@ -5,13 +5,14 @@ use mathlib.Core.Path.{_≡_}
 use borrow.Author.Needs.{needs}
 use denote.Ref.{now}
 use Rattle.state.specs.State.{foundOf}
+use Rattle.state.specs.View.{bookOf}
 use Rattle.highest.specs.Top.{topBelow}
 use Rattle.highest.proofs.Scanning.{top-start, top-end}
 use Rattle.highest.proofs.top.Statement.{statement}
 use Rattle.highest.proofs.top.Tie as tie
 
 abbrev Inv-loop : tie.InvT-loop
-Inv-loop l store author used highest₀ k₀ highest k = (k ≤ used) × (highest ≡ foundOf (topBelow l store author k))
+Inv-loop l store author used highest₀ k₀ highest k = (k ≤ used) × (highest ≡ foundOf (topBelow (bookOf l) store author k))
 
 abbrev μ-loop : tie.MeasureT-loop
 μ-loop l store author used highest₀ k₀ highest k = used - k
@@ -24,7 +25,7 @@ top-spec =
     μ-loop
     (λ c.
     let args = c .before .args in
-    (search needs, top-start (args .l) (now (args .store)) (args .author)))
+    (search needs, top-start (bookOf (args .l)) (now (args .store)) (args .author)))
     (λ c κs.
     let pre = c .before .before .before .pre in
     (pre, search needs, c .before .loop .inv .1))
@@ -34,4 +35,4 @@ top-spec =
     (λ c.
     let args = c .before .before .before .args in
     let loop = c .before .loop in
-    top-end (args .l) (now (args .store)) (args .author) (loop .k) (search needs) (search needs) (loop .inv .1)))
+    top-end (bookOf (args .l)) (now (args .store)) (args .author) (loop .k) (search needs) (search needs) (loop .inv .1)))

@@ -4,6 +4,7 @@ use mathlib.Core.Path.{sym, _∙_}
 use native.Mathlib.Omega.{arith}
 use borrow.Author.Tests.{not-true, not-false}
 use denote.Ref.{now}
+use Rattle.state.specs.View.{bookOf}
 use Rattle.highest.proofs.Scanning.{top-other, top-lower, top-taken}
 use Rattle.highest.proofs.top_with.Statement.{statement}
 use Rattle.highest.proofs.top_with.Tie as tie
@@ -18,7 +19,7 @@ top-with-spec =
     (λ c.
     let args = c .before .before .before .args in
     let pre = c .before .before .before .pre in
-    top-other (args .l) (now (args .store)) (args .author) (args .k) (pre .2) (sym (c .before .is-own .ensures) ∙ not-true _ (c .if1 .taken)))
+    top-other (bookOf (args .l)) (now (args .store)) (args .author) (args .k) (pre .2) (sym (c .before .is-own .ensures) ∙ not-true _ (c .if1 .taken)))
     (λ c κs.
     let pre = c .before .before .before .pre in
     pre)
@@ -26,10 +27,10 @@ top-with-spec =
     let args = c .before .before .before .before .before .args in
     let is-own = c .before .before .before .is-own in
     let if1 = c .before .before .if1 in
-    top-taken (args .l) (now (args .store)) (args .author) (args .k) (sym (is-own .ensures) ∙ not-false _ (if1 .left)) (sym (c .before .exceeds .ensures) ∙ c .if2 .taken))
+    top-taken (bookOf (args .l)) (now (args .store)) (args .author) (args .k) (sym (is-own .ensures) ∙ not-false _ (if1 .left)) (sym (c .before .exceeds .ensures) ∙ c .if2 .taken))
     (λ c.
     let args = c .before .before .before .before .before .args in
     let pre = c .before .before .before .before .before .pre in
     let is-own = c .before .before .before .is-own in
     let if1 = c .before .before .if1 in
-    top-lower (args .l) (now (args .store)) (args .author) (args .k) (pre .2) (sym (is-own .ensures) ∙ not-false _ (if1 .left)) (sym (c .before .exceeds .ensures) ∙ c .if2 .left)))
+    top-lower (bookOf (args .l)) (now (args .store)) (args .author) (args .k) (pre .2) (sym (is-own .ensures) ∙ not-false _ (if1 .left)) (sym (c .before .exceeds .ensures) ∙ c .if2 .left)))

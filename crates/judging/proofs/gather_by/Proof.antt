@@ -1,6 +1,10 @@
 -- `gather_by` meets its contract: what is gathered, by the standing of the place.
 -- Assumes nothing.
 use borrow.Author.Needs.{needs}
+use mathlib.Core.Path.{_∙_}
+use Rattle.bits.specs.Bits.{wordBits}
+use Rattle.bits.specs.BitsLaws.{included}
+use Rattle.state.specs.View.{placeOf}
 use Rattle.judging.proofs.Judging.{by-held, by-waiting, by-void}
 use Rattle.judging.proofs.gather_by.Statement.{statement}
 use Rattle.judging.proofs.gather_by.Tie as tie
@@ -18,6 +22,6 @@ gather-by-spec =
     let t = c .before .before in
     let a = t .before .before .args in
     λ l e.
-    by-held (a .p) (a .g) (a .j) l e _ _ (t .enum-told .given .1) (c .before .including .ensures) (c .join .ensures))
-    (λ c. let a = c .before .before .args in λ l e. by-waiting (a .p) (a .g) (a .j) l e (c .enum-told2 .given .1))
-    (λ c. let a = c .before .before .args in λ l e. by-void (a .p) (a .g) (a .j) l e (c .enum-told3 .given .1)))
+    by-held (placeOf (a .p)) (a .g) (a .j) l e _ _ (t .enum-told .given .1) (c .before .including .ensures ∙ included wordBits (a .g .direct) (a .j) (t .before .before .pre)) (c .join .ensures))
+    (λ c. let a = c .before .before .args in λ l e. by-waiting (placeOf (a .p)) (a .g) (a .j) l e (c .enum-told2 .given .1))
+    (λ c. let a = c .before .before .args in λ l e. by-void (placeOf (a .p)) (a .g) (a .j) l e (c .enum-told3 .given .1)))

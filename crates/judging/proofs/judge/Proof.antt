@@ -3,6 +3,7 @@
 use mathlib.Core.Path.{_∙_}
 use borrow.Author.Needs.{needs}
 use denote.Ref.{now}
+use Rattle.state.specs.View.{bookOf}
 use Rattle.judging.proofs.Judging.{judge-stored}
 use Rattle.judging.proofs.judge.Statement.{statement}
 use Rattle.judging.proofs.judge.Tie as tie
@@ -19,4 +20,4 @@ judge-spec =
     let d = c .before in
     let q = d .before in
     let a = q .before .before .args in
-    c .judge-bytes .ensures ∙ judge-stored (a .t1) (now (a .store)) (a .k) _ (d .stored .ensures)))
+    c .judge-bytes .ensures ∙ judge-stored (bookOf (a .t1)) (now (a .store)) (a .k) _ (d .stored .ensures)))

@@ -3,6 +3,7 @@
 use mathlib.Core.Path.{_∙_}
 use borrow.Author.Needs.{needs}
 use denote.Ref.{now}
+use Rattle.state.specs.View.{bookOf}
 use Rattle.judging.proofs.Judging.{judge-update, judge-refused}
 use Rattle.judging.proofs.judge_bytes.Statement.{statement}
 use Rattle.judging.proofs.judge_bytes.Tie as tie
@@ -20,8 +21,8 @@ judge-bytes-spec =
     let d = u .before .before in
     let a = d .before .before .before .args in
     c .judge-update .ensures
-    ∙ judge-update (a .l) (now (a .store)) (now (a .b)) _ (d .read .ensures .0) _ (u .u .given .1))
+    ∙ judge-update (bookOf (a .l)) (now (a .store)) (now (a .b)) _ (d .read .ensures .0) _ (u .u .given .1))
     (λ c.
     let d = c .before .before in
     let a = d .before .before .before .args in
-    judge-refused (a .l) (now (a .store)) (now (a .b)) _ (d .read .ensures .0) _ (c .enum-told .given .1)))
+    judge-refused (bookOf (a .l)) (now (a .store)) (now (a .b)) _ (d .read .ensures .0) _ (c .enum-told .given .1)))

@@ -4,6 +4,7 @@ use mathlib.Core.Path.{sym, _∙_}
 use borrow.Author.Needs.{needs}
 use denote.Ref.{now}
 use Rattle.format.specs.Reading.{operationAt}
+use Rattle.state.specs.View.{bookOf}
 use Rattle.judging.proofs.Judging.{ready-above, ready-valid, ready-invalid}
 use Rattle.judging.proofs.judge_ready.Statement.{statement}
 use Rattle.judging.proofs.judge_ready.Tie as tie
@@ -15,7 +16,7 @@ judge-ready-spec =
     (λ c κs. search needs)
     (λ c.
     let a = c .before .before .before .before .args in
-    ready-above (a .l) (now (a .store)) (operationAt (now (a .b)) (a .operation)) (a .direct) (a .above)
+    ready-above (bookOf (a .l)) (now (a .store)) (operationAt (now (a .b)) (a .operation)) (a .direct) (a .above)
     (λ e. c .if1 .taken (c .before .meet .ensures ∙ e)))
     (λ c κs. search needs)
     (λ c κs. search needs)
@@ -23,11 +24,11 @@ judge-ready-spec =
     let j = c .before .before in
     let m = j .before .before in
     let a = m .before .before .before .args in
-    ready-valid (a .l) (now (a .store)) (operationAt (now (a .b)) (a .operation)) (a .direct) (a .above)
+    ready-valid (bookOf (a .l)) (now (a .store)) (operationAt (now (a .b)) (a .operation)) (a .direct) (a .above)
     (sym (m .meet .ensures) ∙ j .before .if1 .left) _ (j .join .ensures) (sym (c .before .valid .ensures) ∙ c .if2 .taken))
     (λ c.
     let j = c .before .before in
     let m = j .before .before in
     let a = m .before .before .before .args in
-    ready-invalid (a .l) (now (a .store)) (operationAt (now (a .b)) (a .operation)) (a .direct) (a .above)
+    ready-invalid (bookOf (a .l)) (now (a .store)) (operationAt (now (a .b)) (a .operation)) (a .direct) (a .above)
     (sym (m .meet .ensures) ∙ j .before .if1 .left) _ (j .join .ensures) (sym (c .before .valid .ensures) ∙ c .if2 .left)))

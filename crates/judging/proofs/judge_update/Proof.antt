@@ -4,6 +4,7 @@ use mathlib.Core.Path.{ap, _∙_}
 use borrow.Author.Needs.{needs}
 use denote.Ref.{now}
 use Rattle.format.specs.Reading.{operationAt}
+use Rattle.state.specs.View.{bookOf}
 use Rattle.judging.specs.Judge.{judgeGathered}
 use Rattle.judging.proofs.Judging.{gathered-void, gathered-ready, gathered-waits}
 use Rattle.judging.proofs.judge_update.Statement.{statement}
@@ -18,7 +19,7 @@ judge-update-spec =
     let g = c .before in
     let a = g .before .before .before .args in
     let o = operationAt (now (a .b)) (a .u .operation) in
-    gathered-void (a .l) (now (a .store)) o (g .gather .result) (c .if1 .taken) ∙ ap (judgeGathered (a .l) (now (a .store)) o) (g .gather .ensures))
+    gathered-void (bookOf (a .l)) (now (a .store)) o (g .gather .result) (c .if1 .taken) ∙ ap (judgeGathered (bookOf (a .l)) (now (a .store)) o) (g .gather .ensures))
     (λ c κs. search needs)
     (λ c.
     let v = c .before .before in
@@ -26,12 +27,12 @@ judge-update-spec =
     let a = g .before .before .before .args in
     let o = operationAt (now (a .b)) (a .u .operation) in
     c .judge-ready .ensures
-    ∙ gathered-ready (a .l) (now (a .store)) o (g .gather .result) (v .if1 .left) (c .before .if2 .taken)
-    ∙ ap (judgeGathered (a .l) (now (a .store)) o) (g .gather .ensures))
+    ∙ gathered-ready (bookOf (a .l)) (now (a .store)) o (g .gather .result) (v .if1 .left) (c .before .if2 .taken)
+    ∙ ap (judgeGathered (bookOf (a .l)) (now (a .store)) o) (g .gather .ensures))
     (λ c.
     let v = c .before in
     let g = v .before in
     let a = g .before .before .before .args in
     let o = operationAt (now (a .b)) (a .u .operation) in
-    gathered-waits (a .l) (now (a .store)) o (g .gather .result) (v .if1 .left) (c .if2 .left)
-    ∙ ap (judgeGathered (a .l) (now (a .store)) o) (g .gather .ensures)))
+    gathered-waits (bookOf (a .l)) (now (a .store)) o (g .gather .result) (v .if1 .left) (c .if2 .left)
+    ∙ ap (judgeGathered (bookOf (a .l)) (now (a .store)) o) (g .gather .ensures)))

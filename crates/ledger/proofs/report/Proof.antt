@@ -4,6 +4,7 @@ use mathlib.Core.Path.{sym, _∙_}
 use borrow.Author.Needs.{needs}
 use borrow.Author.Tests.{not-true, not-false}
 use denote.Ref.{now}
+use Rattle.state.specs.View.{bookOf}
 use Rattle.state.specs.Row1Laws.{sound→}
 use Rattle.ledger.specs.Report.{unfit}
 use Rattle.ledger.proofs.ReportLaws.{reported-short, reported-written}
@@ -19,16 +20,16 @@ report-spec =
     (λ c. search needs)
     (λ c κs.
     let a = c .before .before .before .before .before .args in
-    sound→ (a .ledger) (now (a .store)) (sym (c .before .before .sound .ensures) ∙ not-false _ (c .before .if1 .left)) .few)
+    sound→ (bookOf (a .ledger)) (now (a .store)) (sym (c .before .before .sound .ensures) ∙ not-false _ (c .before .if1 .left)) .few)
     (λ c.
     let p = c .before .before in
     let d = p .before .before in
     let a = d .before .before .before .before .args in
-    reported-short (a .ledger) (now (a .store)) (sym (d .before .sound .ensures) ∙ not-false _ (d .if1 .left)) (p .print .ensures) (now (a .out)) (c .if2 .taken))
+    reported-short (bookOf (a .ledger)) (now (a .store)) (sym (d .before .sound .ensures) ∙ not-false _ (d .if1 .left)) (p .print .ensures) (now (a .out)) (c .if2 .taken))
     (λ c κs.
     let d = c .before .before .before .before .before in
     let a = d .before .before .before .before .args in
-    sound→ (a .ledger) (now (a .store)) (sym (d .before .sound .ensures) ∙ not-false _ (d .if1 .left)) .few)
+    sound→ (bookOf (a .ledger)) (now (a .store)) (sym (d .before .sound .ensures) ∙ not-false _ (d .if1 .left)) .few)
     (λ c. search needs)
     (λ c.
     let q = c .before .before in
@@ -36,5 +37,5 @@ report-spec =
     let p = e .before .before in
     let d = p .before .before in
     let a = d .before .before .before .before .args in
-    reported-written (a .ledger) (now (a .store)) (sym (d .before .sound .ensures) ∙ not-false _ (d .if1 .left)) (p .print .ensures) (now (a .out)) (e .if2 .left)
+    reported-written (bookOf (a .ledger)) (now (a .store)) (sym (d .before .sound .ensures) ∙ not-false _ (d .if1 .left)) (p .print .ensures) (now (a .out)) (e .if2 .left)
     (q .print2 .ensures)))

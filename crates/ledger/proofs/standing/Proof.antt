@@ -6,6 +6,7 @@ use native.Mathlib.Omega.{arith}
 use borrow.Author.Needs.{needs}
 use borrow.Author.Tests.{not-true, not-false}
 use denote.Ref.{now}
+use Rattle.state.specs.View.{bookOf}
 use Rattle.state.specs.State.{findIn}
 use Rattle.state.specs.Row1Laws.{sound→}
 use Rattle.state.specs.FindLaws.{find-taken}
@@ -20,9 +21,9 @@ inside c =
     let f = c .before .before .before in
     let d = f .before .before .before in
     let a = d .before .before .args in
-    let h = sound→ (a .t1) (now (a .store)) (sym (d .sound .ensures) ∙ not-false _ (f .before .before .if1 .left)) in
-    let e = found-at (findIn (a .t1) (a .t3)) _ (sym (f .find .ensures) ∙ c .before .k .given .1) in
-    omega (arith, find-taken (a .t1) (a .t3) _ e, h .few)
+    let h = sound→ (bookOf (a .t1)) (now (a .store)) (sym (d .sound .ensures) ∙ not-false _ (f .before .before .if1 .left)) in
+    let e = found-at (findIn (bookOf (a .t1)) (a .t3)) _ (sym (f .find .ensures) ∙ c .before .k .given .1) in
+    omega (arith, find-taken (bookOf (a .t1)) (a .t3) _ e, h .few)
 
 pub standing-spec : {M : Type 1} → statement M
 standing-spec =
@@ -31,12 +32,12 @@ standing-spec =
     (λ c κs. search needs)
     (λ c.
     let a = c .before .before .before .args in
-    asked-unfit (a .t1) (now (a .store)) (a .t3) (sym (c .before .sound .ensures) ∙ not-true _ (c .if1 .taken)))
+    asked-unfit (bookOf (a .t1)) (now (a .store)) (a .t3) (sym (c .before .sound .ensures) ∙ not-true _ (c .if1 .taken)))
     (λ c. search needs)
     (λ c κs.
     let d = c .before .before in
     let a = d .before .before .args in
-    sound→ (a .t1) (now (a .store)) (sym (d .sound .ensures) ∙ not-false _ (c .before .if1 .left)) .few)
+    sound→ (bookOf (a .t1)) (now (a .store)) (sym (d .sound .ensures) ∙ not-false _ (c .before .if1 .left)) .few)
     (λ c. search needs)
     (λ c. let h = inside c in search needs)
     (λ c. let h = inside c in search needs)
@@ -46,11 +47,11 @@ standing-spec =
     let f = k .before .before in
     let d = f .before .before .before in
     let a = d .before .before .args in
-    asked-at (a .t1) (now (a .store)) (a .t3) (sym (d .sound .ensures) ∙ not-false _ (f .before .before .if1 .left)) _
-    (found-at (findIn (a .t1) (a .t3)) _ (sym (f .find .ensures) ∙ k .k .given .1)))
+    asked-at (bookOf (a .t1)) (now (a .store)) (a .t3) (sym (d .sound .ensures) ∙ not-false _ (f .before .before .if1 .left)) _
+    (found-at (findIn (bookOf (a .t1)) (a .t3)) _ (sym (f .find .ensures) ∙ k .k .given .1)))
     (λ c.
     let f = c .before .before in
     let d = f .before .before .before in
     let a = d .before .before .args in
-    asked-nowhere (a .t1) (now (a .store)) (a .t3) (sym (d .sound .ensures) ∙ not-false _ (f .before .before .if1 .left))
-    (found-nowhere (findIn (a .t1) (a .t3)) (sym (f .find .ensures) ∙ c .enum-told .given .1))))
+    asked-nowhere (bookOf (a .t1)) (now (a .store)) (a .t3) (sym (d .sound .ensures) ∙ not-false _ (f .before .before .if1 .left))
+    (found-nowhere (findIn (bookOf (a .t1)) (a .t3)) (sym (f .find .ensures) ∙ c .enum-told .given .1))))

@@ -6,6 +6,7 @@ use native.Mathlib.Omega.{arith}
 use borrow.Author.Needs.{needs}
 use denote.Ref.{now}
 use Rattle.state.specs.State.{findIn}
+use Rattle.state.specs.View.{bookOf}
 use Rattle.state.specs.Row1Laws.{sound→}
 use Rattle.state.specs.FindLaws.{find-taken}
 use Rattle.state.proofs.FindLaws.{found-at, found-nowhere}
@@ -20,8 +21,8 @@ inside c =
     let d = f .before .before in
     let z = d .before .before .before in
     let a = z .args in
-    let e = found-at (findIn (a .t1) (d .digest .result)) _ (sym (f .find .ensures) ∙ c .before .k .given .1) in
-    omega (arith, find-taken (a .t1) (d .digest .result) _ e, sound→ (a .t1) (now (a .store)) (z .pre .is-sound) .few)
+    let e = found-at (findIn (bookOf (a .t1)) (d .digest .result)) _ (sym (f .find .ensures) ∙ c .before .k .given .1) in
+    omega (arith, find-taken (bookOf (a .t1)) (d .digest .result) _ e, sound→ (bookOf (a .t1)) (now (a .store)) (z .pre .is-sound) .few)
 
 pub offer-formed-spec : {M : Type 1} → statement M
 offer-formed-spec =
@@ -31,7 +32,7 @@ offer-formed-spec =
     (λ c. search needs)
     (λ c κs.
     let z = c .before .before .before .before in
-    sound→ (z .args .t1) (now (z .args .store)) (z .pre .is-sound) .few)
+    sound→ (bookOf (z .args .t1)) (now (z .args .store)) (z .pre .is-sound) .few)
     (λ c. search needs)
     (λ c. let h = inside c in search needs)
     (λ c. let h = inside c in search needs)
@@ -45,8 +46,8 @@ offer-formed-spec =
     let z = d .before .before .before in (
       z .pre,
       d .digest .ensures,
-      found-nowhere (findIn (z .args .t1) (d .digest .result)) (sym (f .find .ensures) ∙ n .enum-told .given .1),
-      omega (arith, sound→ (z .args .t1) (now (z .args .store)) (z .pre .is-sound) .few, c .before .if1 .left),
+      found-nowhere (findIn (bookOf (z .args .t1)) (d .digest .result)) (sym (f .find .ensures) ∙ n .enum-told .given .1),
+      omega (arith, sound→ (bookOf (z .args .t1)) (now (z .args .store)) (z .pre .is-sound) .few, c .before .if1 .left),
     ))
     (λ c.
     let k = c .before .before .before in
@@ -55,7 +56,7 @@ offer-formed-spec =
     let z = d .before .before .before in
     let a = z .args in
     offered-known (a .t1) (now (a .store)) (now (a .update)) (z .pre) _ (d .digest .ensures) _
-    (found-at (findIn (a .t1) (d .digest .result)) _ (sym (f .find .ensures) ∙ k .k .given .1))
+    (found-at (findIn (bookOf (a .t1)) (d .digest .result)) _ (sym (f .find .ensures) ∙ k .k .given .1))
     (c .left .ensures))
     (λ c.
     let n = c .before .before in
@@ -64,7 +65,7 @@ offer-formed-spec =
     let z = d .before .before .before in
     let a = z .args in
     offered-full (a .t1) (now (a .store)) (now (a .update)) (z .pre) _ (d .digest .ensures)
-    (found-nowhere (findIn (a .t1) (d .digest .result)) (sym (f .find .ensures) ∙ n .enum-told .given .1))
+    (found-nowhere (findIn (bookOf (a .t1)) (d .digest .result)) (sym (f .find .ensures) ∙ n .enum-told .given .1))
     (c .before .if1 .taken)
     (c .left2 .ensures))
     (λ c. search needs)

@@ -6,9 +6,9 @@ use native.Mathlib.Omega.{arith}
 use borrow.Author.Needs.{needs}
 use denote.Ref.{now}
 use Rattle.format.specs.Laws.{accepted}
-use Rattle.state.specs.declared.Ledger.{Ledger}
+use Rattle.state.specs.State.{Book}
+use Rattle.state.specs.View.{bookOf}
 use Rattle.state.specs.Row1Laws.{sound→}
-use Rattle.state.proofs.Owning.{places-length}
 use Rattle.offering.specs.Offer.{Took}
 use Rattle.offering.proofs.TakeLaws as laws
 use Rattle.offering.proofs.OfferLaws.{offered-taken}
@@ -19,15 +19,14 @@ use Rattle.offering.proofs.take.Tie as tie
 took : (c : tie.After-settle) →
     let w = c .before .before .before .before .before in
     let z = w .before .before .before .before in
-    Took (z .args .ledger) (now (z .args .store)) (now (z .args .update)) (z .pre .0 .value) (c .settle .result) (w .write-at .last .0)
+    Took (bookOf (z .args .ledger)) (now (z .args .store)) (now (z .args .update)) (z .pre .0 .value) (bookOf (c .settle .result)) (w .write-at .last .0)
 took c =
     let t = c .before .before in
     let w = t .before .before .before in
     let z = w .before .before .before .before in
     let a = z .args in
     let f = z .pre .0 in
-    let whole = places-length (a .ledger) _ (z .good .0) in
-    laws.took (a .ledger) (now (a .store)) (now (a .update)) (f .value) (f .is-sound) (f .decodes) (z .pre .3) whole (z .pre .1) (z .pre .2)
+    laws.took (bookOf (a .ledger)) (now (a .store)) (now (a .update)) (f .value) (f .is-sound) (f .decodes) (z .pre .3) (z .pre .1) (z .pre .2)
     (t .taken .ensures)
     (w .write-at .ensures)
     (w .write-at .kept .0)
@@ -44,12 +43,12 @@ take-spec =
     (λ c κs.
     let z = c .before .before .before in
     let f = z .pre .0 in
-    (sound→ (z .args .ledger) (now (z .args .store)) (f .is-sound) .store, z .pre .3, accepted (now (z .args .update)) (f .value) (f .decodes) .short))
+    (sound→ (bookOf (z .args .ledger)) (now (z .args .store)) (f .is-sound) .store, z .pre .3, accepted (now (z .args .update)) (f .value) (f .decodes) .short))
     (λ c κs. search needs)
     (λ c κs.
     let t = c .before in
     let z = t .before .before .before .before .before .before .before in
-    omega (arith, ap (λ (m : Ledger). m .used) (t .taken .ensures), z .pre .3))
+    omega (arith, ap (λ (m : Book). m .used) (t .taken .ensures), z .pre .3))
     (λ c. search needs)
     (λ c. search needs)
     (λ c κs. settled-few (c .before))

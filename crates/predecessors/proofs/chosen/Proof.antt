@@ -7,6 +7,7 @@ use denote.Ref.{now}
 use Rattle.state.proofs.FindLaws.{found-at, found-nowhere}
 use Rattle.orders.proofs.Inserting.{renamed}
 use Rattle.highest.specs.Top.{topBelow}
+use Rattle.state.specs.View.{bookOf}
 use Rattle.predecessors.proofs.Choosing.{chosen-few, chosen-many, chosen-lowest}
 use Rattle.predecessors.proofs.chosen.Statement.{statement}
 use Rattle.predecessors.proofs.chosen.Tie as tie
@@ -20,7 +21,7 @@ chosen-spec =
     let args = c .before .before .before .before .args in
     let heads = c .before .before .heads in
     let if1 = c .if1 in
-    (renamed (chosen-few (args .l) (now (args .store)) (heads .result) (heads .ensures) (args .author) (if1 .taken)) (heads .ensures), if1 .taken))
+    (renamed (chosen-few (bookOf (args .l)) (now (args .store)) (heads .result) (heads .ensures) (args .author) (if1 .taken)) (heads .ensures), if1 .taken))
     (λ c κs. search needs)
     (λ c. search needs)
     (λ c κs.
@@ -39,11 +40,11 @@ chosen-spec =
     let top = c .before .before .before .before .top in
     let t = c .before .before .t in
     let eight-above = c .eight-above in
-    (renamed (chosen-many (args .l) (now (args .store)) (heads .result) (heads .ensures) (args .author) _ (if1 .left) (found-at (topBelow (args .l) (now (args .store)) (args .author) (args .l .used)) _ (sym (top .ensures) ∙ t .given .1))) (eight-above .ensures .0), eight-above .ensures .1))
+    (renamed (chosen-many (bookOf (args .l)) (now (args .store)) (heads .result) (heads .ensures) (args .author) _ (if1 .left) (found-at (topBelow (bookOf (args .l)) (now (args .store)) (args .author) (args .l .used)) _ (sym (top .ensures) ∙ t .given .1))) (eight-above .ensures .0), eight-above .ensures .1))
     (λ c.
     let args = c .before .before .before .before .before .before .before .before .args in
     let heads = c .before .before .before .before .before .before .heads in
     let if1 = c .before .before .before .before .if1 in
     let top = c .before .before .before .top in
     let first = c .first in
-    (renamed (chosen-lowest (args .l) (now (args .store)) (heads .result) (heads .ensures) (args .author) (if1 .left) (found-nowhere (topBelow (args .l) (now (args .store)) (args .author) (args .l .used)) (sym (top .ensures) ∙ c .before .enum-told .given .1))) (first .ensures .0), omega (arith, first .ensures .1))))
+    (renamed (chosen-lowest (bookOf (args .l)) (now (args .store)) (heads .result) (heads .ensures) (args .author) (if1 .left) (found-nowhere (topBelow (bookOf (args .l)) (now (args .store)) (args .author) (args .l .used)) (sym (top .ensures) ∙ c .before .enum-told .given .1))) (first .ensures .0), omega (arith, first .ensures .1))))

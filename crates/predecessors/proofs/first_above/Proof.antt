@@ -7,13 +7,14 @@ use borrow.Author.Needs.{needs}
 use denote.Ref.{now}
 use Rattle.bits.specs.Below.{firstBelow}
 use Rattle.orders.proofs.Inserting.{below}
+use Rattle.state.specs.View.{bookOf}
 use Rattle.predecessors.specs.Choose.{aboveAt}
 use Rattle.predecessors.proofs.Choosing.{above-start, above-more, above-found, above-none}
 use Rattle.predecessors.proofs.first_above.Statement.{statement}
 use Rattle.predecessors.proofs.first_above.Tie as tie
 
 abbrev Inv-loop : tie.InvT-loop
-Inv-loop l store t heads count i₀ i = (i ≤ count) × (firstBelow i (aboveAt l store t) ≡ none)
+Inv-loop l store t heads count i₀ i = (i ≤ count) × (firstBelow i (aboveAt (bookOf l) store t) ≡ none)
 
 abbrev μ-loop : tie.MeasureT-loop
 μ-loop l store t heads count i₀ i = count - i
@@ -26,7 +27,7 @@ first-above-spec =
     μ-loop
     (λ c.
     let args = c .before .args in
-    (search needs, above-start (args .l) (now (args .store)) (args .t3) (c .before .pre) (args .t)))
+    (search needs, above-start (bookOf (args .l)) (now (args .store)) (args .t3) (c .before .pre) (args .t)))
     (λ c. search needs)
     (λ c. search needs)
     (λ c κs.
@@ -38,16 +39,16 @@ first-above-spec =
     let args = c .before .before .before .before .before .before .args in
     let pre = c .before .before .before .before .before .before .pre in
     let loop = c .before .before .before .before .loop in
-    above-found (args .l) (now (args .store)) (args .t3) (pre) (args .t) (loop .i) (search needs) (c .before .is-above .ensures) (c .if1 .taken) (loop .inv .1))
+    above-found (bookOf (args .l)) (now (args .store)) (args .t3) (pre) (args .t) (loop .i) (search needs) (c .before .is-above .ensures) (c .if1 .taken) (loop .inv .1))
     (λ c. search needs)
     (λ c. search needs)
     (λ c.
     let args = c .before .before .before .before .before .before .args in
     let pre = c .before .before .before .before .before .before .pre in
     let loop = c .before .before .before .before .loop in
-    (search needs, above-more (args .l) (now (args .store)) (args .t3) (pre) (args .t) (loop .i) (search needs) (c .before .is-above .ensures) (c .if1 .left) (loop .inv .1)))
+    (search needs, above-more (bookOf (args .l)) (now (args .store)) (args .t3) (pre) (args .t) (loop .i) (search needs) (c .before .is-above .ensures) (c .if1 .left) (loop .inv .1)))
     (λ c.
     let args = c .before .before .before .args in
     let pre = c .before .before .before .pre in
     let loop = c .before .loop in
-    above-none (args .l) (now (args .store)) (args .t3) (pre) (args .t) (loop .i) (search needs) (search needs) (loop .inv .1)))
+    above-none (bookOf (args .l)) (now (args .store)) (args .t3) (pre) (args .t) (loop .i) (search needs) (search needs) (loop .inv .1)))

@@ -11,12 +11,13 @@ use Rattle.relations.specs.PlaceTests.{headAt}
 use Rattle.orders.specs.Pieces.{placesIn, Lists}
 use Rattle.orders.proofs.Inserting.{renamed, below}
 use Rattle.orders.proofs.Sorting.{sorted-ids}
+use Rattle.state.specs.View.{bookOf}
 use Rattle.predecessors.proofs.Choosing.{heads-start, heads-more, heads-end}
 use Rattle.predecessors.proofs.heads.Statement.{statement}
 use Rattle.predecessors.proofs.heads.Tie as tie
 
 abbrev Inv-loop : tie.InvT-loop
-Inv-loop l store order count places₀ i₀ places i = (i ≤ count) × (places .count ≤ i) × Lists places (keep (headAt l store) (take i (placesIn order)))
+Inv-loop l store order count places₀ i₀ places i = (i ≤ count) × (places .count ≤ i) × Lists places (keep (headAt (bookOf l) store) (take i (placesIn order)))
 
 abbrev μ-loop : tie.MeasureT-loop
 μ-loop l store order count places₀ i₀ places i = count - i
@@ -33,7 +34,7 @@ heads-spec =
     let none = c .none in
     let args = c .before .before .before .args in
     let sorted = c .before .sorted in
-    (search needs, omega (arith, none .ensures .1), renamed (heads-start (args .l) (now (args .store)) (sorted .result) (sorted .ensures .sound)) (none .ensures .0)))
+    (search needs, omega (arith, none .ensures .1), renamed (heads-start (bookOf (args .l)) (now (args .store)) (sorted .result) (sorted .ensures .sound)) (none .ensures .0)))
     (λ c.
     let sorted = c .before .before .before .sorted in
     omega (arith, sorted .ensures .sound .room))
@@ -54,9 +55,9 @@ heads-spec =
     let loop = c .before .before .before .loop in
     let args = c .before .before .before .before .before .before .before .args in
     let sorted = c .before .before .before .before .before .sorted in
-    (search needs, omega (arith, with-head .ensures .1, loop .inv .1), renamed (heads-more (args .l) (now (args .store)) (sorted .result) (sorted .ensures .sound) (loop .i) (search needs) (loop .inv .2 .are)) (with-head .ensures .0)))
+    (search needs, omega (arith, with-head .ensures .1, loop .inv .1), renamed (heads-more (bookOf (args .l)) (now (args .store)) (sorted .result) (sorted .ensures .sound) (loop .i) (search needs) (loop .inv .2 .are)) (with-head .ensures .0)))
     (λ c.
     let args = c .before .before .before .before .before .args in
     let sorted = c .before .before .before .sorted in
     let loop = c .before .loop in
-    renamed (heads-end (args .l) (now (args .store)) (sorted .result) (sorted .ensures .sound) (loop .i) (search needs) (sorted .ensures .are ∙ sorted-ids (args .l) (now (args .store)))) (loop .inv .2)))
+    renamed (heads-end (bookOf (args .l)) (now (args .store)) (sorted .result) (sorted .ensures .sound) (loop .i) (search needs) (sorted .ensures .are ∙ sorted-ids (bookOf (args .l)) (now (args .store)))) (loop .inv .2)))

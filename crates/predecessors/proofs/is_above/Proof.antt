@@ -1,6 +1,7 @@
 -- `is_above` meets its contract.
 -- Assumes nothing.
 use borrow.Author.Needs.{needs}
+use Rattle.state.specs.View.{bookOf}
 use Rattle.predecessors.proofs.Choosing.{above-same, above-other}
 use Rattle.predecessors.proofs.is_above.Statement.{statement}
 use Rattle.predecessors.proofs.is_above.Tie as tie
@@ -11,11 +12,11 @@ is-above-spec =
     (tie.spec
     (λ c.
     let args = c .before .args in
-    above-same (args .t1) (args .t) (args .h) (c .if1 .taken))
+    above-same (bookOf (args .t1)) (args .t) (args .h) (c .if1 .taken))
     (λ c. search needs)
     (λ c. search needs)
     (λ c κs. search needs)
     (λ c.
     let args = c .before .before .before .args in
     let if1 = c .before .before .if1 in
-    above-other (args .t1) (args .t) (args .h) (if1 .left) (c .has .ensures)))
+    above-other (bookOf (args .t1)) (args .t) (args .h) (if1 .left) (c .has .ensures)))

@@ -8,6 +8,7 @@ use Rattle.relations.specs.PlaceTests.{headAt}
 use Rattle.orders.specs.Pieces.{placesIn}
 use Rattle.orders.proofs.Inserting.{renamed, ins-end}
 use Rattle.orders.proofs.Keeping.{keep-yes, keep-nothing}
+use Rattle.state.specs.View.{bookOf}
 use Rattle.predecessors.proofs.with_head.Statement.{statement}
 use Rattle.predecessors.proofs.with_head.Tie as tie
 
@@ -26,8 +27,8 @@ with-head-spec =
     let pre = c .before .before .before .before .pre in
     let is-head = c .before .before .is-head in
     let insert = c .insert in
-    (renamed (ins-end (args .places) (pre .1) (args .k) ∙ keep-yes (headAt (args .l) (now (args .store))) (placesIn (args .places)) (args .k) (is-head .ensures) (c .before .if1 .taken)) (insert .ensures .0), omega (arith, insert .ensures .1)))
+    (renamed (ins-end (args .places) (pre .1) (args .k) ∙ keep-yes (headAt (bookOf (args .l)) (now (args .store))) (placesIn (args .places)) (args .k) (is-head .ensures) (c .before .if1 .taken)) (insert .ensures .0), omega (arith, insert .ensures .1)))
     (λ c.
     let pre = c .before .before .before .pre in
     let args = c .before .before .before .args in
-    (record { sound = pre .1; are = keep-nothing (headAt (args .l) (now (args .store))) (placesIn (args .places)) (args .k) (c .before .is-head .ensures) (c .if1 .left) }, search needs)))
+    (record { sound = pre .1; are = keep-nothing (headAt (bookOf (args .l)) (now (args .store))) (placesIn (args .places)) (args .k) (c .before .is-head .ensures) (c .if1 .left) }, search needs)))

@@ -1,6 +1,7 @@
 -- `apart` meets its contract.
 -- Assumes nothing.
 use borrow.Author.Needs.{needs}
+use Rattle.state.specs.View.{placeOf}
 use Rattle.relations.proofs.Testing.{apart-same, apart-above, apart-below}
 use Rattle.relations.proofs.apart.Statement.{statement}
 use Rattle.relations.proofs.apart.Tie as tie
@@ -11,12 +12,12 @@ apart-spec =
     (tie.spec
     (λ c.
     let args = c .before .args in
-    apart-same (args .own) (args .k) (args .other) (args .q) (c .if1 .taken))
+    apart-same (placeOf (args .own)) (args .k) (placeOf (args .other)) (args .q) (c .if1 .taken))
     (λ c κs. search needs)
     (λ c.
     let args = c .before .before .before .args in
-    apart-above (args .own) (args .k) (args .other) (args .q) (c .before .before .if1 .left) (c .before .has .ensures) (c .if2 .taken))
+    apart-above (placeOf (args .own)) (args .k) (placeOf (args .other)) (args .q) (c .before .before .if1 .left) (c .before .has .ensures) (c .if2 .taken))
     (λ c κs. search needs)
     (λ c.
     let args = c .before .before .before .before .args in
-    apart-below (args .own) (args .k) (args .other) (args .q) (c .before .before .before .if1 .left) (c .before .before .has .ensures) (c .before .if2 .left) (c .has2 .ensures)))
+    apart-below (placeOf (args .own)) (args .k) (placeOf (args .other)) (args .q) (c .before .before .before .if1 .left) (c .before .before .has .ensures) (c .before .if2 .left) (c .has2 .ensures)))

@@ -7,6 +7,7 @@ use borrow.Author.Needs.{needs}
 use denote.Ref.{now}
 use Rattle.format.specs.Decode.{decode}
 use Rattle.fields.specs.Fields.{authorIn}
+use Rattle.state.specs.View.{placeOf}
 use Rattle.relations.proofs.Testing.{fork-apart, fork-related}
 use Rattle.relations.proofs.forks.Statement.{statement}
 use Rattle.relations.proofs.forks.Tie as tie
@@ -24,7 +25,7 @@ forks-spec =
     let args = c .before .before .before .before .before .before .before .args in
     let apart = c .before .before .before .before .before .apart in
     let if1 = c .before .before .before .before .if1 in
-    fork-apart (args .own) (args .k) (args .other) (args .q) (now (args .store)) (apart .ensures) (if1 .taken) (c .before .before .author-of .ensures .0 ∙ ap (λ (b : List ℕ). authorIn (decode b)) (c .before .before .before .stored .ensures)) (c .author-of2 .ensures .0 ∙ ap (λ (b : List ℕ). authorIn (decode b)) (c .before .stored2 .ensures)))
+    fork-apart (placeOf (args .own)) (args .k) (placeOf (args .other)) (args .q) (now (args .store)) (apart .ensures) (if1 .taken) (c .before .before .author-of .ensures .0 ∙ ap (λ (b : List ℕ). authorIn (decode b)) (c .before .before .before .stored .ensures)) (c .author-of2 .ensures .0 ∙ ap (λ (b : List ℕ). authorIn (decode b)) (c .before .stored2 .ensures)))
     (λ c.
     let args = c .before .before .before .args in
-    fork-related (args .own) (args .k) (args .other) (args .q) (now (args .store)) (c .before .apart .ensures) (c .if1 .left)))
+    fork-related (placeOf (args .own)) (args .k) (placeOf (args .other)) (args .q) (now (args .store)) (c .before .apart .ensures) (c .if1 .left)))

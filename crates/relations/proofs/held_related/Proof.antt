@@ -1,6 +1,7 @@
 -- `held_related` meets its contract.
 -- Assumes nothing.
 use borrow.Author.Needs.{needs}
+use Rattle.state.specs.View.{placeOf}
 use Rattle.relations.proofs.Testing.{held-and, held-not}
 use Rattle.relations.proofs.held_related.Statement.{statement}
 use Rattle.relations.proofs.held_related.Tie as tie
@@ -12,6 +13,6 @@ held-related-spec =
     (λ c κs. search needs)
     (λ c κs. search needs)
     (λ c.
-    held-and (c .before .before .before .before .args .other) (c .before .before .has-standing .ensures) (c .before .if1 .taken) (c .related .ensures))
+    held-and (placeOf (c .before .before .before .before .args .other)) (c .before .before .has-standing .ensures) (c .before .if1 .taken) (c .related .ensures))
     (λ c.
-    held-not (c .before .before .before .args .other) (c .before .has-standing .ensures) _ (c .if1 .left)))
+    held-not (placeOf (c .before .before .before .args .other)) (c .before .has-standing .ensures) _ (c .if1 .left)))

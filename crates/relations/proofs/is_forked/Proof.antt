@@ -2,6 +2,7 @@
 -- Assumes nothing.
 use borrow.Author.Needs.{needs}
 use Rattle.state.specs.State.{placeAt}
+use Rattle.state.specs.View.{bookOf}
 use Rattle.relations.specs.PlaceTests.{forkedAt, forkedWith, authorAt, heldAt}
 use Rattle.relations.specs.Related.{someHeld}
 use Rattle.relations.proofs.Testing.{held-and, held-not}
@@ -12,13 +13,13 @@ returns : tie.Need-returns
 unfolding forkedAt forkedWith authorAt heldAt someHeld
 returns c =
     let args = c .before .before .before .before .before .args in
-    held-and (placeAt (args .t1) (args .k)) (c .before .before .has-standing .ensures) (c .before .if1 .taken) (c .some-held .ensures)
+    held-and (placeAt (bookOf (args .t1)) (args .k)) (c .before .before .has-standing .ensures) (c .before .if1 .taken) (c .some-held .ensures)
 
 returns-2 : tie.Need-returns-2
 unfolding forkedAt heldAt
 returns-2 c =
     let args = c .before .before .before .before .args in
-    held-not (placeAt (args .t1) (args .k)) (c .before .has-standing .ensures) _ (c .if1 .left)
+    held-not (placeAt (bookOf (args .t1)) (args .k)) (c .before .has-standing .ensures) _ (c .if1 .left)
 
 pub is-forked-spec : {M : Type 1} → statement M
 is-forked-spec =

@@ -4,6 +4,7 @@ use mathlib.Core.Path.{ap}
 use mathlib.Core.Bool.{not}
 use borrow.Author.Needs.{needs}
 use Rattle.state.specs.State.{placeAt}
+use Rattle.state.specs.View.{bookOf}
 use Rattle.relations.specs.PlaceTests.{headAt, coveredAt, heldAt}
 use Rattle.relations.specs.Related.{someHeld}
 use Rattle.relations.proofs.Testing.{held-and, held-not}
@@ -14,13 +15,13 @@ returns : tie.Need-returns
 unfolding headAt coveredAt heldAt someHeld
 returns c =
     let args = c .before .before .before .before .before .args in
-    held-and (placeAt (args .t1) (args .k)) (c .before .before .has-standing .ensures) (c .before .if1 .taken) (ap not (c .some-held .ensures))
+    held-and (placeAt (bookOf (args .t1)) (args .k)) (c .before .before .has-standing .ensures) (c .before .if1 .taken) (ap not (c .some-held .ensures))
 
 returns-2 : tie.Need-returns-2
 unfolding headAt heldAt
 returns-2 c =
     let args = c .before .before .before .before .args in
-    held-not (placeAt (args .t1) (args .k)) (c .before .has-standing .ensures) _ (c .if1 .left)
+    held-not (placeAt (bookOf (args .t1)) (args .k)) (c .before .has-standing .ensures) _ (c .if1 .left)
 
 pub is-head-spec : {M : Type 1} → statement M
 is-head-spec =

@@ -8,6 +8,7 @@ use borrow.Author.Tests.{not-true, not-false}
 use denote.Ref.{now}
 use Rattle.format.specs.Decode.{decode}
 use Rattle.fields.specs.Fields.{testOf, isAnyAdd}
+use Rattle.state.specs.View.{bookOf}
 use Rattle.relations.proofs.Testing.{present-none, present-other, present-add}
 use Rattle.relations.proofs.is_present.Statement.{statement}
 use Rattle.relations.proofs.is_present.Tie as tie
@@ -21,7 +22,7 @@ is-present-spec =
     (λ c κs. search needs)
     (λ c.
     let args = c .before .before .before .before .args in
-    present-none (args .t1) (now (args .store)) (args .k) (c .before .has-standing .ensures) (not-true _ (c .if1 .taken)))
+    present-none (bookOf (args .t1)) (now (args .store)) (args .k) (c .before .has-standing .ensures) (not-true _ (c .if1 .taken)))
     (λ c κs. search needs)
     (λ c κs. search needs)
     (λ c κs. search needs)
@@ -29,8 +30,8 @@ is-present-spec =
     let args = c .before .before .before .before .before .before .before .before .args in
     let standing = c .before .before .before .before .before .has-standing in
     let if1 = c .before .before .before .before .if1 in
-    present-add (args .t1) (now (args .store)) (args .k) (standing .ensures) (not-false _ (if1 .left)) (c .before .before .is-add .ensures ∙ ap (λ (b : List ℕ). testOf isAnyAdd (decode b)) (c .before .before .before .stored .ensures)) (c .before .if2 .taken) (c .some-held .ensures))
+    present-add (bookOf (args .t1)) (now (args .store)) (args .k) (standing .ensures) (not-false _ (if1 .left)) (c .before .before .is-add .ensures ∙ ap (λ (b : List ℕ). testOf isAnyAdd (decode b)) (c .before .before .before .stored .ensures)) (c .before .if2 .taken) (c .some-held .ensures))
     (λ c.
     let args = c .before .before .before .before .before .before .before .args in
     let standing = c .before .before .before .before .has-standing in
-    present-other (args .t1) (now (args .store)) (args .k) (standing .ensures) (not-false _ (c .before .before .before .if1 .left)) (c .before .is-add .ensures ∙ ap (λ (b : List ℕ). testOf isAnyAdd (decode b)) (c .before .before .stored .ensures)) (c .if2 .left)))
+    present-other (bookOf (args .t1)) (now (args .store)) (args .k) (standing .ensures) (not-false _ (c .before .before .before .if1 .left)) (c .before .is-add .ensures ∙ ap (λ (b : List ℕ). testOf isAnyAdd (decode b)) (c .before .before .stored .ensures)) (c .if2 .left)))

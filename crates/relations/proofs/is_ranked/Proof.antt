@@ -9,6 +9,7 @@ use denote.Ref.{now}
 use Rattle.format.specs.Decode.{decode}
 use Rattle.rules.specs.Settle.{isInsert}
 use Rattle.fields.specs.Fields.{testOf}
+use Rattle.state.specs.View.{placeOf}
 use Rattle.relations.proofs.Testing.{ranked-none, ranked-other, ranked-insert}
 use Rattle.relations.proofs.is_ranked.Statement.{statement}
 use Rattle.relations.proofs.is_ranked.Tie as tie
@@ -20,7 +21,7 @@ is-ranked-spec =
     (λ c κs. search needs)
     (λ c.
     let args = c .before .before .before .args in
-    ranked-none (now (args .store)) (args .p) (args .k) (c .before .has-standing .ensures) (args .n) (not-true _ (c .if1 .taken)))
+    ranked-none (now (args .store)) (placeOf (args .p)) (args .k) (c .before .has-standing .ensures) (args .n) (not-true _ (c .if1 .taken)))
     (λ c κs. search needs)
     (λ c κs. search needs)
     (λ c κs. search needs)
@@ -28,7 +29,7 @@ is-ranked-spec =
     let args = c .before .before .before .before .before .before .before .args in
     let standing = c .before .before .before .before .before .has-standing in
     let if1 = c .before .before .before .before .if1 in
-    ranked-insert (now (args .store)) (args .p) (args .k) (standing .ensures) (args .n) (not-false _ (if1 .left)) (c .before .before .before .count .ensures) (c .before .before .if2 .taken) (c .is-insert .ensures ∙ ap (λ (b : List ℕ). testOf isInsert (decode b)) (c .before .stored .ensures)))
+    ranked-insert (now (args .store)) (placeOf (args .p)) (args .k) (standing .ensures) (args .n) (not-false _ (if1 .left)) (c .before .before .before .count .ensures) (c .before .before .if2 .taken) (c .is-insert .ensures ∙ ap (λ (b : List ℕ). testOf isInsert (decode b)) (c .before .stored .ensures)))
     (λ c.
     let args = c .before .before .before .before .before .args in
-    ranked-other (now (args .store)) (args .p) (args .k) (c .before .before .before .has-standing .ensures) (args .n) (c .before .count .ensures) (c .if2 .left)))
+    ranked-other (now (args .store)) (placeOf (args .p)) (args .k) (c .before .before .before .has-standing .ensures) (args .n) (c .before .count .ensures) (c .if2 .left)))

@@ -2,6 +2,7 @@
 -- Assumes nothing.
 use borrow.Author.Needs.{needs}
 use denote.Ref.{now}
+use Rattle.state.specs.View.{bookOf}
 use Rattle.relations.proofs.Testing.{shown-is}
 use Rattle.relations.proofs.is_shown.Statement.{statement}
 use Rattle.relations.proofs.is_shown.Tie as tie
@@ -13,4 +14,4 @@ is-shown-spec =
     (λ c κs. search needs)
     (λ c.
     let args = c .before .before .args in
-    shown-is (args .l) (now (args .store)) (args .k) (c .some-held .ensures)))
+    shown-is (bookOf (args .l)) (now (args .store)) (args .k) (c .some-held .ensures)))

@@ -8,6 +8,7 @@ use denote.Ref.{now}
 use Rattle.format.specs.Decode.{decode}
 use Rattle.rules.specs.Settle.{names, deletes}
 use Rattle.fields.specs.Fields.{testOf}
+use Rattle.state.specs.View.{placeOf}
 use Rattle.relations.specs.declared.Relation.{Relation}
 use Rattle.relations.specs.Related.{relates}
 use Rattle.relations.proofs.related.Statement.{statement}
@@ -31,13 +32,13 @@ related-spec =
     (λ c κs. search needs)
     (λ c.
     let args = c .before .before .before .before .before .args in
-    c .has .ensures ∙ ap (λ (r : Relation). relates (now (args .store)) r (args .own) (args .k) (args .other) (args .q)) (sym (c .before .enum-told .given .1)))
+    c .has .ensures ∙ ap (λ (r : Relation). relates (now (args .store)) r (placeOf (args .own)) (args .k) (placeOf (args .other)) (args .q)) (sym (c .before .enum-told .given .1)))
     (λ c.
     let args = c .before .before .before .before .before .args in
-    c .forks .ensures ∙ ap (λ (r : Relation). relates (now (args .store)) r (args .own) (args .k) (args .other) (args .q)) (sym (c .before .enum-told2 .given .1)))
+    c .forks .ensures ∙ ap (λ (r : Relation). relates (now (args .store)) r (placeOf (args .own)) (args .k) (placeOf (args .other)) (args .q)) (sym (c .before .enum-told2 .given .1)))
     (λ c.
     let args = c .before .before .before .before .before .before .before .args in
-    (c .removes .ensures ∙ ap (λ (b : List ℕ). testOf (names (args .own .id)) (decode b)) (c .before .before .stored .ensures)) ∙ ap (λ (r : Relation). relates (now (args .store)) r (args .own) (args .k) (args .other) (args .q)) (sym (c .before .before .before .enum-told3 .given .1)))
+    (c .removes .ensures ∙ ap (λ (b : List ℕ). testOf (names (args .own .id)) (decode b)) (c .before .before .stored .ensures)) ∙ ap (λ (r : Relation). relates (now (args .store)) r (placeOf (args .own)) (args .k) (placeOf (args .other)) (args .q)) (sym (c .before .before .before .enum-told3 .given .1)))
     (λ c.
     let args = c .before .before .before .before .before .before .before .args in
-    (c .erases .ensures ∙ ap (λ (b : List ℕ). testOf (deletes (args .own .id)) (decode b)) (c .before .before .stored2 .ensures)) ∙ ap (λ (r : Relation). relates (now (args .store)) r (args .own) (args .k) (args .other) (args .q)) (sym (c .before .before .before .enum-told4 .given .1))))
+    (c .erases .ensures ∙ ap (λ (b : List ℕ). testOf (deletes (args .own .id)) (decode b)) (c .before .before .stored2 .ensures)) ∙ ap (λ (r : Relation). relates (now (args .store)) r (placeOf (args .own)) (args .k) (placeOf (args .other)) (args .q)) (sym (c .before .before .before .enum-told4 .given .1))))

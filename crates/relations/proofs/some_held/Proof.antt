@@ -7,13 +7,14 @@ use borrow.Author.Needs.{needs}
 use denote.Ref.{now}
 use Rattle.bits.specs.Below.{anyBelow}
 use Rattle.state.specs.State.{placeAt}
+use Rattle.state.specs.View.{bookOf}
 use Rattle.relations.specs.Related.{heldRelates}
 use Rattle.relations.proofs.Testing.{some-start, some-hit, some-more, some-end}
 use Rattle.relations.proofs.some_held.Statement.{statement}
 use Rattle.relations.proofs.some_held.Tie as tie
 
 abbrev Inv-loop : tie.InvT-loop
-Inv-loop store relation k l used own q₀ q = (q ≤ used) × (anyBelow q (λ (j : ℕ). heldRelates store relation (placeAt l k) k (placeAt l j) j) ≡ false)
+Inv-loop store relation k l used own q₀ q = (q ≤ used) × (anyBelow q (λ (j : ℕ). heldRelates store relation (placeAt (bookOf l) k) k (placeAt (bookOf l) j) j) ≡ false)
 
 abbrev μ-loop : tie.MeasureT-loop
 μ-loop store relation k l used own q₀ q = used - q
@@ -28,21 +29,21 @@ some-held-spec =
     (λ c. search needs)
     (λ c.
     let args = c .before .before .args in
-    (search needs, some-start (args .t1) (now (args .store)) (args .k) (args .relation)))
+    (search needs, some-start (bookOf (args .t1)) (now (args .store)) (args .k) (args .relation)))
     (λ c. search needs)
     (λ c. search needs)
     (λ c κs. search needs)
     (λ c.
     let args = c .before .before .before .before .before .before .before .args in
     let loop = c .before .before .before .before .loop in
-    some-hit (args .t1) (now (args .store)) (args .k) (args .relation) (loop .q) (search needs) (c .before .held-related .ensures) (c .if1 .taken))
+    some-hit (bookOf (args .t1)) (now (args .store)) (args .k) (args .relation) (loop .q) (search needs) (c .before .held-related .ensures) (c .if1 .taken))
     (λ c. search needs)
     (λ c. search needs)
     (λ c.
     let args = c .before .before .before .before .before .before .before .args in
     let loop = c .before .before .before .before .loop in
-    (search needs, some-more (args .t1) (now (args .store)) (args .k) (args .relation) (loop .q) (loop .inv .1) (c .before .held-related .ensures) (c .if1 .left)))
+    (search needs, some-more (bookOf (args .t1)) (now (args .store)) (args .k) (args .relation) (loop .q) (loop .inv .1) (c .before .held-related .ensures) (c .if1 .left)))
     (λ c.
     let args = c .before .before .before .before .args in
     let loop = c .before .loop in
-    some-end (args .t1) (now (args .store)) (args .k) (args .relation) (loop .q) (search needs) (search needs) (loop .inv .1)))
+    some-end (bookOf (args .t1)) (now (args .store)) (args .k) (args .relation) (loop .q) (search needs) (search needs) (loop .inv .1)))

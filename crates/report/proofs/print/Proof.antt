@@ -4,6 +4,7 @@ use borrow.Author.Needs.{needs}
 use denote.Ref.{now}
 use Rattle.printing.proofs.Printing.{both, same-text}
 use Rattle.orders.proofs.Inserting.{renamed}
+use Rattle.state.specs.View.{bookOf}
 use Rattle.report.proofs.TextLaws.{text-is}
 use Rattle.orders.proofs.Sorting.{sorted-ids}
 use Rattle.report.proofs.print.Statement.{statement}
@@ -17,18 +18,18 @@ print-spec =
     (λ c κs.
     let args = c .before .before .before .before .args in (
       c .before .before .before .before .pre,
-      renamed (sorted-ids (args .l) (now (args .store))) (c .before .sorted .ensures),
+      renamed (sorted-ids (bookOf (args .l)) (now (args .store))) (c .before .sorted .ensures),
     ))
     (λ c κs.
     let args = c .before .before .before .before .before .before .before .before .args in
     let pre = c .before .before .before .before .before .before .before .before .pre in
     let sorted = c .before .before .before .before .before .sorted in (
       pre,
-      renamed (sorted-ids (args .l) (now (args .store))) (sorted .ensures),
+      renamed (sorted-ids (bookOf (args .l)) (now (args .store))) (sorted .ensures),
       c .before .before .before .print-standings .ensures .1,
     ))
     (λ c. search needs)
     (λ c.
     let args = c .before .before .before .before .before .before .before .before .before .before .before .args in
     let print-standings = c .before .before .before .before .before .before .print-standings in
-    same-text (text-is (args .l) (now (args .store))) (both (print-standings .ensures .0) (c .before .before .print-read-offs .ensures))))
+    same-text (text-is (bookOf (args .l)) (now (args .store))) (both (print-standings .ensures .0) (c .before .before .print-read-offs .ensures))))

@@ -4,6 +4,7 @@ use mathlib.Core.Path.{ap, _∙_}
 use native.Mathlib.Omega.{arith}
 use borrow.Author.Needs.{needs}
 use denote.Ref.{now}
+use Rattle.state.specs.View.{bookOf}
 use Rattle.report.specs.Parts.{partOf}
 use Rattle.printing.proofs.Printing.{both, same-text}
 use Rattle.report.proofs.TextLaws.{read-offs-is}
@@ -52,4 +53,4 @@ print-read-offs-spec =
     let print2 = c .before .before .before .before .before .before .before .before .before .before .before .before .print2 in
     let entries = c .before .before .before .before .before .before .before .before .before .entries in
     let print3 = c .before .before .before .before .before .before .before .print3 in
-    same-text (read-offs-is (args .l) (now (args .store))) (both (same-text (ap (partOf (args .l) (now (args .store)) Marks) (marks .ensures .are)) (print .ensures .0)) (both (same-text (ap (partOf (args .l) (now (args .store)) Set) (sorted .ensures .are ∙ sorted-tags (args .l) (now (args .store)))) (print2 .ensures .0)) (both (same-text (ap (partOf (args .l) (now (args .store)) Entries) (entries .ensures .are)) (print3 .ensures .0)) (c .before .before .put .ensures))))))
+    same-text (read-offs-is (bookOf (args .l)) (now (args .store))) (both (same-text (ap (partOf (bookOf (args .l)) (now (args .store)) Marks) (marks .ensures .are)) (print .ensures .0)) (both (same-text (ap (partOf (bookOf (args .l)) (now (args .store)) Set) (sorted .ensures .are ∙ sorted-tags (bookOf (args .l)) (now (args .store)))) (print2 .ensures .0)) (both (same-text (ap (partOf (bookOf (args .l)) (now (args .store)) Entries) (entries .ensures .are)) (print3 .ensures .0)) (c .before .before .put .ensures))))))

@@ -4,6 +4,7 @@ use mathlib.Core.Path.{ap}
 use native.Mathlib.Omega.{arith}
 use borrow.Author.Needs.{needs}
 use denote.Ref.{now}
+use Rattle.state.specs.View.{bookOf}
 use Rattle.report.specs.Parts.{partOf}
 use Rattle.printing.proofs.Printing.{both, same-text}
 use Rattle.report.proofs.TextLaws.{standings-is}
@@ -50,6 +51,6 @@ print-standings-spec =
     let print2 = c .before .before .before .before .before .before .before .before .before .before .print2 in
     let print3 = c .before .before .before .before .before .before .print3 in
     let print4 = c .before .before .print4 in (
-      same-text (standings-is (args .l) (now (args .store))) (both (put′ .ensures) (both (same-text (ap (partOf (args .l) (now (args .store)) Held) (pre .1 .are)) (print .ensures .0)) (both (same-text (ap (partOf (args .l) (now (args .store)) Heads) (pre .1 .are)) (print2 .ensures .0)) (both (same-text (ap (partOf (args .l) (now (args .store)) Waiting) (pre .1 .are)) (print3 .ensures .0)) (same-text (ap (partOf (args .l) (now (args .store)) Void) (pre .1 .are)) (print4 .ensures .0)))))),
+      same-text (standings-is (bookOf (args .l)) (now (args .store))) (both (put′ .ensures) (both (same-text (ap (partOf (bookOf (args .l)) (now (args .store)) Held) (pre .1 .are)) (print .ensures .0)) (both (same-text (ap (partOf (bookOf (args .l)) (now (args .store)) Heads) (pre .1 .are)) (print2 .ensures .0)) (both (same-text (ap (partOf (bookOf (args .l)) (now (args .store)) Waiting) (pre .1 .are)) (print3 .ensures .0)) (same-text (ap (partOf (bookOf (args .l)) (now (args .store)) Void) (pre .1 .are)) (print4 .ensures .0)))))),
       omega (arith, put′ .ensures .past, print .ensures .1, print2 .ensures .1, print3 .ensures .1, print4 .ensures .1),
     )))

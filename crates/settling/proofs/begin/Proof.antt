@@ -4,6 +4,8 @@ use mathlib.Core.Path.{_∙_}
 use native.Mathlib.Omega.{arith}
 use borrow.Author.Needs.{needs}
 use denote.Ref.{now}
+use Rattle.state.specs.View.{bookOf}
+use Rattle.settling.specs.Settle.{outcomeOf}
 use Rattle.settling.proofs.Settling.{newest-used, begun-goes-on, begun-ends}
 use Rattle.settling.proofs.begin.Statement.{statement}
 use Rattle.settling.proofs.begin.Tie as tie
@@ -16,12 +18,12 @@ begin-spec =
     (λ c κs.
     let n = c .before .before in
     let a = n .before .before .args in
-    omega (arith, newest-used (a .l) (now (a .store)) _ (n .newest .ensures)))
+    omega (arith, newest-used (bookOf (a .l)) (now (a .store)) (outcomeOf (n .newest .result)) (n .newest .ensures)))
     (λ c.
     let n = c .before .before .before in
     let a = n .before .before .args in
-    c .successors .ensures ∙ begun-goes-on (a .l) (now (a .store)) _ (n .newest .ensures) (c .before .if1 .taken))
+    c .successors .ensures ∙ begun-goes-on (bookOf (a .l)) (now (a .store)) (outcomeOf (n .newest .result)) (n .newest .ensures) (c .before .if1 .taken))
     (λ c.
     let n = c .before .before in
     let a = n .before .before .args in
-    begun-ends (a .l) (now (a .store)) _ (n .newest .ensures) (c .if1 .left)))
+    begun-ends (bookOf (a .l)) (now (a .store)) (outcomeOf (n .newest .result)) (n .newest .ensures) (c .if1 .left)))

@@ -5,15 +5,15 @@ use native.Mathlib.Omega.{arith}
 use borrow.Author.Needs.{needs}
 use denote.Ref.{now}
 use Rattle.keys.specs.BoolLaws.{and-true→}
-use Rattle.settling.specs.declared.Pass.{Pass}
-use Rattle.settling.specs.Settle.{chosen}
+use Rattle.state.specs.View.{bookOf}
+use Rattle.settling.specs.Settle.{Outcome, outcomeOf, chosen}
 use Rattle.settling.proofs.Settling.{Passing, next-judged, passing-all, passing-next, passing-over, passing-none, chosen-kept, not-due-kept}
 use Rattle.settling.proofs.pass_over.Statement.{statement}
 use Rattle.settling.proofs.pass_over.Tie as tie
 
 abbrev Inv-loop : tie.InvT-loop
 Inv-loop store all id k₀ current₀ changed₀ k current changed =
-    Passing (chosen current₀ store all id) current₀ store (record { ledger = current; changed = changed }) k
+    Passing (chosen (bookOf current₀) store all id) (bookOf current₀) store (record { book = bookOf current; changed = changed }) k
 
 abbrev μ-loop : tie.MeasureT-loop
 μ-loop store all id k₀ current₀ changed₀ k current changed = k
@@ -24,7 +24,7 @@ pass-over-spec =
     (tie.spec
     Inv-loop
     μ-loop
-    (λ c. let a = c .before .before .args in passing-all _ (a .l) (now (a .store)) (search needs))
+    (λ c. let a = c .before .before .args in passing-all _ (bookOf (a .l)) (now (a .store)) (search needs))
     (λ c. search needs)
     (λ c. search needs)
     (λ c. search needs)
@@ -38,21 +38,21 @@ pass-over-spec =
     let t = d .before .before in
     let h = t .before .before .before in
     let a = h .before .before .before .args in
-    let p : Pass = record { ledger = h .loop .current; changed = h .loop .changed } in
+    let p : Outcome = record { book = bookOf (h .loop .current); changed = h .loop .changed } in
     let w = and-true→ _ _ (sym (t .waits-chosen .ensures) ∙ d .before .if1 .taken) in
-    passing-next _ (a .l) (now (a .store)) (h .loop .inv) (search needs)
-    (chosen-kept (a .l) (h .loop .current) (now (a .store)) (h .loop .inv .kept) (a .all) (now (a .id)) _ ∙ w .1)
-    (next-judged p (now (a .store)) _ (w .0) (d .settle-waiting .result) (d .settle-waiting .ensures) (search needs) (search needs)))
+    passing-next _ (bookOf (a .l)) (now (a .store)) (h .loop .inv) (search needs)
+    (chosen-kept (bookOf (a .l)) (bookOf (h .loop .current)) (now (a .store)) (h .loop .inv .kept) (a .all) (now (a .id)) _ ∙ w .1)
+    (next-judged p (now (a .store)) _ (w .0) (outcomeOf (d .settle-waiting .result)) (d .settle-waiting .ensures) (search needs) (search needs)))
     (λ c. search needs)
     (λ c.
     let t = c .before in
     let h = t .before .before .before in
     let a = h .before .before .before .args in
-    passing-over _ (a .l) (now (a .store)) (h .loop .inv) (search needs)
-    (not-due-kept (a .l) (h .loop .current) (now (a .store)) (h .loop .inv .kept) (a .all) (now (a .id)) _
+    passing-over _ (bookOf (a .l)) (now (a .store)) (h .loop .inv) (search needs)
+    (not-due-kept (bookOf (a .l)) (bookOf (h .loop .current)) (now (a .store)) (h .loop .inv .kept) (a .all) (now (a .id)) _
     (sym (t .waits-chosen .ensures) ∙ c .if1 .left))
     (search needs))
     (λ c.
     let h = c .before in
     let a = h .before .before .before .args in
-    passing-none _ (a .l) (now (a .store)) (h .loop .inv) (search needs)))
+    passing-none _ (bookOf (a .l)) (now (a .store)) (h .loop .inv) (search needs)))

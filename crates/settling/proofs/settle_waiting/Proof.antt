@@ -3,6 +3,7 @@
 use mathlib.Core.Path.{sym, _∙_}
 use borrow.Author.Needs.{needs}
 use denote.Ref.{now}
+use Rattle.state.specs.View.{bookOf}
 use Rattle.settling.proofs.Settling.{by-holds, by-fails, by-waits}
 use Rattle.settling.proofs.settle_waiting.Statement.{statement}
 use Rattle.settling.proofs.settle_waiting.Tie as tie
@@ -21,12 +22,12 @@ settle-waiting-spec =
     let u = c .before .before in
     let d = u .before .before in
     let a = d .before .before .args in
-    by-holds (a .l) (now (a .store)) (a .k) (c .settled .ensures) (sym (d .judge .ensures) ∙ u .up .given .1))
+    by-holds (bookOf (a .l)) (now (a .store)) (a .k) (c .settled .ensures) (sym (d .judge .ensures) ∙ u .up .given .1))
     (λ c.
     let d = c .before .before .before in
     let a = d .before .before .args in
-    by-fails (a .l) (now (a .store)) (a .k) (c .settled2 .ensures) (sym (d .judge .ensures) ∙ c .before .enum-told .given .1))
+    by-fails (bookOf (a .l)) (now (a .store)) (a .k) (c .settled2 .ensures) (sym (d .judge .ensures) ∙ c .before .enum-told .given .1))
     (λ c.
     let d = c .before .before in
     let a = d .before .before .args in
-    by-waits (a .l) (now (a .store)) (a .k) (sym (d .judge .ensures) ∙ c .enum-told2 .given .1)))
+    by-waits (bookOf (a .l)) (now (a .store)) (a .k) (sym (d .judge .ensures) ∙ c .enum-told2 .given .1)))

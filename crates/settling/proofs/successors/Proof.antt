@@ -4,6 +4,7 @@ use mathlib.Core.Path.{sym, _∙_}
 use borrow.Author.Needs.{needs}
 use denote.Ref.{now}
 use Rattle.state.proofs.Owning.{id-length}
+use Rattle.state.specs.View.{bookOf}
 use Rattle.settling.proofs.Settling.{successors-none, successors-last}
 use Rattle.settling.proofs.successors.Statement.{statement}
 use Rattle.settling.proofs.successors.Tie as tie
@@ -12,7 +13,7 @@ pub successors-spec : {M : Type 1} → statement M
 successors-spec =
     tie.close
     (tie.spec
-    (λ c. let a = c .before .before .args in successors-none (a .t1) (now (a .store)) (search needs))
+    (λ c. let a = c .before .before .args in successors-none (bookOf (a .t1)) (now (a .store)) (search needs))
     (λ c. search needs)
     (λ c. search needs)
     (λ c. search needs)
@@ -22,4 +23,4 @@ successors-spec =
     (λ c κs. search needs)
     (λ c.
     let a = c .before .before .before .before .before .before .args in
-    c .pass-over .ensures ∙ successors-last (a .t1) (now (a .store)) _ (search needs)))
+    c .pass-over .ensures ∙ successors-last (bookOf (a .t1)) (now (a .store)) _ (search needs)))

@@ -1,7 +1,7 @@
 -- `fresh` meets its contract.
 -- Assumes nothing.
 use mathlib.Core.Path.{refl}
-use Rattle.state.specs.State.{freshLedger}
+use Rattle.state.specs.View.{freshLedger}
 use Rattle.state.proofs.fresh.Statement.{statement}
 use Rattle.state.proofs.fresh.Tie as tie
 

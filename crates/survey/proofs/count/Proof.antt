@@ -4,12 +4,13 @@ use Prim.Native.Nat.{_≤_, _-_}
 use mathlib.Core.Path.{_≡_, _∙_}
 use mathlib.Core.Logic.{⊎-elim}
 use borrow.Author.Needs.{needs}
+use Rattle.state.specs.View.{bookOf}
 use Rattle.survey.proofs.CountLaws.{counted, counted-first, counted-one, counted-none, counted-whole}
 use Rattle.survey.proofs.count.Statement.{statement}
 use Rattle.survey.proofs.count.Tie as tie
 
 abbrev Inv-loop : tie.InvT-loop
-Inv-loop standing l used n₀ j₀ n j = (j ≤ used) × (n ≤ j) × (n ≡ counted l standing j)
+Inv-loop standing l used n₀ j₀ n j = (j ≤ used) × (n ≤ j) × (n ≡ counted (bookOf l) standing j)
 
 abbrev μ-loop : tie.MeasureT-loop
 μ-loop standing l used n₀ j₀ n j = used - j
@@ -32,10 +33,10 @@ count-spec =
     let a = h .before .args in
     let t = c .before .has-standing .ensures in
     ⊎-elim
-    (λ w. (search needs, search needs, w .1 ∙ counted-one (a .t1) (a .standing) (h .loop .j) t (w .0 .taken) (h .loop .inv .2)))
-    (λ w. (search needs, search needs, w .1 ∙ counted-none (a .t1) (a .standing) (h .loop .j) t (w .0 .left) (h .loop .inv .2)))
+    (λ w. (search needs, search needs, w .1 ∙ counted-one (bookOf (a .t1)) (a .standing) (h .loop .j) t (w .0 .taken) (h .loop .inv .2)))
+    (λ w. (search needs, search needs, w .1 ∙ counted-none (bookOf (a .t1)) (a .standing) (h .loop .j) t (w .0 .left) (h .loop .inv .2)))
     (c .if1 .came))
     (λ c.
     let h = c .before in
     let a = h .before .args in
-    counted-whole (a .t1) (a .standing) (h .loop .j) (search needs) (h .loop .inv .2)))
+    counted-whole (bookOf (a .t1)) (a .standing) (h .loop .j) (search needs) (h .loop .inv .2)))

@@ -5,12 +5,13 @@ use mathlib.Core.Path.{sym, _∙_}
 use borrow.Author.Needs.{needs}
 use borrow.Author.Tests.{not-true, not-false}
 use denote.Ref.{now}
+use Rattle.state.specs.View.{bookOf}
 use Rattle.survey.proofs.Row1Laws.{SoundBelow, wrong-store, too-many, unsound, sound-first, sound-more, all-sound, by-places}
 use Rattle.survey.proofs.sound.Statement.{statement}
 use Rattle.survey.proofs.sound.Tie as tie
 
 abbrev Inv-loop : tie.InvT-loop
-Inv-loop store l used k₀ k = (k ≤ used) × SoundBelow l k
+Inv-loop store l used k₀ k = (k ≤ used) × SoundBelow (bookOf l) k
 
 abbrev μ-loop : tie.MeasureT-loop
 μ-loop store l used k₀ k = used - k
@@ -21,8 +22,8 @@ sound-spec =
     (tie.spec
     Inv-loop
     μ-loop
-    (λ c. let a = c .before .before .args in wrong-store (a .t1) (now (a .store)) (c .if1 .taken))
-    (λ c. let a = c .before .before .before .args in too-many (a .t1) (now (a .store)) (search needs) (search needs))
+    (λ c. let a = c .before .before .args in wrong-store (bookOf (a .t1)) (now (a .store)) (c .if1 .taken))
+    (λ c. let a = c .before .before .before .args in too-many (bookOf (a .t1)) (now (a .store)) (search needs) (search needs))
     (λ c. (search needs, sound-first _))
     (λ c. search needs)
     (λ c. search needs)
@@ -30,18 +31,18 @@ sound-spec =
     (λ c.
     let h = c .before .before .before .before in
     let a = h .before .before .before .before .args in
-    sym (unsound (a .t1) (h .loop .k) (c .before .sound-place .ensures) (search needs) (not-true _ (c .if3 .taken)))
-    ∙ by-places (a .t1) (now (a .store)) (search needs) (search needs))
+    sym (unsound (bookOf (a .t1)) (h .loop .k) (c .before .sound-place .ensures) (search needs) (not-true _ (c .if3 .taken)))
+    ∙ by-places (bookOf (a .t1)) (now (a .store)) (search needs) (search needs))
     (λ c. search needs)
     (λ c. search needs)
     (λ c.
     let h = c .before .before .before .before in
     let a = h .before .before .before .before .args in (
       search needs,
-      sound-more (a .t1) (h .loop .k) (c .before .sound-place .ensures)
+      sound-more (bookOf (a .t1)) (h .loop .k) (c .before .sound-place .ensures)
           (not-false _ (c .if3 .left)) (h .loop .inv .1),
     ))
     (λ c.
     let h = c .before in
     let a = h .before .before .before .before .args in
-    sym (all-sound (a .t1) (h .loop .k) (search needs) (h .loop .inv .1)) ∙ by-places (a .t1) (now (a .store)) (search needs) (search needs)))
+    sym (all-sound (bookOf (a .t1)) (h .loop .k) (search needs) (h .loop .inv .1)) ∙ by-places (bookOf (a .t1)) (now (a .store)) (search needs) (search needs)))

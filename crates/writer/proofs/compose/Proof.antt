@@ -5,6 +5,7 @@ use borrow.Author.Needs.{needs}
 use denote.Ref.{now}
 use Rattle.printing.proofs.Printing.{both, same-text}
 use Rattle.operations.specs.Operations.{operationFor}
+use Rattle.state.specs.View.{bookOf}
 use Rattle.writer.proofs.Laying.{update-bytes}
 use Rattle.writer.proofs.compose.Statement.{statement}
 use Rattle.writer.proofs.compose.Tie as tie
@@ -34,4 +35,4 @@ compose-spec =
     let put-header = c .before .before .before .before .before .before .before .before .before .before .put-header in
     let put-ids = c .before .before .before .before .before .before .put-ids in
     let put-operation = c .before .before .put-operation in
-    (same-text (update-bytes (args .l) (now (args .store)) (args .author) (operationFor (args .kind) (args .tag) (args .id) (now (args .named))) (chosen .result) (chosen .ensures .0)) (both (put-header .ensures) (both (put-ids .ensures .0) (put-operation .ensures .0))), omega (arith, put-operation .ensures .1, put-ids .ensures .1, put-header .ensures .past, chosen .ensures .1))))
+    (same-text (update-bytes (bookOf (args .l)) (now (args .store)) (args .author) (operationFor (args .kind) (args .tag) (args .id) (now (args .named))) (chosen .result) (chosen .ensures .0)) (both (put-header .ensures) (both (put-ids .ensures .0) (put-operation .ensures .0))), omega (arith, put-operation .ensures .1, put-ids .ensures .1, put-header .ensures .past, chosen .ensures .1))))

@@ -6,6 +6,7 @@ use lib.ListN.{length}
 use lib.Seq.{length-take-le}
 use denote.Ref.{now}
 use Rattle.state.specs.Row1Laws.{sound→}
+use Rattle.state.specs.View.{bookOf}
 use Rattle.writing.proofs.WriteEnds.{ended-fails, ended-waits, ended-short, ended-written}
 use Rattle.writing.proofs.write_asked.Statement.{statement}
 use Rattle.writing.proofs.write_asked.Tie as tie
@@ -18,7 +19,7 @@ write-asked-spec =
     (λ c κs.
     let args = c .before .before .before .before .args in
     let pre = c .before .before .before .before .pre in
-    (sound→ (args .ledger) (now (args .store)) (pre .fits) .few, pre .named-good))
+    (sound→ (bookOf (args .ledger)) (now (args .store)) (pre .fits) .few, pre .named-good))
     (λ c. search needs)
     (λ c.
     let compose = c .before .before .compose in
@@ -26,7 +27,7 @@ write-asked-spec =
     (λ c κs.
     let args = c .before .before .before .before .before .before .before .args in
     let pre = c .before .before .before .before .before .before .before .pre in
-    sound→ (args .ledger) (now (args .store)) (pre .fits) .few)
+    sound→ (bookOf (args .ledger)) (now (args .store)) (pre .fits) .few)
     (λ c. search needs)
     (λ c.
     let x : length (c .before .before .before .before .before .before .before .before .before .before .before .args .tag) ≡ 16 = search needs in
@@ -35,7 +36,7 @@ write-asked-spec =
     let pre = c .before .before .before .before .before .before .before .before .before .before .before .pre in
     let compose = c .before .before .before .before .before .before .compose in
     let judge-bytes = c .before .before .before .judge-bytes in
-    ended-short (args .ledger) (now (args .store)) (args .author) (args .kind) (args .tag) (args .id) (now (args .named)) (pre) x y (compose .ensures .0) (compose .ensures .1) _ refl _ (judge-bytes .ensures) (now (args .out)) _ (c .before .enum-told .given .1) (c .if1 .taken))
+    ended-short (bookOf (args .ledger)) (now (args .store)) (args .author) (args .kind) (args .tag) (args .id) (now (args .named)) (pre) x y (compose .ensures .0) (compose .ensures .1) _ refl _ (judge-bytes .ensures) (now (args .out)) _ (c .before .enum-told .given .1) (c .if1 .taken))
     (λ c κs. search needs)
     (λ c. search needs)
     (λ c. search needs)
@@ -50,7 +51,7 @@ write-asked-spec =
     let enum-told = c .before .before .before .before .before .enum-told in
     let if1 = c .before .before .before .before .if1 in
     let put = c .before .before .put in
-    ended-written (args .ledger) (now (args .store)) (args .author) (args .kind) (args .tag) (args .id) (now (args .named)) (pre) x y (compose .ensures .0) (compose .ensures .1) _ refl _ (judge-bytes .ensures) (now (args .out)) _ (enum-told .given .1) (if1 .left) (put .ensures))
+    ended-written (bookOf (args .ledger)) (now (args .store)) (args .author) (args .kind) (args .tag) (args .id) (now (args .named)) (pre) x y (compose .ensures .0) (compose .ensures .1) _ refl _ (judge-bytes .ensures) (now (args .out)) _ (enum-told .given .1) (if1 .left) (put .ensures))
     (λ c.
     let x : length (c .before .before .before .before .before .before .before .before .before .before .args .tag) ≡ 16 = search needs in
     let y : length (c .before .before .before .before .before .before .before .before .before .before .args .id) ≡ 32 = search needs in
@@ -58,7 +59,7 @@ write-asked-spec =
     let pre = c .before .before .before .before .before .before .before .before .before .before .pre in
     let compose = c .before .before .before .before .before .compose in
     let judge-bytes = c .before .before .judge-bytes in
-    ended-fails (args .ledger) (now (args .store)) (args .author) (args .kind) (args .tag) (args .id) (now (args .named)) (pre) x y (compose .ensures .0) (compose .ensures .1) _ refl _ (judge-bytes .ensures) (now (args .out)) (c .enum-told2 .given .1))
+    ended-fails (bookOf (args .ledger)) (now (args .store)) (args .author) (args .kind) (args .tag) (args .id) (now (args .named)) (pre) x y (compose .ensures .0) (compose .ensures .1) _ refl _ (judge-bytes .ensures) (now (args .out)) (c .enum-told2 .given .1))
     (λ c.
     let x : length (c .before .before .before .before .before .before .before .before .before .before .args .tag) ≡ 16 = search needs in
     let y : length (c .before .before .before .before .before .before .before .before .before .before .args .id) ≡ 32 = search needs in
@@ -66,4 +67,4 @@ write-asked-spec =
     let pre = c .before .before .before .before .before .before .before .before .before .before .pre in
     let compose = c .before .before .before .before .before .compose in
     let judge-bytes = c .before .before .judge-bytes in
-    ended-waits (args .ledger) (now (args .store)) (args .author) (args .kind) (args .tag) (args .id) (now (args .named)) (pre) x y (compose .ensures .0) (compose .ensures .1) _ refl _ (judge-bytes .ensures) (now (args .out)) (c .enum-told3 .given .1)))
+    ended-waits (bookOf (args .ledger)) (now (args .store)) (args .author) (args .kind) (args .tag) (args .id) (now (args .named)) (pre) x y (compose .ensures .0) (compose .ensures .1) _ refl _ (judge-bytes .ensures) (now (args .out)) (c .enum-told3 .given .1)))

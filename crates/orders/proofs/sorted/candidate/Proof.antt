@@ -3,6 +3,7 @@
 use mathlib.Core.Path.{sym, ap, _∙_}
 use borrow.Author.Needs.{needs}
 use denote.Ref.{now}
+use Rattle.state.specs.View.{bookOf}
 use Rattle.orders.specs.declared.Key.{Key}
 use Rattle.orders.specs.Pieces.{candidate}
 use Rattle.orders.proofs.sorted.candidate.Statement.{statement}
@@ -17,7 +18,7 @@ candidate-spec =
     (λ c κs. search needs)
     (λ c.
     let args = c .before .before .before .args in
-    ap (λ (y : Key). candidate (args .l) (now (args .store)) y (args .k)) (sym (c .enum-told .given .1)))
+    ap (λ (y : Key). candidate (bookOf (args .l)) (now (args .store)) y (args .k)) (sym (c .enum-told .given .1)))
     (λ c.
     let args = c .before .before .before .before .args in
-    c .is-present .ensures ∙ ap (λ (y : Key). candidate (args .l) (now (args .store)) y (args .k)) (sym (c .before .enum-told2 .given .1))))
+    c .is-present .ensures ∙ ap (λ (y : Key). candidate (bookOf (args .l)) (now (args .store)) y (args .k)) (sym (c .before .enum-told2 .given .1))))

@@ -4,6 +4,7 @@ use mathlib.Core.Path.{sym, ap, _∙_}
 use borrow.Author.Needs.{needs}
 use denote.Ref.{now}
 use Rattle.keys.specs.Compare.{orderOf}
+use Rattle.state.specs.View.{placeOf}
 use Rattle.orders.specs.declared.Key.{Key}
 use Rattle.orders.specs.Pieces.{keyIn}
 use Rattle.orders.proofs.sorted.compare.Statement.{statement}
@@ -19,7 +20,7 @@ compare-spec =
     (λ c κs. search needs)
     (λ c.
     let args = c .before .before .before .before .args in
-    c .compare-ids .ensures ∙ ap (λ (y : Key). orderOf (keyIn (now (args .store)) y (args .own) (args .j)) (keyIn (now (args .store)) y (args .other) (args .k))) (sym (c .before .enum-told .given .1)))
+    c .compare-ids .ensures ∙ ap (λ (y : Key). orderOf (keyIn (now (args .store)) y (placeOf (args .own)) (args .j)) (keyIn (now (args .store)) y (placeOf (args .other)) (args .k))) (sym (c .before .enum-told .given .1)))
     (λ c.
     let args = c .before .before .before .before .args in
-    c .compare-tags .ensures ∙ ap (λ (y : Key). orderOf (keyIn (now (args .store)) y (args .own) (args .j)) (keyIn (now (args .store)) y (args .other) (args .k))) (sym (c .before .enum-told2 .given .1))))
+    c .compare-tags .ensures ∙ ap (λ (y : Key). orderOf (keyIn (now (args .store)) y (placeOf (args .own)) (args .j)) (keyIn (now (args .store)) y (placeOf (args .other)) (args .k))) (sym (c .before .enum-told2 .given .1))))

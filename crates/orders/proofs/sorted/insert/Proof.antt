@@ -8,6 +8,7 @@ use borrow.Author.Needs.{needs}
 use lib.ListN.{getD, take, drop}
 use denote.Ref.{now}
 use Rattle.keys.specs.Sort.{insert}
+use Rattle.state.specs.View.{bookOf}
 use Rattle.orders.specs.Pieces.{placesIn, keyOf}
 use Rattle.orders.proofs.Inserting.{next, passed, ended, below, renamed}
 use Rattle.orders.proofs.Sorting.{less, equal, greater, over}
@@ -17,7 +18,7 @@ use Rattle.orders.proofs.sorted.insert.Tie as tie
 abbrev Inv-loop : tie.InvT-loop
 Inv-loop store key j l places count own i₀ i =
     (i ≤ count)
-    × (insert (keyOf l store key) j (placesIn places) ≡ take i (placesIn places) ++ insert (keyOf l store key) j (drop i (placesIn places)))
+    × (insert (keyOf (bookOf l) store key) j (placesIn places) ≡ take i (placesIn places) ++ insert (keyOf (bookOf l) store key) j (drop i (placesIn places)))
 
 abbrev μ-loop : tie.MeasureT-loop
 μ-loop store key j l places count own i₀ i = count - i
@@ -54,7 +55,7 @@ insert-spec =
     let loop = c .before .before .before .before .before .before .before .loop in
     let pre = c .before .before .before .before .before .before .before .before .before .before .pre in
     let insert = c .insert in
-    let key = keyOf (args .t1) (now (args .store)) (args .key) in
+    let key = keyOf (bookOf (args .t1)) (now (args .store)) (args .key) in
     let xs = placesIn (args .t4) in
     let k = getD (args .t4 .items) (loop .i) 0 in
     let d = next (args .t4) (pre .0) (loop .i) (search needs) in
@@ -64,7 +65,7 @@ insert-spec =
     let pre = c .before .before .before .before .before .before .before .before .before .pre in
     let args = c .before .before .before .before .before .before .before .before .before .args in
     let loop = c .before .before .before .before .before .before .loop in
-    let key = keyOf (args .t1) (now (args .store)) (args .key) in
+    let key = keyOf (bookOf (args .t1)) (now (args .store)) (args .key) in
     let xs = placesIn (args .t4) in
     let k = getD (args .t4 .items) (loop .i) 0 in
     let d = next (args .t4) (pre .0) (loop .i) (search needs) in
@@ -76,7 +77,7 @@ insert-spec =
     let args = c .before .before .before .before .before .before .before .before .before .args in
     let loop = c .before .before .before .before .before .before .loop in
     let pre = c .before .before .before .before .before .before .before .before .before .pre in
-    let key = keyOf (args .t1) (now (args .store)) (args .key) in
+    let key = keyOf (bookOf (args .t1)) (now (args .store)) (args .key) in
     let xs = placesIn (args .t4) in
     let k = getD (args .t4 .items) (loop .i) 0 in
     let d = next (args .t4) (pre .0) (loop .i) (search needs) in
@@ -89,7 +90,7 @@ insert-spec =
     let loop = c .before .before .loop in
     let pre = c .before .before .before .before .before .pre in
     let insert2 = c .insert2 in
-    let key = keyOf (args .t1) (now (args .store)) (args .key) in
+    let key = keyOf (bookOf (args .t1)) (now (args .store)) (args .key) in
     let xs = placesIn (args .t4) in
     let k = getD (args .t4 .items) (loop .i) 0 in
     (renamed (over key (args .j) xs (loop .i) k (loop .inv .1) (ended (args .t4) (pre .0) (loop .i) (search needs))) (insert2 .ensures .0), omega (arith, insert2 .ensures .1))))

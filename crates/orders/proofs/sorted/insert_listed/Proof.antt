@@ -5,6 +5,7 @@ use mathlib.Core.Bool.{Bool, cond}
 use borrow.Author.Needs.{needs}
 use denote.Ref.{now}
 use Rattle.keys.specs.Sort.{insert}
+use Rattle.state.specs.View.{bookOf}
 use Rattle.orders.specs.Pieces.{placesIn, keyOf}
 use Rattle.orders.proofs.Inserting.{renamed}
 use Rattle.orders.proofs.sorted.insert_listed.Statement.{statement}
@@ -20,11 +21,11 @@ insert-listed-spec =
     (pre .1, pre .2, pre .3))
     (λ c.
     let args = c .before .before .before .before .args in (
-      renamed (ap (λ (b : Bool). cond b (insert (keyOf (args .l) (now (args .store)) (args .key)) (args .k) (placesIn (args .places))) (placesIn (args .places))) (sym (sym (c .before .before .candidate .ensures) ∙ c .before .if1 .taken))) (c .insert .ensures .0),
+      renamed (ap (λ (b : Bool). cond b (insert (keyOf (bookOf (args .l)) (now (args .store)) (args .key)) (args .k) (placesIn (args .places))) (placesIn (args .places))) (sym (sym (c .before .before .candidate .ensures) ∙ c .before .if1 .taken))) (c .insert .ensures .0),
       c .insert .ensures .1,
     ))
     (λ c.
     let args = c .before .before .before .args in (
-      record { sound = c .before .before .before .pre .1; are = ap (λ (b : Bool). cond b (insert (keyOf (args .l) (now (args .store)) (args .key)) (args .k) (placesIn (args .places))) (placesIn (args .places))) (sym (sym (c .before .candidate .ensures) ∙ c .if1 .left)) },
+      record { sound = c .before .before .before .pre .1; are = ap (λ (b : Bool). cond b (insert (keyOf (bookOf (args .l)) (now (args .store)) (args .key)) (args .k) (placesIn (args .places))) (placesIn (args .places))) (sym (sym (c .before .candidate .ensures) ∙ c .if1 .left)) },
       search needs,
     )))

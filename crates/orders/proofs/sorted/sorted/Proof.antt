@@ -5,6 +5,7 @@ use mathlib.Core.Path.{sym}
 use native.Mathlib.Omega.{arith}
 use borrow.Author.Needs.{needs}
 use denote.Ref.{now}
+use Rattle.state.specs.View.{bookOf}
 use Rattle.orders.specs.Pieces.{Lists, keyOf, candidate, sortedBy}
 use Rattle.orders.proofs.Inserting.{renamed}
 use Rattle.orders.proofs.Sorting.{from, from-end, from-step, from-all}
@@ -15,7 +16,7 @@ abbrev Inv-loop : tie.InvT-loop
 Inv-loop l store key places₀ k₀ places k =
     (k ≤ l .used)
     × (places .count + k ≤ l .used)
-    × Lists places (from (keyOf l store key) (candidate l store key) (l .used) k)
+    × Lists places (from (keyOf (bookOf l) store key) (candidate (bookOf l) store key) (l .used) k)
 
 abbrev μ-loop : tie.MeasureT-loop
 μ-loop l store key places₀ k₀ places k = k
@@ -25,7 +26,7 @@ unfolding sortedBy
 returns c =
     let args = c .before .before .before .before .args in
     let loop = c .before .loop in
-    renamed (from-all (keyOf (args .l) (now (args .store)) (args .key)) (candidate (args .l) (now (args .store)) (args .key)) (args .l .used) (loop .k) (search needs)) (loop .inv .2)
+    renamed (from-all (keyOf (bookOf (args .l)) (now (args .store)) (args .key)) (candidate (bookOf (args .l)) (now (args .store)) (args .key)) (args .l .used) (loop .k) (search needs)) (loop .inv .2)
 
 pub sorted-spec : {M : Type 1} → statement M
 sorted-spec =
@@ -36,8 +37,8 @@ sorted-spec =
     (λ c κs. search needs)
     (λ c.
     let args = c .before .before .args in
-    let key = keyOf (args .l) (now (args .store)) (args .key) in
-    let p = candidate (args .l) (now (args .store)) (args .key) in (
+    let key = keyOf (bookOf (args .l)) (now (args .store)) (args .key) in
+    let p = candidate (bookOf (args .l)) (now (args .store)) (args .key) in (
       search needs,
       omega (arith, c .none .ensures .1),
       renamed (sym (from-end key p (args .l .used))) (c .none .ensures .0),
@@ -49,8 +50,8 @@ sorted-spec =
     (λ c.
     let args = c .before .before .before .before .before .args in
     let loop = c .before .before .loop in
-    let key = keyOf (args .l) (now (args .store)) (args .key) in
-    let p = candidate (args .l) (now (args .store)) (args .key) in (
+    let key = keyOf (bookOf (args .l)) (now (args .store)) (args .key) in
+    let p = candidate (bookOf (args .l)) (now (args .store)) (args .key) in (
       search needs,
       omega (arith, c .insert-listed .ensures .1),
       renamed (from-step key p (args .l .used) (loop .k) (search needs) (search needs) (loop .inv .2 .are)) (c .insert-listed .ensures .0),

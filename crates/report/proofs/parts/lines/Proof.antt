@@ -10,6 +10,7 @@ use denote.Ref.{now}
 use Rattle.format.specs.Decode.{part}
 use Rattle.printing.specs.Page.{Prints}
 use Rattle.orders.specs.Pieces.{placesIn}
+use Rattle.state.specs.View.{bookOf}
 use Rattle.report.specs.Parts.{linesOf}
 use Rattle.printing.proofs.Printing.{both, nothing, same-text}
 use Rattle.orders.proofs.Inserting.{next, ended, below}
@@ -22,7 +23,7 @@ Inv-loop l store part page₀ at places count end₀ i₀ page end i =
     (i ≤ count)
     × (length page ≡ length page₀)
     × (end ≤ at + 100 * i)
-    × ((p : List ℕ) (m : ℕ) → Prints page end (linesOf l store part (drop i (placesIn places))) p m → Prints page₀ at (linesOf l store part (placesIn places)) p m)
+    × ((p : List ℕ) (m : ℕ) → Prints page end (linesOf (bookOf l) store part (drop i (placesIn places))) p m → Prints page₀ at (linesOf (bookOf l) store part (placesIn places)) p m)
 
 abbrev μ-loop : tie.MeasureT-loop
 μ-loop l store part page₀ at places count end₀ i₀ page end i = count - i
@@ -54,13 +55,13 @@ lines-spec =
       search needs,
       omega (arith, shown-line .kept .1 .1 .1 .1 .0, loop .inv .1),
       omega (arith, shown-line .ensures .1, loop .inv .2),
-      λ p m h. loop .inv .3 p m (same-text (lines-next (args .l) (now (args .store)) (args .part) (placesIn (args .t4)) (loop .i) (getD (args .t4 .items) (loop .i) 0) (next (args .t4) (pre .1) (loop .i) (search needs))) (both (shown-line .ensures .0) h)),
+      λ p m h. loop .inv .3 p m (same-text (lines-next (bookOf (args .l)) (now (args .store)) (args .part) (placesIn (args .t4)) (loop .i) (getD (args .t4 .items) (loop .i) 0) (next (args .t4) (pre .1) (loop .i) (search needs))) (both (shown-line .ensures .0) h)),
     ))
     (λ c. c .before .loop .inv .1)
     (λ c.
     let args = c .before .before .before .before .args in
     let loop = c .before .loop in
     let pre = c .before .before .before .before .pre in (
-      loop .inv .3 (loop .page) (loop .end) (same-text (lines-end (args .l) (now (args .store)) (args .part) (placesIn (args .t4)) (loop .i) (ended (args .t4) (pre .1) (loop .i) (search needs))) (nothing (loop .page) (loop .end))),
+      loop .inv .3 (loop .page) (loop .end) (same-text (lines-end (bookOf (args .l)) (now (args .store)) (args .part) (placesIn (args .t4)) (loop .i) (ended (args .t4) (pre .1) (loop .i) (search needs))) (nothing (loop .page) (loop .end))),
       omega (arith, loop .inv .2, pre .1 .room),
     )))

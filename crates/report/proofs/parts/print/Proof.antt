@@ -5,6 +5,7 @@ use borrow.Author.Needs.{needs}
 use denote.Ref.{now}
 use Rattle.orders.specs.Pieces.{placesIn}
 use Rattle.printing.proofs.Printing.{both, same-text}
+use Rattle.state.specs.View.{bookOf}
 use Rattle.report.proofs.TextLaws.{part-is}
 use Rattle.report.proofs.parts.print.Statement.{statement}
 use Rattle.report.proofs.parts.print.Tie as tie
@@ -28,6 +29,6 @@ print-spec =
     let word = c .before .before .before .before .before .before .before .before .before .before .before .word in
     let lines = c .before .before .before .before .before .before .before .lines in
     let put′ = c .before .before .put in (
-      same-text (part-is (args .l) (now (args .store)) (args .part) (placesIn (args .places))) (both (word .ensures .0) (both (lines .ensures .0) (put′ .ensures))),
+      same-text (part-is (bookOf (args .l)) (now (args .store)) (args .part) (placesIn (args .places))) (both (word .ensures .0) (both (lines .ensures .0) (put′ .ensures))),
       omega (arith, put′ .ensures .past, lines .ensures .1, word .ensures .1),
     )))

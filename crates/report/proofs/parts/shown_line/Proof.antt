@@ -5,6 +5,7 @@ use mathlib.Core.List.{[]}
 use mathlib.Core.Bool.{Bool, cond}
 use borrow.Author.Needs.{needs}
 use denote.Ref.{now}
+use Rattle.state.specs.View.{bookOf}
 use Rattle.report.specs.Parts.{lineOf}
 use Rattle.printing.proofs.Printing.{nothing, same-text}
 use Rattle.report.proofs.TextLaws.{line-of}
@@ -25,13 +26,13 @@ shown-line-spec =
     let taken = c .before .before .before .before .before in
     let args = taken .before .before .before .before .args in (
       same-text
-          (line-of (args .t1) (now (args .store)) (args .k) (args .part)
-          ∙ ap (λ (b : Bool). cond b (lineOf (args .t1) (now (args .store)) (args .part) (args .k)) []) (sym (sym (taken .before .shows .ensures) ∙ taken .if1 .taken)))
+          (line-of (bookOf (args .t1)) (now (args .store)) (args .k) (args .part)
+          ∙ ap (λ (b : Bool). cond b (lineOf (bookOf (args .t1)) (now (args .store)) (args .part) (args .k)) []) (sym (sym (taken .before .shows .ensures) ∙ taken .if1 .taken)))
           (line .ensures .0),
       line .ensures .1,
     ))
     (λ c.
     let args = c .before .before .before .before .args in (
-      same-text (ap (λ (b : Bool). cond b (lineOf (args .t1) (now (args .store)) (args .part) (args .k)) []) (sym (sym (c .before .shows .ensures) ∙ c .if1 .left))) (nothing (now (args .page)) (args .at)),
+      same-text (ap (λ (b : Bool). cond b (lineOf (bookOf (args .t1)) (now (args .store)) (args .part) (args .k)) []) (sym (sym (c .before .shows .ensures) ∙ c .if1 .left))) (nothing (now (args .page)) (args .at)),
       search needs,
     )))

@@ -4,6 +4,7 @@ use mathlib.Core.Path.{sym, ap, _∙_}
 use borrow.Author.Needs.{needs}
 use denote.Ref.{now}
 use Rattle.wording.specs.declared.Part.{Part}
+use Rattle.state.specs.View.{bookOf}
 use Rattle.report.specs.Parts.{passes}
 use Rattle.relations.proofs.Testing.{held-is, waiting-is, void-is}
 use Rattle.report.proofs.parts.shows.Statement.{statement}
@@ -29,18 +30,18 @@ shows-spec =
     (λ c κs. search needs)
     (λ c.
     let args = c .before .before .before .before .before .args in
-    held-is (args .t1) (now (args .store)) (args .k) (c .has-standing .ensures) ∙ ap (λ (p : Part). passes (args .t1) (now (args .store)) p (args .k)) (sym (c .before .enum-told .given .1)))
+    held-is (bookOf (args .t1)) (now (args .store)) (args .k) (c .has-standing .ensures) ∙ ap (λ (p : Part). passes (bookOf (args .t1)) (now (args .store)) p (args .k)) (sym (c .before .enum-told .given .1)))
     (λ c.
     let args = c .before .before .before .before .before .args in
-    c .is-head .ensures ∙ ap (λ (p : Part). passes (args .t1) (now (args .store)) p (args .k)) (sym (c .before .enum-told2 .given .1)))
+    c .is-head .ensures ∙ ap (λ (p : Part). passes (bookOf (args .t1)) (now (args .store)) p (args .k)) (sym (c .before .enum-told2 .given .1)))
     (λ c.
     let args = c .before .before .before .before .before .args in
-    waiting-is (args .t1) (now (args .store)) (args .k) (c .has-standing2 .ensures) ∙ ap (λ (p : Part). passes (args .t1) (now (args .store)) p (args .k)) (sym (c .before .enum-told3 .given .1)))
+    waiting-is (bookOf (args .t1)) (now (args .store)) (args .k) (c .has-standing2 .ensures) ∙ ap (λ (p : Part). passes (bookOf (args .t1)) (now (args .store)) p (args .k)) (sym (c .before .enum-told3 .given .1)))
     (λ c.
     let args = c .before .before .before .before .before .args in
-    void-is (args .t1) (now (args .store)) (args .k) (c .has-standing3 .ensures) ∙ ap (λ (p : Part). passes (args .t1) (now (args .store)) p (args .k)) (sym (c .before .enum-told4 .given .1)))
+    void-is (bookOf (args .t1)) (now (args .store)) (args .k) (c .has-standing3 .ensures) ∙ ap (λ (p : Part). passes (bookOf (args .t1)) (now (args .store)) p (args .k)) (sym (c .before .enum-told4 .given .1)))
     (λ c. search needs)
     (λ c. search needs)
     (λ c.
     let args = c .before .before .before .before .before .args in
-    c .is-shown .ensures ∙ ap (λ (p : Part). passes (args .t1) (now (args .store)) p (args .k)) (sym (c .before .enum-told7 .given .1))))
+    c .is-shown .ensures ∙ ap (λ (p : Part). passes (bookOf (args .t1)) (now (args .store)) p (args .k)) (sym (c .before .enum-told7 .given .1))))

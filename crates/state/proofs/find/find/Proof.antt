@@ -4,12 +4,13 @@ use Prim.Native.Nat.{_≤_, _-_}
 use mathlib.Core.Path.{sym, _∙_}
 use borrow.Author.Needs.{needs}
 use denote.Ref.{now}
+use Rattle.state.specs.View.{bookOf}
 use Rattle.state.proofs.FindLaws.{NoneBelow, none-first, none-more, found, nowhere}
 use Rattle.state.proofs.find.find.Statement.{statement}
 use Rattle.state.proofs.find.find.Tie as tie
 
 abbrev Inv-loop : tie.InvT-loop
-Inv-loop id l used k₀ k = (k ≤ used) × NoneBelow l id k
+Inv-loop id l used k₀ k = (k ≤ used) × NoneBelow (bookOf l) id k
 
 abbrev μ-loop : tie.MeasureT-loop
 μ-loop id l used k₀ k = used - k
@@ -27,7 +28,7 @@ find-spec =
     (λ c.
     let h = c .before .before .before .before in
     let a = h .before .before .args in
-    found (a .t1) (now (a .id)) (h .loop .k) (search needs) (h .loop .inv .1)
+    found (bookOf (a .t1)) (now (a .id)) (h .loop .k) (search needs) (h .loop .inv .1)
     (sym (c .before .has-id .ensures) ∙ c .if1 .taken))
     (λ c. search needs)
     (λ c. search needs)
@@ -35,9 +36,9 @@ find-spec =
     let h = c .before .before .before .before in
     let a = h .before .before .args in (
       search needs,
-      none-more (a .t1) (now (a .id)) (h .loop .k) (h .loop .inv .1)
+      none-more (bookOf (a .t1)) (now (a .id)) (h .loop .k) (h .loop .inv .1)
           (sym (c .before .has-id .ensures) ∙ c .if1 .left),
     ))
     (λ c.
     let a = c .before .before .before .args in
-    nowhere (a .t1) (now (a .id)) (c .before .loop .k) (search needs) (c .before .loop .inv .1)))
+    nowhere (bookOf (a .t1)) (now (a .id)) (c .before .loop .k) (search needs) (c .before .loop .inv .1)))

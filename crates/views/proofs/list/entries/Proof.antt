@@ -8,6 +8,7 @@ use borrow.Author.Needs.{needs}
 use lib.ListN.{length}
 use denote.Ref.{now}
 use Rattle.keys.specs.Member.{keep}
+use Rattle.state.specs.View.{bookOf}
 use Rattle.views.specs.Board.{putAll, byRank}
 use Rattle.orders.specs.Pieces.{placesIn, Lists}
 use Rattle.views.specs.Ranked.{ranked}
@@ -17,7 +18,7 @@ use Rattle.views.proofs.list.entries.Statement.{statement}
 use Rattle.views.proofs.list.entries.Tie as tie
 
 abbrev Inv-loop : tie.InvT-loop
-Inv-loop l store os es₀ n₀ es n = (n ≤ 64) × (es .count ≡ length (byRank l store n)) × Lists es (putAll l store [] (byRank l store n))
+Inv-loop l store os es₀ n₀ es n = (n ≤ 64) × (es .count ≡ length (byRank (bookOf l) store n)) × Lists es (putAll (bookOf l) store [] (byRank (bookOf l) store n))
 
 abbrev μ-loop : tie.MeasureT-loop
 μ-loop l store os es₀ n₀ es n = 64 - n
@@ -32,8 +33,8 @@ entries-spec =
     (λ c.
     let args = c .before .before .args in (
       search needs,
-      c .none .ensures .1 ∙ sym (rank-zero (args .l) (now (args .store))),
-      renamed (rank-start (args .l) (now (args .store))) (c .none .ensures .0),
+      c .none .ensures .1 ∙ sym (rank-zero (bookOf (args .l)) (now (args .store))),
+      renamed (rank-start (bookOf (args .l)) (now (args .store))) (c .none .ensures .0),
     ))
     (λ c κs.
     let args = c .before .before .before .before .args in
@@ -41,7 +42,7 @@ entries-spec =
     let pre = c .before .before .before .before .pre in (
       pre .1 .sound,
       loop .inv .2 .sound,
-      omega (arith, loop .inv .1, rank-room (args .l) (now (args .store)) (loop .n) (placesIn (args .order)) (pre .1 .are) (omega (arith, length-is (args .order) (pre .1 .sound), pre .1 .sound .room))),
+      omega (arith, loop .inv .1, rank-room (bookOf (args .l)) (now (args .store)) (loop .n) (placesIn (args .order)) (pre .1 .are) (omega (arith, length-is (args .order) (pre .1 .sound), pre .1 .sound .room))),
     ))
     (λ c. search needs)
     (λ c. search needs)
@@ -50,11 +51,11 @@ entries-spec =
     let loop = c .before .before .loop in
     let pre = c .before .before .before .before .before .pre in (
       search needs,
-      c .put-rank .ensures .1 ∙ ap (λ (m : ℕ). m + length (keep (ranked (args .l) (now (args .store)) (loop .n)) (placesIn (args .order)))) (loop .inv .1)
-          ∙ rank-count (args .l) (now (args .store)) (loop .n) (placesIn (args .order)) (pre .1 .are),
-      renamed (rank-next (args .l) (now (args .store)) (loop .n) (placesIn (args .order)) (placesIn (loop .all)) (pre .1 .are) (loop .inv .2 .are)) (c .put-rank .ensures .0),
+      c .put-rank .ensures .1 ∙ ap (λ (m : ℕ). m + length (keep (ranked (bookOf (args .l)) (now (args .store)) (loop .n)) (placesIn (args .order)))) (loop .inv .1)
+          ∙ rank-count (bookOf (args .l)) (now (args .store)) (loop .n) (placesIn (args .order)) (pre .1 .are),
+      renamed (rank-next (bookOf (args .l)) (now (args .store)) (loop .n) (placesIn (args .order)) (placesIn (loop .all)) (pre .1 .are) (loop .inv .2 .are)) (c .put-rank .ensures .0),
     ))
     (λ c.
     let args = c .before .before .before .before .args in
     let loop = c .before .loop in
-    renamed (rank-end (args .l) (now (args .store)) (loop .n) (search needs) (search needs)) (loop .inv .2)))
+    renamed (rank-end (bookOf (args .l)) (now (args .store)) (loop .n) (search needs) (search needs)) (loop .inv .2)))

@@ -7,6 +7,7 @@ use native.Mathlib.Omega.{arith}
 use borrow.Author.Needs.{needs}
 use lib.ListN.{getD, take, drop}
 use denote.Ref.{now}
+use Rattle.state.specs.View.{bookOf}
 use Rattle.views.specs.Board.{after}
 use Rattle.orders.specs.Pieces.{placesIn}
 use Rattle.orders.proofs.Inserting.{next, passed, ended, below}
@@ -17,7 +18,7 @@ use Rattle.views.proofs.list.index_after.Tie as tie
 abbrev Inv-loop : tie.InvT-loop
 Inv-loop id l entries count i₀ i =
     (i ≤ count)
-    × ((s : List ℕ) (k : ℕ) → after l s id k (placesIn entries) ≡ take i (placesIn entries) ++ after l s id k (drop i (placesIn entries)))
+    × ((s : List ℕ) (k : ℕ) → after (bookOf l) s id k (placesIn entries) ≡ take i (placesIn entries) ++ after (bookOf l) s id k (drop i (placesIn entries)))
 
 abbrev μ-loop : tie.MeasureT-loop
 μ-loop id l entries count i₀ i = count - i
@@ -46,7 +47,7 @@ index-after-spec =
     let loop = c .before .before .before .before .before .loop in
     let pre = c .before .before .before .before .before .before .before .pre in
     let e = getD (args .t2 .items) (loop .i) 0 in
-    (search needs, λ s k. after-here (args .t1) s (now (args .id)) k (placesIn (args .t2)) (loop .i) e (loop .inv .1 s k) (next (args .t2) pre (loop .i) (search needs)) (passed (args .t2) pre (loop .i) (search needs)) (sym (c .before .has-id .ensures) ∙ c .if1 .taken)))
+    (search needs, λ s k. after-here (bookOf (args .t1)) s (now (args .id)) k (placesIn (args .t2)) (loop .i) e (loop .inv .1 s k) (next (args .t2) pre (loop .i) (search needs)) (passed (args .t2) pre (loop .i) (search needs)) (sym (c .before .has-id .ensures) ∙ c .if1 .taken)))
     (λ c. search needs)
     (λ c. search needs)
     (λ c.
@@ -54,10 +55,10 @@ index-after-spec =
     let loop = c .before .before .before .before .before .loop in
     let pre = c .before .before .before .before .before .before .before .pre in
     let e = getD (args .t2 .items) (loop .i) 0 in
-    (search needs, λ s k. after-later (args .t1) s (now (args .id)) k (placesIn (args .t2)) (loop .i) e (loop .inv .1 s k) (next (args .t2) pre (loop .i) (search needs)) (passed (args .t2) pre (loop .i) (search needs)) (sym (c .before .has-id .ensures) ∙ c .if1 .left)))
+    (search needs, λ s k. after-later (bookOf (args .t1)) s (now (args .id)) k (placesIn (args .t2)) (loop .i) e (loop .inv .1 s k) (next (args .t2) pre (loop .i) (search needs)) (passed (args .t2) pre (loop .i) (search needs)) (sym (c .before .has-id .ensures) ∙ c .if1 .left)))
     (λ c.
     let args = c .before .before .before .args in
     let loop = c .before .loop in
     let pre = c .before .before .before .pre in
     let e = getD (args .t2 .items) (loop .i) 0 in
-    (search needs, λ s k. after-none (args .t1) s (now (args .id)) k (placesIn (args .t2)) (loop .i) e (loop .inv .1 s k) (ended (args .t2) pre (loop .i) (search needs)))))
+    (search needs, λ s k. after-none (bookOf (args .t1)) s (now (args .id)) k (placesIn (args .t2)) (loop .i) e (loop .inv .1 s k) (ended (args .t2) pre (loop .i) (search needs)))))

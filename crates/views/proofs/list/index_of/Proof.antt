@@ -8,6 +8,7 @@ use denote.Ref.{now}
 use Rattle.format.specs.Decode.{decode}
 use Rattle.fields.specs.Fields.{anchorIn}
 use Rattle.orders.specs.Pieces.{placesIn}
+use Rattle.state.specs.View.{bookOf}
 use Rattle.views.proofs.Ranking.{put-first, put-after}
 use Rattle.views.proofs.list.index_of.Statement.{statement}
 use Rattle.views.proofs.list.index_of.Tie as tie
@@ -26,7 +27,7 @@ index-of-spec =
     let args = c .before .before .before .before .before .before .before .args in
     let anchor-of = c .before .before .before .anchor-of in
     let stored = c .before .before .before .before .stored in
-    (search needs, put-first (args .t1) (now (args .store)) (args .k) (placesIn (args .entries)) (now (anchor-of .result)) (anchor-of .ensures ∙ ap (λ (b : List ℕ). anchorIn (decode b)) (stored .ensures)) (c .before .same .ensures) (c .if1 .taken)))
+    (search needs, put-first (bookOf (args .t1)) (now (args .store)) (args .k) (placesIn (args .entries)) (now (anchor-of .result)) (anchor-of .ensures ∙ ap (λ (b : List ℕ). anchorIn (decode b)) (stored .ensures)) (c .before .same .ensures) (c .if1 .taken)))
     (λ c κs.
     let pre = c .before .before .before .before .before .before .before .pre in
     pre .0)
@@ -35,4 +36,4 @@ index-of-spec =
     let args = c .before .before .before .before .before .before .before .before .args in
     let anchor-of = c .before .before .before .before .anchor-of in
     let stored = c .before .before .before .before .before .stored in
-    (index-after .ensures .0, index-after .ensures .1 (now (args .store)) (args .k) ∙ put-after (args .t1) (now (args .store)) (args .k) (placesIn (args .entries)) (now (anchor-of .result)) (anchor-of .ensures ∙ ap (λ (b : List ℕ). anchorIn (decode b)) (stored .ensures)) (c .before .before .same .ensures) (c .before .if1 .left))))
+    (index-after .ensures .0, index-after .ensures .1 (now (args .store)) (args .k) ∙ put-after (bookOf (args .t1)) (now (args .store)) (args .k) (placesIn (args .entries)) (now (anchor-of .result)) (anchor-of .ensures ∙ ap (λ (b : List ℕ). anchorIn (decode b)) (stored .ensures)) (c .before .before .same .ensures) (c .before .if1 .left))))

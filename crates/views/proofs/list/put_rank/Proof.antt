@@ -8,6 +8,7 @@ use borrow.Author.Needs.{needs}
 use lib.ListN.{length, getD, drop}
 use denote.Ref.{now}
 use Rattle.keys.specs.Member.{keep}
+use Rattle.state.specs.View.{bookOf}
 use Rattle.views.specs.Board.{putAll}
 use Rattle.orders.specs.Pieces.{placesIn, Sound}
 use Rattle.views.specs.Ranked.{ranked}
@@ -21,8 +22,8 @@ abbrev Inv-loop : tie.InvT-loop
 Inv-loop store n l os count es₀ i₀ es i =
     (i ≤ count)
     × Sound es
-    × (es .count + length (keep (ranked l store n) (drop i (placesIn os))) ≡ es₀ .count + length (keep (ranked l store n) (placesIn os)))
-    × (putAll l store (placesIn es₀) (keep (ranked l store n) (placesIn os)) ≡ putAll l store (placesIn es) (keep (ranked l store n) (drop i (placesIn os))))
+    × (es .count + length (keep (ranked (bookOf l) store n) (drop i (placesIn os))) ≡ es₀ .count + length (keep (ranked (bookOf l) store n) (placesIn os)))
+    × (putAll (bookOf l) store (placesIn es₀) (keep (ranked (bookOf l) store n) (placesIn os)) ≡ putAll (bookOf l) store (placesIn es) (keep (ranked (bookOf l) store n) (drop i (placesIn os))))
 
 abbrev μ-loop : tie.MeasureT-loop
 μ-loop store n l os count es₀ i₀ es i = count - i
@@ -52,13 +53,13 @@ put-rank-spec =
     let args = c .before .before .before .before .before .before .before .args in
     let loop = c .before .before .before .before .before .loop in
     let pre = c .before .before .before .before .before .before .before .pre in
-    let q = ranked (args .t1) (now (args .store)) (args .n) in
+    let q = ranked (bookOf (args .t1)) (now (args .store)) (args .n) in
     let xs = placesIn (args .t3) in
     let k = getD (args .t3 .items) (loop .i) 0 in
     let d = next (args .t3) (pre .0) (loop .i) (search needs) in
-    let e = keep-one q k (ranked-is (args .t1) (now (args .store)) k (args .n) (c .before .is-ranked .ensures)) (c .if1 .taken) in (
+    let e = keep-one q k (ranked-is (bookOf (args .t1)) (now (args .store)) k (args .n) (c .before .is-ranked .ensures)) (c .if1 .taken) in (
       loop .inv .1,
-      omega (arith, loop .inv .2, room-next (args .t1) (now (args .store)) q xs (loop .i) k d, ap length e, pre .2),
+      omega (arith, loop .inv .2, room-next (bookOf (args .t1)) (now (args .store)) q xs (loop .i) k d, ap length e, pre .2),
       below (args .t3) (pre .0) (loop .i) (search needs),
     ))
     (λ c. search needs)
@@ -68,27 +69,27 @@ put-rank-spec =
     let loop = c .before .before .before .before .before .loop in
     let pre = c .before .before .before .before .before .before .before .pre in
     let if1 = c .if1 in
-    let q = ranked (args .t1) (now (args .store)) (args .n) in
+    let q = ranked (bookOf (args .t1)) (now (args .store)) (args .n) in
     let xs = placesIn (args .t3) in
     let k = getD (args .t3 .items) (loop .i) 0 in
     let d = next (args .t3) (pre .0) (loop .i) (search needs) in
-    let e = ranked-is (args .t1) (now (args .store)) k (args .n) (c .before .is-ranked .ensures) in
-    let m : Met (args .t1) (now (args .store)) q (loop .all) k e (if1 .all) =
+    let e = ranked-is (bookOf (args .t1)) (now (args .store)) k (args .n) (c .before .is-ranked .ensures) in
+    let m : Met (bookOf (args .t1)) (now (args .store)) q (loop .all) k e (if1 .all) =
     ⊎-elim
-    (λ w. met-put (args .t1) (now (args .store)) q (loop .all) k e (w .0 .taken) (w .1 .ensures) (w .2))
-    (λ w. met-left (args .t1) (now (args .store)) q (loop .all) k e (w .0 .left) (loop .inv .1) (w .1))
+    (λ w. met-put (bookOf (args .t1)) (now (args .store)) q (loop .all) k e (w .0 .taken) (w .1 .ensures) (w .2))
+    (λ w. met-left (bookOf (args .t1)) (now (args .store)) q (loop .all) k e (w .0 .left) (loop .inv .1) (w .1))
     (if1 .came) in (
       search needs,
       m .0 .sound,
-      omega (arith, loop .inv .2, m .1, room-next (args .t1) (now (args .store)) q xs (loop .i) k d),
-      loop .inv .3 ∙ put-next (args .t1) (now (args .store)) q xs (loop .i) k d (placesIn (loop .all)) (placesIn (if1 .all)) (m .0 .are),
+      omega (arith, loop .inv .2, m .1, room-next (bookOf (args .t1)) (now (args .store)) q xs (loop .i) k d),
+      loop .inv .3 ∙ put-next (bookOf (args .t1)) (now (args .store)) q xs (loop .i) k d (placesIn (loop .all)) (placesIn (if1 .all)) (m .0 .are),
     ))
     (λ c.
     let args = c .before .before .before .args in
     let loop = c .before .loop in
-    let q = ranked (args .t1) (now (args .store)) (args .n) in
+    let q = ranked (bookOf (args .t1)) (now (args .store)) (args .n) in
     let xs = placesIn (args .t3) in
     let e = ended (args .t3) (c .before .before .before .pre .0) (loop .i) (search needs) in (
-      record { sound = loop .inv .1; are = sym (loop .inv .3 ∙ put-end (args .t1) (now (args .store)) q xs (placesIn (loop .all)) (loop .i) e) },
-      omega (arith, loop .inv .2, room-end (args .t1) (now (args .store)) q xs (loop .i) e),
+      record { sound = loop .inv .1; are = sym (loop .inv .3 ∙ put-end (bookOf (args .t1)) (now (args .store)) q xs (placesIn (loop .all)) (loop .i) e) },
+      omega (arith, loop .inv .2, room-end (bookOf (args .t1)) (now (args .store)) q xs (loop .i) e),
     )))

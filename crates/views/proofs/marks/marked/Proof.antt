@@ -9,12 +9,13 @@ use denote.Ref.{now}
 use Rattle.bits.specs.Below.{anyBelow}
 use Rattle.bits.specs.Bits.{has}
 use Rattle.relations.specs.PlaceTests.{authorAt, forkedAt}
+use Rattle.state.specs.View.{bookOf}
 use Rattle.views.proofs.Marking.{marked-start, marked-more, marked-end}
 use Rattle.views.proofs.marks.marked.Statement.{statement}
 use Rattle.views.proofs.marks.marked.Tie as tie
 
 abbrev Inv-loop : tie.InvT-loop
-Inv-loop l store used authors₀ k₀ authors k = (k ≤ used) × ((a : ℕ) → has authors a ≡ anyBelow k (λ (j : ℕ). eqb (authorAt l store j) a && forkedAt l store j))
+Inv-loop l store used authors₀ k₀ authors k = (k ≤ used) × ((a : ℕ) → has authors a ≡ anyBelow k (λ (j : ℕ). eqb (authorAt (bookOf l) store j) a && forkedAt (bookOf l) store j))
 
 abbrev μ-loop : tie.MeasureT-loop
 μ-loop l store used authors₀ k₀ authors k = used - k
@@ -27,7 +28,7 @@ marked-spec =
     μ-loop
     (λ c.
     let args = c .before .args in
-    (search needs, marked-start (args .l) (now (args .store))))
+    (search needs, marked-start (bookOf (args .l)) (now (args .store))))
     (λ c κs. search needs)
     (λ c. search needs)
     (λ c. search needs)
@@ -35,9 +36,9 @@ marked-spec =
     let args = c .before .before .before .before .args in
     let loop = c .before .before .loop in (
       search needs,
-      marked-more (args .l) (now (args .store)) (loop .authors) (c .with-author .result) (loop .k) (loop .inv .1) (c .with-author .ensures),
+      marked-more (bookOf (args .l)) (now (args .store)) (loop .authors) (c .with-author .result) (loop .k) (loop .inv .1) (c .with-author .ensures),
     ))
     (λ c.
     let args = c .before .before .before .args in
     let loop = c .before .loop in
-    marked-end (args .l) (now (args .store)) (loop .authors) (loop .k) (search needs) (search needs) (loop .inv .1)))
+    marked-end (bookOf (args .l)) (now (args .store)) (loop .authors) (loop .k) (search needs) (search needs) (loop .inv .1)))

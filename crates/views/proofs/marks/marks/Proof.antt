@@ -11,6 +11,7 @@ use Rattle.bits.specs.Below.{upTo}
 use Rattle.bits.specs.Bits.{has}
 use Rattle.orders.specs.Pieces.{Lists}
 use Rattle.orders.proofs.Inserting.{renamed}
+use Rattle.state.specs.View.{bookOf}
 use Rattle.views.proofs.Marking.{marks-end}
 use Rattle.orders.proofs.Keeping.{upTo-more, upTo-start}
 use Rattle.views.proofs.marks.marks.Statement.{statement}
@@ -49,4 +50,4 @@ marks-spec =
     let args = c .before .before .before .before .before .args in
     let loop = c .before .loop in
     let marked = c .before .before .before .marked in
-    renamed (marks-end (args .l) (now (args .store)) (marked .result) (loop .a) (search needs) (search needs) (marked .ensures)) (loop .inv .2)))
+    renamed (marks-end (bookOf (args .l)) (now (args .store)) (marked .result) (loop .a) (search needs) (search needs) (marked .ensures)) (loop .inv .2)))

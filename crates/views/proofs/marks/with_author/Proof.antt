@@ -6,8 +6,9 @@ use mathlib.Core.List.{List}
 use borrow.Author.Needs.{needs}
 use denote.Ref.{now}
 use Rattle.format.specs.Decode.{decode}
-use Rattle.bits.specs.Bits.{including}
+use Rattle.bits.specs.Bits.{wordBits, includingBelow}
 use Rattle.fields.specs.Fields.{authorIn}
+use Rattle.state.specs.View.{bookOf}
 use Rattle.views.proofs.Marking.{author-added, author-kept}
 use Rattle.views.proofs.marks.with_author.Statement.{statement}
 use Rattle.views.proofs.marks.with_author.Tie as tie
@@ -28,7 +29,7 @@ with-author-spec =
     let is-forked = c .before .before .before .before .before .before .is-forked in
     let if1 = c .before .before .before .before .before .if1 in
     let author-of = c .before .before .author-of in
-    λ a. author-added (args .t1) (now (args .store)) (args .authors) (args .k) a (is-forked .ensures) (if1 .taken) (author-of .ensures .0 ∙ ap (λ (b : List ℕ). authorIn (decode b)) (c .before .before .before .stored .ensures)) (author-of .ensures .1) (c .including .ensures ∙ ap (including (args .authors)) (c .before .wide .ensures)))
+    λ a. author-added (bookOf (args .t1)) (now (args .store)) (args .authors) (args .k) a (is-forked .ensures) (if1 .taken) (author-of .ensures .0 ∙ ap (λ (b : List ℕ). authorIn (decode b)) (c .before .before .before .stored .ensures)) (author-of .ensures .1) (c .including .ensures ∙ ap (includingBelow wordBits (args .authors)) (c .before .wide .ensures)))
     (λ c.
     let args = c .before .before .before .args in
-    λ a. author-kept (args .t1) (now (args .store)) (args .authors) (args .k) a (c .before .is-forked .ensures) (c .if1 .left)))
+    λ a. author-kept (bookOf (args .t1)) (now (args .store)) (args .authors) (args .k) a (c .before .is-forked .ensures) (c .if1 .left)))

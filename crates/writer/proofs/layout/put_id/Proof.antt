@@ -6,10 +6,11 @@ use borrow.Author.Needs.{needs}
 use lib.ListN.{length}
 use Rattle.state.specs.State.{placeAt}
 use Rattle.state.proofs.Owning.{id-length}
+use Rattle.state.specs.View.{bookOf}
 use Rattle.writer.proofs.layout.put_id.Statement.{statement}
 use Rattle.writer.proofs.layout.put_id.Tie as tie
 
-whole : (z : tie.Start) → length (placeAt (z .args .t1) (z .args .k) .id) ≡ 32
+whole : (z : tie.Start) → length (placeAt (bookOf (z .args .t1)) (z .args .k) .id) ≡ 32
 whole z = id-length (z .args .t1) _ (z .good .0) (z .args .k) (z .pre .0)
 
 pub put-id-spec : {M : Type 1} → statement M

@@ -10,12 +10,13 @@ use Rattle.printing.specs.Page.{Prints}
 use Rattle.orders.specs.Pieces.{placesIn}
 use Rattle.printing.proofs.Printing.{both, nothing, same-text}
 use Rattle.orders.proofs.Inserting.{next, ended, below}
+use Rattle.state.specs.View.{bookOf}
 use Rattle.writer.proofs.Laying.{idsOf, ids-next, ids-end}
 use Rattle.writer.proofs.layout.put_ids.Statement.{statement}
 use Rattle.writer.proofs.layout.put_ids.Tie as tie
 
 abbrev Inv-loop : tie.InvT-loop
-Inv-loop l page₀ at places count end₀ i₀ page end i = (i ≤ count) × (length page ≡ length page₀) × (end ≤ at + 32 * i) × ((p : List ℕ) (m : ℕ) → Prints page end (idsOf l (drop i (placesIn places))) p m → Prints page₀ at (idsOf l (placesIn places)) p m)
+Inv-loop l page₀ at places count end₀ i₀ page end i = (i ≤ count) × (length page ≡ length page₀) × (end ≤ at + 32 * i) × ((p : List ℕ) (m : ℕ) → Prints page end (idsOf (bookOf l) (drop i (placesIn places))) p m → Prints page₀ at (idsOf (bookOf l) (placesIn places)) p m)
 
 abbrev μ-loop : tie.MeasureT-loop
 μ-loop l page₀ at places count end₀ i₀ page end i = count - i
@@ -47,10 +48,10 @@ put-ids-spec =
     let loop = c .before .before .before .before .before .before .loop in
     let args = c .before .before .before .before .before .before .before .before .args in
     let pre = c .before .before .before .before .before .before .before .before .pre in
-    (search needs, omega (arith, put-id .kept .1 .1 .0, loop .inv .1), omega (arith, put-id .ensures .1, loop .inv .2), λ p m h. loop .inv .3 p m (same-text (ids-next (args .l) (placesIn (args .t2)) (loop .i) (getD (args .t2 .items) (loop .i) 0) (next (args .t2) (pre .0) (loop .i) (search needs)) refl) (both (put-id .ensures .0) h))))
+    (search needs, omega (arith, put-id .kept .1 .1 .0, loop .inv .1), omega (arith, put-id .ensures .1, loop .inv .2), λ p m h. loop .inv .3 p m (same-text (ids-next (bookOf (args .l)) (placesIn (args .t2)) (loop .i) (getD (args .t2 .items) (loop .i) 0) (next (args .t2) (pre .0) (loop .i) (search needs)) refl) (both (put-id .ensures .0) h))))
     (λ c. c .before .loop .inv .1)
     (λ c.
     let loop = c .before .loop in
     let args = c .before .before .before .args in
     let pre = c .before .before .before .pre in
-    (loop .inv .3 (loop .page) (loop .end) (same-text (ids-end (args .l) (placesIn (args .t2)) (loop .i) (ended (args .t2) (pre .0) (loop .i) (search needs))) (nothing (loop .page) (loop .end))), omega (arith, loop .inv .2))))
+    (loop .inv .3 (loop .page) (loop .end) (same-text (ids-end (bookOf (args .l)) (placesIn (args .t2)) (loop .i) (ended (args .t2) (pre .0) (loop .i) (search needs))) (nothing (loop .page) (loop .end))), omega (arith, loop .inv .2))))
