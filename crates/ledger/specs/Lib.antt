@@ -3,4 +3,5 @@ pub mod Calls
 pub mod Report
 pub mod ValueLaws
 pub mod Answers
+pub mod AfterOffers
 pub mod WriteLaws

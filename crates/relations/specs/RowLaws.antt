@@ -78,8 +78,11 @@ module _ {l : Book} {s : List ℕ} {us : List Update} (stands : Stands l s us) w
   row-update : {k : ℕ} → k < length us → rowAt us k .update ≡ updateAt us k
   row-update h = found h .1
 
+  pub update-id : {k : ℕ} → k < length us → ident (rowAt us k .update) ≡ idAt l s k
+  update-id h = ap ident (row-update h) ∙ sym (place-id stands h)
+
   pub row-id : {k : ℕ} → k < length us → rowAt us k .id ≡ idAt l s k
-  row-id {k} h = decides .has-id (rowAt us k) (found h .0) ∙ ap ident (row-update h) ∙ sym (place-id stands h)
+  row-id {k} h = decides .has-id (rowAt us k) (found h .0) ∙ update-id h
 
   -- the order of the places
   pub order-∈ : {k : ℕ} → k ∈ order l s → k < length us

@@ -5,21 +5,18 @@
 -- Assumes nothing else.
 use mathlib.Core.Path.{_≡_, refl, sym, _∙_, ap}
 use Prim.Native.Nat.{ℕ}
-use native.Mathlib.Omega.{arith}
 use mathlib.Core.List.{List}
-use lib.ListN.{length, take, drop}
-use lib.Seq.{take-append-seam}
-use Rattle.format.specs.Update.{Update}
+use lib.ListN.{length, take}
 use Rattle.rules.specs.Report.{reportOf}
 use Rattle.rules.specs.ReportLaws.{same-report, report-shows-set}
 use Rattle.state.specs.declared.Ledger.{Ledger}
-use Rattle.state.specs.State.{storeLength, Book}
+use Rattle.state.specs.State.{storeLength}
 use Rattle.state.specs.View.{bookOf, freshLedger}
-use Rattle.state.specs.Stands.{ident, Stands}
-use Rattle.refusals.specs.Numbers.{Output, putBytes}
+use Rattle.state.specs.Stands.{ident}
 use Rattle.ledger.specs.declared.Reported.the-variants.{Written}
 use Rattle.ledger.specs.Calls.{Calls, stored, offers-stand}
-use Rattle.ledger.specs.Report.{ReportRow, unfit, short, written, Reporting}
+use Rattle.ledger.specs.Report.{Reporting}
+use Rattle.ledger.specs.AfterOffers.{report-shown}
 use Rattle.replicas.specs.Sets.{setOf, reportFor, Fits, NoCollision}
 use Rattle.replicas.specs.SetLaws.{Apart, first-apart, second-apart, both-apart, updatesOf, updates-distinct, updates-identified, updates-unique}
 use Rattle.replicas.specs.StoredLaws.{stored-distinct, stored-same}
@@ -45,16 +42,8 @@ pub record SideBySide (xs ys : List (List ℕ)) (first second : List ℕ) : Type
   pub second-right : second ≡ reportFor (setOf ys)
 
 -- the full report of a copy is the report of the updates stored
-shown : {l : Book} {s o o′ : List ℕ} {v : Output} (us : List Update) → Stands l s us → ReportRow l s o v o′
-    → (n : ℕ) → v ≡ putBytes n → take n o′ ≡ reportOf ident us
-shown us h (unfit e) n q = let z : _≡_ {A = ℕ} 0 1 = cc in absurd (omega arith)
-shown us h (short text e t k) n q = let z : _≡_ {A = ℕ} 0 1 = cc in absurd (omega arith)
-shown {o = o} us h (written text e t k) n q =
-    let p : length text ≡ n = cc in
-    rw (← p) (take-append-seam text (drop (length text) o) ∙ t .of-rules us h)
-
 copy-report : (bs : List (List ℕ)) (full : List ℕ) → Copy bs full → full ≡ reportOf ident (stored bs)
-copy-report bs full c = c .shown ∙ shown (stored bs) (offers-stand (c .store-length) (c .calls)) (c .reported) (c .answer) refl
+copy-report bs full c = c .shown ∙ report-shown (stored bs) (offers-stand (c .store-length) (c .calls)) (c .reported) (c .answer) refl
 
 -- and so the one that the rules give for its set
 copy-right : (bs : List (List ℕ)) (full : List ℕ) → Copy bs full → Fits bs → Apart bs bs → full ≡ reportFor (setOf bs)

@@ -7,7 +7,7 @@ use mathlib.Core.Bool.{Bool, not, _&&_}
 use lib.ListN.{length}
 use Rattle.keys.specs.Member.{keep, concatMap}
 use Rattle.format.specs.Update.{Update}
-use Rattle.rules.specs.Settle.{Row, Table, isHeld, isWaiting, isVoid, heldRow, covered, heads, tags, list, settled}
+use Rattle.rules.specs.Settle.{Row, Table, isHeld, isWaiting, isVoid, heldRow, covered, heads, settled, updatesIn, partsIn, partsOf}
 use Rattle.rules.specs.Report.{ascii, hex, decimal, updateLine, idLine, bytesLine}
 use Rattle.state.specs.Stands.{ident, Stands}
 use Rattle.relations.specs.PlaceTests.{idAt, heldAt, waitingAt, voidAt, headAt, shownAt, order}
@@ -16,40 +16,45 @@ use Rattle.report.specs.Text.{updateLineAt}
 use Rattle.views.specs.ListFacts.{concatMap-map, concatMap-keep-map}
 use Rattle.views.specs.BoardLaws.{tags-agree}
 use Rattle.views.specs.ListedLaws.{values-agree}
-use Rattle.relations.specs.RowLaws.{rowAt, row-id, order-∈, table-rows, held-agrees, waiting-agrees, void-agrees, author-agrees, head-agrees}
+use Rattle.relations.specs.RowLaws.{rowAt, update-id, order-∈, table-rows, held-agrees, waiting-agrees, void-agrees, author-agrees, head-agrees}
 use Rattle.state.specs.State.{Book}
 
 module _ {l : Book} {s : List ℕ} {us : List Update} (stands : Stands l s us) where
-  -- the lines of the rows that pass a test
-  lines-agree : (line : Row → List ℕ) (p : Row → Bool) (line′ : ℕ → List ℕ) (p′ : ℕ → Bool)
-      → ((k : ℕ) → k < length us → line (rowAt us k) ≡ line′ k) → ((k : ℕ) → k < length us → p (rowAt us k) ≡ p′ k)
-      → concatMap line′ (keep p′ (order l s)) ≡ concatMap line (keep p (settled ident us))
+  -- the lines of the updates whose rows pass a test
+  lines-agree : (line : Update → List ℕ) (p : Row → Bool) (line′ : ℕ → List ℕ) (p′ : ℕ → Bool)
+      → ((k : ℕ) → k < length us → line (rowAt us k .update) ≡ line′ k) → ((k : ℕ) → k < length us → p (rowAt us k) ≡ p′ k)
+      → concatMap line′ (keep p′ (order l s)) ≡ concatMap line (updatesIn (keep p (settled ident us)))
   lines-agree line p line′ p′ h g =
-      sym (ap (λ (T : Table). concatMap line (keep p T)) (table-rows stands)
-      ∙ concatMap-keep-map line p (rowAt us) line′ p′ (order l s) (λ k m. g k (order-∈ stands m)) (λ k m. h k (order-∈ stands m)))
+      sym (concatMap-map line (λ (r : Row). r .update) (keep p (settled ident us))
+      ∙ ap (λ (T : Table). concatMap (λ (r : Row). line (r .update)) (keep p T)) (table-rows stands)
+      ∙ concatMap-keep-map (λ (r : Row). line (r .update)) p (rowAt us) line′ p′ (order l s) (λ k m. g k (order-∈ stands m)) (λ k m. h k (order-∈ stands m)))
 
-  update-line : (k : ℕ) → k < length us → updateLine (rowAt us k) ≡ updateLineAt l s k
+  update-line : (k : ℕ) → k < length us → updateLine ident (rowAt us k .update) ≡ updateLineAt l s k
   unfolding updateLine updateLineAt
-  update-line k h = λ i. ascii "(" ++ (hex (row-id stands h i) ++ (ascii " " ++ (decimal (author-agrees stands h i) ++ ascii ")\n")))
+  update-line k h = λ i. ascii "(" ++ (hex (update-id stands h i) ++ (ascii " " ++ (decimal (author-agrees stands h i) ++ ascii ")\n")))
 
-  pub held-part : concatMap (updateLineAt l s) (keep (heldAt l s) (order l s)) ≡ concatMap updateLine (keep (λ (r : Row). isHeld (r .verdict)) (settled ident us))
-  unfolding heldRow
-  held-part = lines-agree updateLine (λ (r : Row). isHeld (r .verdict)) (updateLineAt l s) (heldAt l s) update-line (held-agrees stands)
+  pub held-part : concatMap (updateLineAt l s) (keep (heldAt l s) (order l s)) ≡ concatMap (updateLine ident) (partsOf ident us .held)
+  unfolding partsOf partsIn heldRow
+  held-part = lines-agree (updateLine ident) (λ (r : Row). isHeld (r .verdict)) (updateLineAt l s) (heldAt l s) update-line (held-agrees stands)
 
-  pub waiting-part : concatMap (updateLineAt l s) (keep (waitingAt l s) (order l s)) ≡ concatMap updateLine (keep (λ (r : Row). isWaiting (r .verdict)) (settled ident us))
-  waiting-part = lines-agree updateLine (λ (r : Row). isWaiting (r .verdict)) (updateLineAt l s) (waitingAt l s) update-line (waiting-agrees stands)
+  pub waiting-part : concatMap (updateLineAt l s) (keep (waitingAt l s) (order l s)) ≡ concatMap (updateLine ident) (partsOf ident us .waiting)
+  unfolding partsOf partsIn
+  waiting-part = lines-agree (updateLine ident) (λ (r : Row). isWaiting (r .verdict)) (updateLineAt l s) (waitingAt l s) update-line (waiting-agrees stands)
 
-  pub void-part : concatMap (updateLineAt l s) (keep (voidAt l s) (order l s)) ≡ concatMap updateLine (keep (λ (r : Row). isVoid (r .verdict)) (settled ident us))
-  void-part = lines-agree updateLine (λ (r : Row). isVoid (r .verdict)) (updateLineAt l s) (voidAt l s) update-line (void-agrees stands)
+  pub void-part : concatMap (updateLineAt l s) (keep (voidAt l s) (order l s)) ≡ concatMap (updateLine ident) (partsOf ident us .void)
+  unfolding partsOf partsIn
+  void-part = lines-agree (updateLine ident) (λ (r : Row). isVoid (r .verdict)) (updateLineAt l s) (voidAt l s) update-line (void-agrees stands)
 
-  pub heads-part : concatMap (λ (k : ℕ). bytesLine (idAt l s k)) (keep (headAt l s) (order l s)) ≡ concatMap idLine (heads (settled ident us))
-  unfolding heads idLine
+  pub heads-part : concatMap (λ (k : ℕ). bytesLine (idAt l s k)) (keep (headAt l s) (order l s)) ≡ concatMap (idLine ident) (partsOf ident us .heads)
+  unfolding partsOf partsIn heads idLine
   heads-part =
-      lines-agree idLine (λ (r : Row). heldRow r && not (covered (settled ident us) r)) (λ (k : ℕ). bytesLine (idAt l s k)) (headAt l s)
-      (λ k h. ap bytesLine (row-id stands h)) (head-agrees stands)
+      lines-agree (idLine ident) (λ (r : Row). heldRow r && not (covered (settled ident us) r)) (λ (k : ℕ). bytesLine (idAt l s k)) (headAt l s)
+      (λ k h. ap bytesLine (update-id stands h)) (head-agrees stands)
 
-  pub set-part : concatMap (λ (k : ℕ). bytesLine (tagAt l s k)) (tagOrder l s) ≡ concatMap bytesLine (tags (settled ident us))
+  pub set-part : concatMap (λ (k : ℕ). bytesLine (tagAt l s k)) (tagOrder l s) ≡ concatMap bytesLine (partsOf ident us .set)
+  unfolding partsOf partsIn
   set-part = sym (concatMap-map bytesLine (tagAt l s) (tagOrder l s)) ∙ ap (concatMap bytesLine) (tags-agree stands)
 
-  pub list-part : concatMap (λ (k : ℕ). bytesLine (valueAt l s k)) (keep (shownAt l s) (entriesOf l s)) ≡ concatMap bytesLine (list (settled ident us))
+  pub list-part : concatMap (λ (k : ℕ). bytesLine (valueAt l s k)) (keep (shownAt l s) (entriesOf l s)) ≡ concatMap bytesLine (partsOf ident us .list)
+  unfolding partsOf partsIn
   list-part = sym (concatMap-map bytesLine (valueAt l s) (keep (shownAt l s) (entriesOf l s))) ∙ ap (concatMap bytesLine) (values-agree stands)

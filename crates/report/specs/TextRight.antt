@@ -6,6 +6,7 @@ use Prim.Native.Nat.{ℕ}
 use Prim.Native.String.{String}
 use Rattle.format.specs.Update.{Update}
 use Rattle.keys.specs.Member.{concatMap}
+use Rattle.rules.specs.Settle.{partsIn, partsOf}
 use Rattle.rules.specs.Report.{ascii, markLine, part, reportText, reportOf}
 use Rattle.state.specs.Stands.{ident, Stands}
 use Rattle.report.specs.Text.{textOf}
@@ -18,7 +19,7 @@ abbrev partOf : String → List ℕ → List ℕ → List ℕ
 partOf word lines rest = ascii word ++ (lines ++ (ascii ")\n" ++ rest))
 
 pub text-right : (l : Book) (s : List ℕ) (us : List Update) → Stands l s us → textOf l s ≡ reportOf ident us
-unfolding textOf part reportOf reportText
+unfolding textOf part reportOf reportText partsOf partsIn
 text-right l s us stands =
     λ i.
     ascii "(ledger 1\n"

@@ -60,6 +60,28 @@ module _ (ident : Update → Id) (S : List Update) where
   held-not-void (Held.held m k hs f) (Void.after {v = v} _ n p w) = held-not-void (hs v n p) w
   held-not-void (Held.held m k hs f) (Void.broken _ _ _ bad) = bad f
 
+  -- what a verdict says of an update, and that an update has only one
+  abbrev pub Says : Verdict → Update → Type 0
+  Says held u = Held ident S u
+  Says waiting u = Waiting ident S u
+  Says void u = Void ident S u
+
+  pub says-stored : (v : Verdict) (u : Update) → Says v u → u ∈ S
+  says-stored held u h = held-stored h
+  says-stored waiting u h = h .stored
+  says-stored void u h = void-stored h
+
+  pub one-verdict : (v w : Verdict) (u : Update) → Says v u → Says w u → v ≡ w
+  one-verdict held held u h k = refl
+  one-verdict held waiting u h k = absurd (k .not-held h)
+  one-verdict held void u h k = absurd (held-not-void h k)
+  one-verdict waiting held u h k = absurd (h .not-held k)
+  one-verdict waiting waiting u h k = refl
+  one-verdict waiting void u h k = absurd (h .not-void k)
+  one-verdict void held u h k = absurd (held-not-void k h)
+  one-verdict void waiting u h k = absurd (k .not-void h)
+  one-verdict void void u h k = refl
+
   -- Any assignment of verdicts to the updates of S that is sound, and that leaves waiting only what the rules do not yet decide from the
   -- verdicts of its predecessors, is right. It says nothing of the order in which verdicts were found.
   pub record Sound (verdict : Update → Verdict) : Type 0 where

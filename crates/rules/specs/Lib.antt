@@ -1,5 +1,6 @@
 pub mod Standing
 pub mod ReadOff
+pub mod Parts
 pub mod Settle
 pub mod Report
 pub mod Small
@@ -12,8 +13,10 @@ pub mod TableLaws
 pub mod ListLaws
 pub mod ListedLaws
 pub mod ReadOffLaws
+pub mod PartsLaws
+pub mod SmallLaws
 pub mod TextLaws
-pub mod LengthLaws
+pub mod ReportLengthLaws
 pub mod ReportLaws
 pub mod Writing
 pub mod ChoiceLaws

@@ -18,7 +18,7 @@ use Rattle.keys.specs.Sort.{sort}
 use Rattle.keys.specs.SortLaws.{sort-∈, ∈-sort, sort-distinct}
 use Rattle.format.specs.Update.{Id, Insert, Update}
 use Rattle.rules.specs.Standing.{beginning, InsertAncestor}
-use Rattle.rules.specs.Settle.{Row, Table, heldRow, rank, anchored, siblings, under, walk, rankKey}
+use Rattle.rules.specs.Settle.{Row, Table, heldRow, rank, anchored, siblings, under, walk, siblingKey}
 use Rattle.rules.specs.Decides.{Decides}
 use Rattle.rules.specs.LeastSets.{held-ancestors}
 use Rattle.keys.specs.ListLaws.{distinct-reverse, distinct-rekey}
@@ -92,7 +92,7 @@ module _ {ident : Update → Id} {S : List Update} {T : Table} (distinct : Disti
   unfolding siblings
   siblings-∈ p {r} m =
       let K : Table = keep (λ (q : Row). heldRow q && anchored p (q .update .op)) T in
-      let f = keep-held→ T (λ (q : Row). anchored p (q .update .op)) (sort-∈ rankKey K (reverse-∈ (sort rankKey K) m)) in
+      let f = keep-held→ T (λ (q : Row). anchored p (q .update .op)) (sort-∈ siblingKey K (reverse-∈ (sort siblingKey K) m)) in
       let g = anchored→ p (r .update .op) (f .1) in
       (record { row = f .0; anchor = g .0; value = g .1; is-insert = g .2 }, g .3)
 
@@ -100,17 +100,17 @@ module _ {ident : Update → Id} {S : List Update} {T : Table} (distinct : Disti
   unfolding siblings
   ∈-siblings p e h =
       let P : Row → Bool = λ (q : Row). anchored p (q .update .op) in
-      let id : Identifies rankKey (keep (λ (q : Row). heldRow q && P q) T) =
+      let id : Identifies siblingKey (keep (λ (q : Row). heldRow q && P q) T) =
       λ x y m k q. row-eq distinct decides (keep-held→ T P m .0 .row-in) (keep-held→ T P k .0 .row-in) (tail-eq-of-cons-eq q) in
-      ∈-reverse (∈-sort rankKey id (→keep-held T P (e .row) (→anchored p (e .is-insert) h)))
+      ∈-reverse (∈-sort siblingKey id (→keep-held T P (e .row) (→anchored p (e .is-insert) h)))
 
   siblings-distinct : (p : Id → Bool) → Distinct (λ (r : Row). r .id) (siblings T p)
   unfolding siblings
   siblings-distinct p =
       let P : Row → Bool = λ (q : Row). anchored p (q .update .op) in
       let K : Table = keep (λ (q : Row). heldRow q && P q) T in
-      distinct-reverse (distinct-rekey {key = rankKey} (λ (r : Row). r .id) (sort-distinct rankKey K)
-      (λ x y m k e. ap rankKey (row-eq distinct decides (keep-held→ T P (sort-∈ rankKey K m) .0 .row-in) (keep-held→ T P (sort-∈ rankKey K k) .0 .row-in) e)))
+      distinct-reverse (distinct-rekey {key = siblingKey} (λ (r : Row). r .id) (sort-distinct siblingKey K)
+      (λ x y m k e. ap siblingKey (row-eq distinct decides (keep-held→ T P (sort-∈ siblingKey K m) .0 .row-in) (keep-held→ T P (sort-∈ siblingKey K k) .0 .row-in) e)))
 
   -- what hangs under e
   child→ : (e : Row) {r : Row} → r ∈ siblings T (under e) → (k : Entry T r) × (k .anchor ≡ beginning → ⊥) × (k .anchor ≡ e .id)

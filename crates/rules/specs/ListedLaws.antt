@@ -19,18 +19,15 @@ use Rattle.keys.specs.SortLaws.{sort-∈, sort-ascending}
 use Rattle.format.specs.Update.{Id, Delete, Update}
 use Rattle.rules.specs.Standing.{beginning}
 use Rattle.rules.specs.ReadOff.{Deleted, Rank, InsertAt, Sooner, Ordered, Siblings, First, Under, Walk, Shown}
-use Rattle.rules.specs.Settle.{Row, Table, heldRow, rank, anchored, siblings, under, walk, deletes, deleted, valuesOf, rankKey}
+use Rattle.rules.specs.Settle.{Row, Table, heldRow, rank, anchored, siblings, under, walk, deletes, deleted, valuesOf, siblingKey, updatesIn}
 use Rattle.rules.specs.Decides.{Decides}
 use Rattle.rules.specs.TableLaws.{deletes→, →deletes, insert-value, insert-values, HeldRow, any-held→, →any-held, keep-held→, row-held, row-id, row-rank, held-row, rank-bound}
 use Rattle.rules.specs.ListLaws.{Entry, atBeginning, firstRows, siblings-∈, ∈-siblings, child-held, child-rank, under→, →under}
 
-abbrev updates : Table → List Update
-updates es = map (λ (r : Row). r .update) es
-
 module _ {ident : Update → Id} {S : List Update} {T : Table} (distinct : Distinct ident S) (decides : Decides ident S T) where
   -- siblings are in order
 
-  sooner : {r q : Row} → HeldRow T r → HeldRow T q → before (rankKey q) (rankKey r) ≡ true → Sooner ident S (r .update) (q .update)
+  sooner : {r q : Row} → HeldRow T r → HeldRow T q → before (siblingKey q) (siblingKey r) ≡ true → Sooner ident S (r .update) (q .update)
   sooner {r} {q} h k e = record {
     rank-u = rank r;
     rank-v = rank q;
@@ -39,9 +36,9 @@ module _ {ident : Update → Id} {S : List Update} {T : Table} (distinct : Disti
     larger = subst₂ (λ (i j : Id). before (rank q ∷ i) (rank r ∷ j) ≡ true) (row-id distinct decides k) (row-id distinct decides h) e;
   }
 
-  ordered-reverseAux : {xs : Table} → Ascending rankKey xs → (es : Table) → Ordered ident S (updates es)
+  ordered-reverseAux : {xs : Table} → Ascending siblingKey xs → (es : Table) → Ordered ident S (updatesIn es)
       → ((r : Row) → r ∈ xs → HeldRow T r) → ((r : Row) → r ∈ es → HeldRow T r)
-      → ((r q : Row) → r ∈ xs → q ∈ es → before (rankKey q) (rankKey r) ≡ true) → Ordered ident S (updates (reverseAux xs es))
+      → ((r q : Row) → r ∈ xs → q ∈ es → before (siblingKey q) (siblingKey r) ≡ true) → Ordered ident S (updatesIn (reverseAux xs es))
   ordered-reverseAux ascending-nil es o h k l = o
   ordered-reverseAux (ascending-cons {x = x} {xs = xs} b a) es o h k l =
       let hx : HeldRow T x = h x (List·Memᴰ·head refl) in
@@ -49,19 +46,19 @@ module _ {ident : Update → Id} {S : List Update} {T : Table} (distinct : Disti
       (Ordered.first (λ v m. let f = map-∈ (λ (r : Row). r .update) es m in
       subst (Sooner ident S (x .update)) (f .2) (sooner hx (k (f .0) (f .1)) (l x (f .0) (List·Memᴰ·head refl) (f .1)))) o)
       (λ r i. h r (List·Memᴰ·tail i)) (λ r i. ⊎-elim (λ (q : r ≡ x). subst (HeldRow T) (sym q) hx) (λ (j : r ∈ es). k r j) (∈-cases i))
-      (λ r q i j. ⊎-elim (λ (e : q ≡ x). subst (λ (y : Row). before (rankKey y) (rankKey r) ≡ true) (sym e) (b r i))
+      (λ r q i j. ⊎-elim (λ (e : q ≡ x). subst (λ (y : Row). before (siblingKey y) (siblingKey r) ≡ true) (sym e) (b r i))
       (λ (m : q ∈ es). l r q (List·Memᴰ·tail i) m) (∈-cases j))
 
-  siblings-ordered : (p : Id → Bool) → Ordered ident S (updates (siblings T p))
+  siblings-ordered : (p : Id → Bool) → Ordered ident S (updatesIn (siblings T p))
   unfolding siblings
   siblings-ordered p =
       let P : Row → Bool = λ (q : Row). anchored p (q .update .op) in
       let K : Table = keep (λ (q : Row). heldRow q && P q) T in
-      ordered-reverseAux (sort-ascending rankKey K) [] Ordered.none
-      (λ r i. keep-held→ T P (sort-∈ rankKey K i) .0) (λ r i. absurd (List·Memᴰ·not-nil i)) (λ r q i j. absurd (List·Memᴰ·not-nil j))
+      ordered-reverseAux (sort-ascending siblingKey K) [] Ordered.none
+      (λ r i. keep-held→ T P (sort-∈ siblingKey K i) .0) (λ r i. absurd (List·Memᴰ·not-nil i)) (λ r q i j. absurd (List·Memᴰ·not-nil j))
 
   siblings-right : (p : Id → Bool) (At : Update → Type 0) → ((u : Update) → At u → (a : Id) × InsertAt ident S a u × (p a ≡ true))
-      → ((a : Id) (u : Update) → InsertAt ident S a u → p a ≡ true → At u) → Siblings ident S At (updates (siblings T p))
+      → ((a : Id) (u : Update) → InsertAt ident S a u → p a ≡ true → At u) → Siblings ident S At (updatesIn (siblings T p))
   siblings-right p At to from = record {
     ordered = siblings-ordered p;
     all-in = λ u h.
@@ -75,12 +72,12 @@ module _ {ident : Update → Id} {S : List Update} {T : Table} (distinct : Disti
         subst At (f .2) (from (k .0 .anchor) (f .0 .update) (record { is-held = row-held distinct decides (k .0 .row); value = k .0 .value; is-insert = k .0 .is-insert }) (k .1));
   }
 
-  pub first-right : Siblings ident S (First ident S) (updates (firstRows T))
+  pub first-right : Siblings ident S (First ident S) (updatesIn (firstRows T))
   first-right =
       siblings-right atBeginning (First ident S) (λ u h. (beginning, h, eq→same beginning beginning refl))
       (λ a u h e. subst (λ (b : Id). InsertAt ident S b u) (same→eq a beginning e) h)
 
-  under-right : {e : Row} → HeldRow T e → Siblings ident S (Under ident S (e .update)) (updates (siblings T (under e)))
+  under-right : {e : Row} → HeldRow T e → Siblings ident S (Under ident S (e .update)) (updatesIn (siblings T (under e)))
   under-right {e} h =
       let i : e .id ≡ ident (e .update) = row-id distinct decides h in
       siblings-right (under e) (Under ident S (e .update)) (λ u k. (ident (e .update), k .0, →under e (k .1) (sym i)))
@@ -88,16 +85,16 @@ module _ {ident : Update → Id} {S : List Update} {T : Table} (distinct : Disti
 
   -- the walk
 
-  blocks-right : (n : ℕ) → ((x : Row) → HeldRow T x → length T ≤ rank x + suc n → Walk ident S (updates (siblings T (under x))) (updates (walk n T (siblings T (under x)))))
-      → (es : Table) → ((e : Row) → e ∈ es → HeldRow T e) → ((e : Row) → e ∈ es → length T ≤ rank e + suc n) → Walk ident S (updates es) (updates (walk (suc n) T es))
+  blocks-right : (n : ℕ) → ((x : Row) → HeldRow T x → length T ≤ rank x + suc n → Walk ident S (updatesIn (siblings T (under x))) (updatesIn (walk n T (siblings T (under x)))))
+      → (es : Table) → ((e : Row) → e ∈ es → HeldRow T e) → ((e : Row) → e ∈ es → length T ≤ rank e + suc n) → Walk ident S (updatesIn es) (updatesIn (walk (suc n) T es))
   unfolding walk concatMap
   blocks-right n below [] h l = Walk.none
   blocks-right n below (e ∷ es) h l =
       let k : HeldRow T e = h e (List·Memᴰ·head refl) in
-      subst (λ (w : List Update). Walk ident S (updates (e ∷ es)) (e .update ∷ w)) (sym (map-append (λ (r : Row). r .update) (walk n T (siblings T (under e))) (walk (suc n) T es)))
+      subst (λ (w : List Update). Walk ident S (updatesIn (e ∷ es)) (e .update ∷ w)) (sym (map-append (λ (r : Row). r .update) (walk n T (siblings T (under e))) (walk (suc n) T es)))
       (Walk.entry (under-right k) (below e k (l e (List·Memᴰ·head refl))) (blocks-right n below es (λ x i. h x (List·Memᴰ·tail i)) (λ x i. l x (List·Memᴰ·tail i))))
 
-  pub walk-right : (n : ℕ) (es : Table) → ((e : Row) → e ∈ es → HeldRow T e) → ((e : Row) → e ∈ es → length T ≤ rank e + n) → Walk ident S (updates es) (updates (walk n T es))
+  pub walk-right : (n : ℕ) (es : Table) → ((e : Row) → e ∈ es → HeldRow T e) → ((e : Row) → e ∈ es → length T ≤ rank e + n) → Walk ident S (updatesIn es) (updatesIn (walk n T es))
   unfolding walk
   walk-right zero [] h l = Walk.none
   walk-right zero (e ∷ es) h l =
@@ -129,7 +126,7 @@ module _ {ident : Update → Id} {S : List Update} {T : Table} (distinct : Disti
       (→deletes (ap (λ (u : Update). u .op) (f .2) ∙ k .is-delete ∙ ap Delete (sym (row-id distinct decides h))))
 
   pub shown-right : (es : Table) → ((e : Row) → e ∈ es → Entry T e)
-      → Shown ident S (updates es) (concatMap (λ (r : Row). valuesOf (r .update .op)) (keep (λ (r : Row). not (deleted T (r .id))) es))
+      → Shown ident S (updatesIn es) (concatMap (λ (r : Row). valuesOf (r .update .op)) (keep (λ (r : Row). not (deleted T (r .id))) es))
   unfolding keep concatMap
   shown-right [] h = Shown.none
   shown-right (e ∷ es) h = step (deleted T (e .id)) refl (shown-right es (λ x i. h x (List·Memᴰ·tail i)))
@@ -143,10 +140,10 @@ module _ {ident : Update → Id} {S : List Update} {T : Table} (distinct : Disti
       k : Entry T e
       k = h e (List·Memᴰ·head refl)
 
-      step : (b : Bool) → deleted T (e .id) ≡ b → Shown ident S (updates es) (concatMap F K) → Shown ident S (updates (e ∷ es)) (concatMap F (cond (not b) (e ∷ K) K))
+      step : (b : Bool) → deleted T (e .id) ≡ b → Shown ident S (updatesIn es) (concatMap F K) → Shown ident S (updatesIn (e ∷ es)) (concatMap F (cond (not b) (e ∷ K) K))
       step true q s = Shown.left-out (deleted→ (k .row) q) s
       step false q s =
-          subst (λ (l : List (List ℕ)). Shown ident S (updates (e ∷ es)) (l ++ concatMap F K)) (sym (insert-values (k .is-insert)))
+          subst (λ (l : List (List ℕ)). Shown ident S (updatesIn (e ∷ es)) (l ++ concatMap F K)) (sym (insert-values (k .is-insert)))
           (Shown.shown (λ d. true-false (→deleted (k .row) d) q) (k .is-insert) s)
 
 -- one list

@@ -18,7 +18,7 @@ use Rattle.keys.specs.Distinct.{Distinct}
 use Rattle.format.specs.Update.{Id, Update}
 use Rattle.rules.specs.Standing.{beginning, Ancestor, Held}
 use Rattle.rules.specs.ReadOff.{Head, Marked, Removed, Present, Rank, InsertAt, Walk, Shown, Listed}
-use Rattle.rules.specs.Settle.{Row, Table, held, heldRow, covered, heads, forkedBy, marks, removed, names, tagsOf, tags, list, entries, rank}
+use Rattle.rules.specs.Settle.{Row, Table, held, heldRow, covered, heads, forkedBy, marks, removed, names, tagsOf, tags, list, entries, rank, updatesIn}
 use Rattle.rules.specs.Decides.{Decides}
 use Rattle.rules.specs.TableLaws.{not-true→, not-true, all-four→, →all-four, tagsOf-∈, ∈-tagsOf, names→, →names, HeldRow, any-held→, →any-held, keep-held→, →keep-held, row-held, row-id, row-rank, held-row, ancestor→above, above→ancestor, rank-bound}
 use Rattle.rules.specs.ListLaws.{Entry, atBeginning, firstRows, siblings-∈, walk-entry, walk-all, walk-distinct}
@@ -187,8 +187,8 @@ module _ (ident : Update → Id) (S : List Update) (T : Table) (distinct : Disti
   pub list-right : Listed ident S (list T)
   unfolding list entries
   list-right = record {
-    first = map (λ (r : Row). r .update) (firstRows T);
-    walk = map (λ (r : Row). r .update) (entries T);
+    first = updatesIn (firstRows T);
+    walk = updatesIn (entries T);
     siblings = first-right distinct decides;
     walked = walk-right distinct decides (length T) (firstRows T) (λ e m. first-entry e m .row) (λ e m. omega arith);
     shows = shown-right distinct decides (entries T) entries-∈;

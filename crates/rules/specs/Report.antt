@@ -6,9 +6,10 @@ use Prim.Native.Char.{code}
 use mathlib.Core.List.{List, [], _∷_, _++_}
 use mathlib.Core.Bool.{cond}
 use lib.Dec.{ltb}
-use Rattle.keys.specs.Member.{keep, concatMap}
+use Rattle.keys.specs.Member.{concatMap}
 use Rattle.format.specs.Update.{Id, Update}
-use Rattle.rules.specs.Settle.{Row, Table, isHeld, isWaiting, isVoid, settled, heads, marks, tags, list}
+use Rattle.rules.specs.Parts.{Parts}
+use Rattle.rules.specs.Settle.{partsOf}
 
 -- the bytes of a text of plain ASCII
 unfoldable pub codes : String → ℕ → ℕ → List ℕ
@@ -38,14 +39,14 @@ decimal n = decimalIn 20 n
 
 -- "Each line ends in a newline. Held, waiting and void have lines `(ID author)`, heads `(ID)` .. Marks: `(author)` .., base ten. Set: `(TAG)` ..;
 -- list: `(VALUE)`"
-unfoldable pub updateLine : Row → List ℕ
-updateLine r = ascii "(" ++ (hex (r .id) ++ (ascii " " ++ (decimal (r .update .author) ++ ascii ")\n")))
+unfoldable pub updateLine : (Update → Id) → Update → List ℕ
+updateLine ident u = ascii "(" ++ (hex (ident u) ++ (ascii " " ++ (decimal (u .author) ++ ascii ")\n")))
 
 unfoldable pub bytesLine : List ℕ → List ℕ
 bytesLine bs = ascii "(" ++ (hex bs ++ ascii ")\n")
 
-unfoldable pub idLine : Row → List ℕ
-idLine r = bytesLine (r .id)
+unfoldable pub idLine : (Update → Id) → Update → List ℕ
+idLine ident u = bytesLine (ident u)
 
 unfoldable pub markLine : ℕ → List ℕ
 markLine a = ascii "(" ++ (decimal a ++ ascii ")\n")
@@ -54,19 +55,20 @@ markLine a = ascii "(" ++ (decimal a ++ ascii ")\n")
 unfoldable pub part : {A : Type 0} → String → (A → List ℕ) → List A → List ℕ → List ℕ
 part word line xs rest = ascii word ++ (concatMap line xs ++ (ascii ")\n" ++ rest))
 
--- the text of a settled table
-unfoldable pub reportText : Table → List ℕ
-reportText T =
+-- the text laid out from the parts
+unfoldable pub reportText : (Update → Id) → Parts → List ℕ
+reportText ident parts =
     ascii "(ledger 1\n"
-    ++ part "(held\n" updateLine (keep (λ (r : Row). isHeld (r .verdict)) T)
-    (part "(heads\n" idLine (heads T)
-    (part "(waiting\n" updateLine (keep (λ (r : Row). isWaiting (r .verdict)) T)
-    (part "(void\n" updateLine (keep (λ (r : Row). isVoid (r .verdict)) T)
-    (part "(marks\n" markLine (marks T)
-    (part "(set\n" bytesLine (tags T)
-    (part "(list\n" bytesLine (list T)
+    ++ part "(held\n" (updateLine ident) (parts .held)
+    (part "(heads\n" (idLine ident) (parts .heads)
+    (part "(waiting\n" (updateLine ident) (parts .waiting)
+    (part "(void\n" (updateLine ident) (parts .void)
+    (part "(marks\n" markLine (parts .marks)
+    (part "(set\n" bytesLine (parts .set)
+    (part "(list\n" bytesLine (parts .list)
     (ascii ")\n")))))))
 
--- "The report that the rules give for a set is the text laid out below, each part worked out from that set alone."
+-- "The report that the rules give for a set is the text laid out below, each part worked out from that set alone." (`read-right` of `PartsLaws`: the
+-- parts are exactly those of the definitions.)
 unfoldable pub reportOf : (Update → Id) → List Update → List ℕ
-reportOf ident S = reportText (settled ident S)
+reportOf ident S = reportText ident (partsOf ident S)

@@ -1,41 +1,65 @@
--- The report: the same members give the same bytes; equal bytes show the same ids, and equal sets where no two updates share an id; its length.
+-- The report: it is laid out from the parts that the definitions give; the same members give the same bytes; equal bytes show the same ids, and equal sets where no
+-- two updates share an id; its length.
 -- Assumes nothing.
-use mathlib.Core.Path.{_≡_, refl, sym, _∙_, ap}
+use mathlib.Core.Path.{_≡_, refl, sym, _∙_, ap, subst}
+use mathlib.Core.Logic.{_⊎_, inl, inr}
 use mathlib.Core.List.{List, [], map}
 use Prim.Native.Nat.{_≤_}
 use native.Mathlib.Omega.{arith}
 use lib.ListN.{length, length-map}
 use Rattle.keys.specs.Member.{_∈_, SameMembers, keep, concatMap}
-use Rattle.keys.specs.MemberLaws.{∈-cast, ∈-map}
+use Rattle.keys.specs.MemberLaws.{∈-cast, ∈-map, map-∈}
 use Rattle.keys.specs.Distinct.{Distinct}
 use Rattle.keys.specs.DistinctLaws.{distinct-identifies, distinct-same-length, distinct-length}
 use Rattle.keys.specs.Sort.{sort}
 use Rattle.keys.specs.SortLaws.{same-sort}
 use Rattle.format.specs.Update.{Id, idLength, Update, Bounded}
-use Rattle.rules.specs.Settle.{isInsert, rounds, start, startAll, settled, heads, marks, tags, walk, entries, list}
+use Rattle.rules.specs.Standing.{Held, Void, Waiting}
+use Rattle.rules.specs.Parts.{Parts, ReadFrom}
+use Rattle.rules.specs.Settle.{isInsert, rounds, start, startAll, settled, heads, marks, tags, walk, entries, list, partsIn, partsOf}
 use Rattle.rules.specs.Report.{codes, ascii, part, reportText, reportOf}
 use Rattle.rules.specs.Decides.{Decides}
-use Rattle.rules.specs.Settling.{settled-decides}
+use Rattle.rules.specs.LeastSets.{held-stored, void-stored}
+use Rattle.rules.specs.Settling.{settled-decides, covers}
 use Rattle.rules.specs.ReadOffLaws.{entry-right, entry-once}
-use Rattle.rules.specs.TextLaws.{text-shows}
-use Rattle.rules.specs.LengthLaws.{Sized, text-length}
+use Rattle.rules.specs.PartsLaws.{read-right, read-unique}
+use Rattle.rules.specs.TextLaws.{SameIds, text-ids}
+use Rattle.rules.specs.ReportLengthLaws.{Sized, text-length}
+
+-- the report is laid out from the parts that the definitions give
+pub report-laid-out : (ident : Update → Id) (S : List Update) → Distinct ident S → {parts : Parts} → ReadFrom ident S parts → reportOf ident S ≡ reportText ident parts
+unfolding reportOf
+report-laid-out ident S d f = ap (reportText ident) (read-unique ident S d (read-right ident S d) f)
 
 -- only the set counts
 pub same-report : (ident : Update → Id) (S S′ : List Update) → Distinct ident S → Distinct ident S′ → SameMembers S S′ → reportOf ident S ≡ reportOf ident S′
-unfolding reportOf settled startAll
+unfolding reportOf partsOf settled startAll
 same-report ident S S′ d d′ s =
-    λ i. reportText (rounds (distinct-same-length d d′ s i) (map (start ident) (same-sort ident (distinct-identifies d) s i)))
+    λ i. reportText ident (partsIn (rounds (distinct-same-length d d′ s i) (map (start ident) (same-sort ident (distinct-identifies d) s i))))
 
 -- the report shows its set
 pub report-shows-ids : (ident : Update → Id) (S S′ : List Update) → Distinct ident S → Distinct ident S′
     → reportOf ident S ≡ reportOf ident S′ → (u : Update) → u ∈ S → (v : Update) × (v ∈ S′) × (ident v ≡ ident u)
 unfolding reportOf
-report-shows-ids ident S S′ d d′ e u m =
-    let D : Decides ident S (settled ident S) = settled-decides ident S d in
-    let D′ : Decides ident S′ (settled ident S′) = settled-decides ident S′ d′ in
-    let r = D .row-for u m in
-    let q = text-shows (settled ident S) (settled ident S′) e (r .0) (r .1) in
-    (q .0 .update, D′ .of-set (q .0) (q .1), sym (D′ .has-id (q .0) (q .1)) ∙ q .2 ∙ D .has-id (r .0) (r .1) ∙ ap ident (r .2))
+report-shows-ids ident S S′ d d′ e u m = step (covers ident S d u m)
+  where
+    P : ReadFrom ident S (partsOf ident S)
+    P = read-right ident S d
+
+    Q : ReadFrom ident S′ (partsOf ident S′)
+    Q = read-right ident S′ d′
+
+    same : SameIds ident (partsOf ident S) (partsOf ident S′)
+    same = text-ids ident (partsOf ident S) (partsOf ident S′) e
+
+    -- a member of one part has its id in the other
+    shown : {xs ys : List Update} → map ident xs ≡ map ident ys → u ∈ xs → (v : Update) × (v ∈ ys) × (ident v ≡ ident u)
+    shown {xs} {ys} q k = map-∈ ident ys (subst (λ (is : List Id). ident u ∈ is) q (∈-map ident k))
+
+    step : Held ident S u ⊎ (Waiting ident S u ⊎ Void ident S u) → (v : Update) × (v ∈ S′) × (ident v ≡ ident u)
+    step (inl h) = let r = shown (same .held-ids) (P .held .all u h) in (r .0, held-stored ident S′ (Q .held .right (r .0) (r .1)), r .2)
+    step (inr (inl h)) = let r = shown (same .waiting-ids) (P .waiting .all u h) in (r .0, Q .waiting .right (r .0) (r .1) .stored, r .2)
+    step (inr (inr h)) = let r = shown (same .void-ids) (P .void .all u h) in (r .0, void-stored ident S′ (Q .void .right (r .0) (r .1)), r .2)
 
 pub report-shows-set : (ident : Update → Id) (S S′ : List Update) → Distinct ident S → Distinct ident S′
     → ((u v : Update) → u ∈ S → v ∈ S′ → ident u ≡ ident v → u ≡ v) → reportOf ident S ≡ reportOf ident S′ → SameMembers S S′
@@ -48,7 +72,7 @@ report-shows-set ident S S′ d d′ one e =
 -- the report of no update
 pub empty-text : (ident : Update → Id)
     → reportOf ident [] ≡ ascii "(ledger 1\n(held\n)\n(heads\n)\n(waiting\n)\n(void\n)\n(marks\n)\n(set\n)\n(list\n)\n)\n"
-unfolding reportOf settled startAll rounds sort reportText part keep concatMap heads marks tags list entries walk ascii codes
+unfolding reportOf partsOf partsIn settled startAll rounds sort reportText part keep concatMap heads marks tags list entries walk ascii codes
 empty-text ident = refl
 
 -- "The empty report is 72 bytes; none passes 12,000."
@@ -58,11 +82,11 @@ empty-length ident = ap length (empty-text ident)
 
 pub report-length : (ident : Update → Id) → ((u : Update) → length (ident u) ≡ idLength) → (S : List Update) → Distinct ident S → length S ≤ 64
     → ((u : Update) → u ∈ S → Bounded u) → length (reportOf ident S) ≤ 12000
-unfolding reportOf isInsert
+unfolding reportOf partsOf isInsert
 report-length ident sized S d few bounded =
     let rows = distinct-length (D .once) (map ident S) (λ r m. ∈-cast (D .has-id r m) (∈-map ident (D .of-set r m))) in
     let size = length-map S ident in
-    let long = text-length (settled ident S) sizes in
+    let long = text-length ident sized (settled ident S) sizes in
     omega arith
   where
     D : Decides ident S (settled ident S)
@@ -71,7 +95,6 @@ report-length ident sized S d few bounded =
     sizes : Sized (settled ident S)
     sizes =
         record {
-          id-sized = λ r m. ap length (D .has-id r m) ∙ sized (r .update);
           bounded = λ r m. bounded (r .update) (D .of-set r m);
           entry-row = λ r m. entry-right ident S (settled ident S) d D r m .0;
           entry-insert = λ r m. ap isInsert (entry-right ident S (settled ident S) d D r m .2 .is-insert);

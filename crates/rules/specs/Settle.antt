@@ -1,5 +1,5 @@
 -- The rules as they are computed: rounds over a table of verdicts that judge again what waits, and the read-offs from the settled table. The
--- theorems of `Settling` and `ReadOffLaws` say that these are the standings and read-offs of `Standing` and `ReadOff`.
+-- theorem of `PartsLaws` says that the parts so computed are those of `Standing` and `ReadOff`.
 -- Assumes nothing.
 use Prim.Native.Nat.{ℕ, zero, suc}
 use mathlib.Core.List.{List, [], _∷_, map, reverse}
@@ -11,6 +11,7 @@ use Rattle.keys.specs.Member.{member, keep, any, all, concatMap}
 use Rattle.keys.specs.Sort.{sort}
 use Rattle.format.specs.Update.{Id, Operation, Add, Remove, Insert, Delete, Update}
 use Rattle.rules.specs.Standing.{beginning}
+use Rattle.rules.specs.Parts.{Parts}
 
 pub data Verdict : Type 0 where
   held : Verdict
@@ -91,6 +92,10 @@ validOp T up (Remove t named) = all (λ (i : Id). member i up && addIn T t i) na
 validOp T up (Insert a v) = same a beginning || (member a up && insertIn T a)
 validOp T up (Delete i) = member i up && insertIn T i
 
+-- both, for an update with these ancestors
+unfoldable pub fineBy : Table → List Id → Update → Bool
+fineBy T up u = antichain T (u .preds) && validOp T up (u .op)
+
 -- a row that waits is judged by the table; a settled one stays
 
 unfoldable pub ruled : Verdict → List Id → Row → Row
@@ -101,7 +106,7 @@ judgeFine true up r = ruled held up r
 judgeFine false up r = ruled void [] r
 
 unfoldable pub judgeKnown : Table → Row → List Id → Row
-judgeKnown T r up = judgeFine (antichain T (r .update .preds) && validOp T up (r .update .op)) up r
+judgeKnown T r up = judgeFine (fineBy T up (r .update)) up r
 
 -- whether some predecessor is void, and whether all are held
 unfoldable pub judgeBy : Bool → Bool → Table → Row → Row
@@ -188,14 +193,18 @@ anchored p (Remove t named) = false
 anchored p (Insert a v) = p a
 anchored p (Delete i) = false
 
--- "Among siblings higher rank comes first, then the larger id.": what siblings are sorted by
+-- the rank, then the id
 abbrev pub rankKey : Row → List ℕ
 rankKey r = rank r ∷ r .id
+
+-- "Among siblings higher rank comes first, then the larger id.": what siblings are sorted by, read backwards
+abbrev pub siblingKey : Row → List ℕ
+siblingKey r = rankKey r
 
 -- the held Inserts whose anchor passes a test, higher rank first, then the larger id
 unfoldable pub siblings : Table → (Id → Bool) → Table
 siblings T p =
-    reverse (sort rankKey (keep (λ (r : Row). heldRow r && anchored p (r .update .op)) T))
+    reverse (sort siblingKey (keep (λ (r : Row). heldRow r && anchored p (r .update .op)) T))
 
 unfoldable pub under : Row → Id → Bool
 under e a = not (same a beginning) && same a (e .id)
@@ -225,3 +234,23 @@ valuesOf (Delete i) = []
 
 unfoldable pub list : Table → List (List ℕ)
 list T = concatMap (λ (r : Row). valuesOf (r .update .op)) (keep (λ (r : Row). not (deleted T (r .id))) (entries T))
+
+-- the parts of the report
+
+abbrev pub updatesIn : Table → List Update
+updatesIn T = map (λ (r : Row). r .update) T
+
+unfoldable pub partsIn : Table → Parts
+partsIn T =
+    record {
+      held = updatesIn (keep (λ (r : Row). isHeld (r .verdict)) T);
+      heads = updatesIn (heads T);
+      waiting = updatesIn (keep (λ (r : Row). isWaiting (r .verdict)) T);
+      void = updatesIn (keep (λ (r : Row). isVoid (r .verdict)) T);
+      marks = marks T;
+      set = tags T;
+      list = list T;
+    }
+
+unfoldable pub partsOf : (Update → Id) → List Update → Parts
+partsOf ident S = partsIn (settled ident S)

@@ -16,7 +16,7 @@ use Rattle.keys.specs.DistinctLaws.{distinct-eq, distinct-keep, distinct-keys, 
 use Rattle.format.specs.Update.{Id, Operation, Add, Remove, Insert, Delete, Update}
 use Rattle.rules.specs.Standing.{beginning, Ancestor, InsertAncestor, Valid, Known, Fine, Held, Void}
 use Rattle.rules.specs.Settle.{Verdict, held, waiting, void, Row, Table, isHeld, isWaiting, isVoid, isAdd, isInsert, heldIn, voidIn}
-use Rattle.rules.specs.Settle.{addIn, insertIn, aboveIn, ancestorsOf, antichain, validOp, ruled, judgeFine, judgeKnown, judgeBy, judgeFrom, judge, round}
+use Rattle.rules.specs.Settle.{addIn, insertIn, aboveIn, ancestorsOf, antichain, validOp, fineBy, ruled, judgeFine, judgeKnown, judgeBy, judgeFrom, judge, round}
 use Rattle.rules.specs.LeastSets.{ancestor-stored, ancestor-cases}
 
 module _ (ident : Update → Id) (S : List Update) where
@@ -54,7 +54,13 @@ isHeld→ held e = refl
 isHeld→ waiting e = absurd (false≢true e)
 isHeld→ void e = absurd (false≢true e)
 
-isVoid→ : (v : Verdict) → isVoid v ≡ true → v ≡ void
+pub isWaiting→ : (v : Verdict) → isWaiting v ≡ true → v ≡ waiting
+unfolding isWaiting
+isWaiting→ held e = absurd (false≢true e)
+isWaiting→ waiting e = refl
+isWaiting→ void e = absurd (false≢true e)
+
+pub isVoid→ : (v : Verdict) → isVoid v ≡ true → v ≡ void
 unfolding isVoid
 isVoid→ held e = absurd (false≢true e)
 isVoid→ waiting e = absurd (false≢true e)
@@ -137,7 +143,7 @@ judge-outcome T r = from (r .verdict) refl
         → Outcome T r (judgeBy b h T r)
     by true h p q e = rules e void [] refl refl
     by false true p q e =
-        fine (antichain T (r .update .preds) && validOp T (ancestorsOf T (r .update)) (r .update .op)) (ancestorsOf T (r .update)) e
+        fine (fineBy T (ancestorsOf T (r .update)) (r .update)) (ancestorsOf T (r .update)) e
     by false false p q e = stays refl (λ w. (p, q))
 
     from : (v : Verdict) → r .verdict ≡ v → Outcome T r (judgeFrom v T r)
@@ -321,17 +327,14 @@ module _ {ident : Update → Id} {S : List Update} {T : Table} (sound : SoundTab
     →valid (Delete i) v = →insert v
 
     -- both conditions
-    fine : Bool
-    fine = antichain T (u .preds) && validOp T (ancestorsOf T u) (u .op)
-
-    fine→ : fine ≡ true → Fine ident S u
-    unfolding fine Antichain
+    fine→ : fineBy T (ancestorsOf T u) u ≡ true → Fine ident S u
+    unfolding fineBy Antichain
     fine→ e =
         let h = and-true→ (antichain T (u .preds)) (validOp T (ancestorsOf T u) (u .op)) e in
         record { antichain = antichain→ (h .0); valid = valid→ (u .op) (h .1) }
 
-    →fine : Fine ident S u → fine ≡ true
-    unfolding fine Antichain
+    →fine : Fine ident S u → fineBy T (ancestorsOf T u) u ≡ true
+    unfolding fineBy Antichain
     →fine f =
         and-true (antichain T (u .preds)) (validOp T (ancestorsOf T u) (u .op)) (→antichain (f .antichain)) (→valid (u .op) (f .valid))
 
@@ -341,10 +344,10 @@ module _ {ident : Update → Id} {S : List Update} {T : Table} (sound : SoundTab
   ruled-sound s v up h = record { of-set = s .of-set; has-id = s .has-id; right = h }
 
   known-sound : {r : Row} → SoundRow ident S r → Ready T (r .update) → SoundRow ident S (judgeKnown T r (ancestorsOf T (r .update)))
-  unfolding judgeKnown judgeFine fine
-  known-sound {r} s ready = step (fine ready) refl
+  unfolding judgeKnown judgeFine
+  known-sound {r} s ready = step (fineBy T (ancestorsOf T (r .update)) (r .update)) refl
     where
-      step : (b : Bool) → fine ready ≡ b → SoundRow ident S (judgeFine b (ancestorsOf T (r .update)) r)
+      step : (b : Bool) → fineBy T (ancestorsOf T (r .update)) (r .update) ≡ b → SoundRow ident S (judgeFine b (ancestorsOf T (r .update)) r)
       step true e =
           ruled-sound s held (ancestorsOf T (r .update))
           (Held.held (s .of-set) (preds-known ready) (preds-held ready) (fine→ ready e), ancestors-right ready)

@@ -1,4 +1,5 @@
--- Document 01, "Sixteen small ledgers": the rules computed on small sets, with short stand-in ids, as a table that one theorem covers.
+-- Document 01, "Sixteen small ledgers": small sets with short stand-in ids, as a table, and the rules computed on it. The theorem that covers the table is
+-- `small-ledgers` of `SmallLaws`.
 --
 -- The stand-in ids are chosen so that the careless rules of "Where a careful hand goes wrong" fail here:
 --   a Remove judged by the whole set: 10 (it would be held, and remove a);
@@ -11,13 +12,14 @@
 use Prim.Native.Nat.{ℕ}
 use mathlib.Core.Path.{_≡_, refl}
 use mathlib.Core.List.{List, [], _∷_, map, _++_}
-use mathlib.Core.Bool.{cond}
+use mathlib.Core.Bool.{Bool, true, cond, not, _&&_}
 use Rattle.keys.specs.Order.{same, before}
 use Rattle.keys.specs.Member.{member, keep, any, all, concatMap}
 use Rattle.keys.specs.Sort.{insert, sort}
 use Rattle.format.specs.Update.{Id, Operation, Add, Remove, Insert, Delete, Update, encode, encodeOperation}
 use Rattle.rules.specs.Standing.{beginning}
-use Rattle.rules.specs.Settle.{Row, Table, isHeld, isWaiting, isVoid, isAdd, isInsert, heldIn, voidIn, addIn, insertIn, aboveIn, ancestorsOf, antichain, validOp, ruled, judgeFine, judgeKnown, judgeBy, judgeFrom, judge, round, rounds, start, startAll, settled, heldRow, covered, heads, forkedBy, marks, names, removed, tagsOf, tags, rank, anchored, siblings, under, walk, entries, deletes, deleted, valuesOf, list}
+use Rattle.rules.specs.Parts.{Parts}
+use Rattle.rules.specs.Settle.{isHeld, isWaiting, isVoid, isAdd, isInsert, heldIn, voidIn, addIn, insertIn, aboveIn, ancestorsOf, antichain, validOp, fineBy, ruled, judgeFine, judgeKnown, judgeBy, judgeFrom, judge, round, rounds, start, startAll, settled, heldRow, covered, heads, forkedBy, marks, names, removed, tagsOf, tags, rank, anchored, siblings, under, walk, entries, deletes, deleted, valuesOf, list, partsIn, partsOf}
 
 -- an update with its stand-in id
 pub record Named : Type 0 where
@@ -32,37 +34,13 @@ nameIn (n ∷ ns) u = cond (same (encode (n .update)) (encode u)) (n .name) (nam
 unfoldable pub by : Id → ℕ → List Id → Operation → Named
 by i a ps o = record { name = i; update = record { author = a; preds = ps; op = o } }
 
--- what the rules give: ids, authors, tags, values
-pub record Outcome : Type 0 where
-  pub held-ids : List Id
-  pub head-ids : List Id
-  pub waiting-ids : List Id
-  pub void-ids : List Id
-  pub marked : List ℕ
-  pub in-set : List (List ℕ)
-  pub in-list : List (List ℕ)
+abbrev pub updatesOf : List Named → List Update
+updatesOf ns = map (λ (n : Named). n .update) ns
 
-unfoldable pub idsOf : Table → List Id
-idsOf T = map (λ (r : Row). r .id) T
-
-unfoldable pub read : Table → Outcome
-read T =
-    record {
-      held-ids = idsOf (keep (λ (r : Row). isHeld (r .verdict)) T);
-      head-ids = idsOf (heads T);
-      waiting-ids = idsOf (keep (λ (r : Row). isWaiting (r .verdict)) T);
-      void-ids = idsOf (keep (λ (r : Row). isVoid (r .verdict)) T);
-      marked = marks T;
-      in-set = tags T;
-      in-list = list T;
-    }
-
-unfoldable pub outcome : List Named → Outcome
-outcome ns = read (settled (nameIn ns) (map (λ (n : Named). n .update) ns))
-
-unfoldable pub expect : List Id → List Id → List Id → List Id → List ℕ → List (List ℕ) → List (List ℕ) → Outcome
+-- the parts that document 01 gives
+unfoldable pub expect : List Named → List Named → List Named → List Named → List ℕ → List (List ℕ) → List (List ℕ) → Parts
 expect h t w v m s l =
-    record { held-ids = h; head-ids = t; waiting-ids = w; void-ids = v; marked = m; in-set = s; in-list = l }
+    record { held = updatesOf h; heads = updatesOf t; waiting = updatesOf w; void = updatesOf v; marks = m; set = s; list = l }
 
 -- the stand-in ids, tags and values
 abbrev pub #a : List ℕ
@@ -268,7 +246,14 @@ k = by #k 3 (#p ∷ []) (Insert beginning Y)
 
 pub record Small : Type 0 where
   pub updates : List Named
-  pub gives : Outcome
+  pub gives : Parts
+
+-- its id function and its set
+abbrev pub identOf : Small → Update → Id
+identOf c = nameIn (c .updates)
+
+abbrev pub setOf : Small → List Update
+setOf c = updatesOf (c .updates)
 
 -- the sixteen of document 01, in its words
 unfoldable pub sixteen : List Small
@@ -276,56 +261,68 @@ sixteen =
     -- 1. Nothing: all parts empty.
     record { updates = []; gives = expect [] [] [] [] [] [] [] }
     -- 2. a: held, head a.
-    ∷ record { updates = (a ∷ []); gives = expect (#a ∷ []) (#a ∷ []) [] [] [] (t ∷ []) [] }
+    ∷ record { updates = (a ∷ []); gives = expect (a ∷ []) (a ∷ []) [] [] [] (t ∷ []) [] }
     -- 3. b only: waiting.
-    ∷ record { updates = (b ∷ []); gives = expect [] [] (#b ∷ []) [] [] [] [] }
+    ∷ record { updates = (b ∷ []); gives = expect [] [] (b ∷ []) [] [] [] [] }
     -- 4. b, then a: both held, head b.
-    ∷ record { updates = (b ∷ a ∷ []); gives = expect (#b ∷ #a ∷ []) (#b ∷ []) [] [] [] (t ∷ t′ ∷ []) [] }
+    ∷ record { updates = (b ∷ a ∷ []); gives = expect (b ∷ a ∷ []) (b ∷ []) [] [] [] (t ∷ t′ ∷ []) [] }
     -- 5. a and another root by 1: mark 1.
-    ∷ record { updates = (a ∷ a′ ∷ []); gives = expect (#a′ ∷ #a ∷ []) (#a′ ∷ #a ∷ []) [] [] (1 ∷ []) (t ∷ t′ ∷ []) [] }
+    ∷ record { updates = (a ∷ a′ ∷ []); gives = expect (a′ ∷ a ∷ []) (a′ ∷ a ∷ []) [] [] (1 ∷ []) (t ∷ t′ ∷ []) [] }
     -- 6. a, b: no mark.
-    ∷ record { updates = (a ∷ b ∷ []); gives = expect (#b ∷ #a ∷ []) (#b ∷ []) [] [] [] (t ∷ t′ ∷ []) [] }
+    ∷ record { updates = (a ∷ b ∷ []); gives = expect (b ∷ a ∷ []) (b ∷ []) [] [] [] (t ∷ t′ ∷ []) [] }
     -- 7. a, b, then d after {a, b}: d void.
-    ∷ record { updates = (a ∷ b ∷ d ∷ []); gives = expect (#b ∷ #a ∷ []) (#b ∷ []) [] (#d ∷ []) [] (t ∷ t′ ∷ []) [] }
+    ∷ record { updates = (a ∷ b ∷ d ∷ []); gives = expect (b ∷ a ∷ []) (b ∷ []) [] (d ∷ []) [] (t ∷ t′ ∷ []) [] }
     -- 8. e after d: void.
-    ∷ record { updates = (a ∷ b ∷ d ∷ e ∷ []); gives = expect (#b ∷ #a ∷ []) (#b ∷ []) [] (#e ∷ #d ∷ []) [] (t ∷ t′ ∷ []) [] }
+    ∷ record { updates = (a ∷ b ∷ d ∷ e ∷ []); gives = expect (b ∷ a ∷ []) (b ∷ []) [] (e ∷ d ∷ []) [] (t ∷ t′ ∷ []) [] }
     -- 9. e after d and a missing id: void.
-    ∷ record { updates = (a ∷ b ∷ d ∷ e′ ∷ []); gives = expect (#b ∷ #a ∷ []) (#b ∷ []) [] (#e′ ∷ #d ∷ []) [] (t ∷ t′ ∷ []) [] }
+    ∷ record { updates = (a ∷ b ∷ d ∷ e′ ∷ []); gives = expect (b ∷ a ∷ []) (b ∷ []) [] (e′ ∷ d ∷ []) [] (t ∷ t′ ∷ []) [] }
     -- 10. a, and a root Remove of t naming a: void.
-    ∷ record { updates = (a ∷ r ∷ []); gives = expect (#a ∷ []) (#a ∷ []) [] (#r ∷ []) [] (t ∷ []) [] }
+    ∷ record { updates = (a ∷ r ∷ []); gives = expect (a ∷ []) (a ∷ []) [] (r ∷ []) [] (t ∷ []) [] }
     -- 11. The same after a: set empty.
-    ∷ record { updates = (a ∷ r′ ∷ []); gives = expect (#a ∷ #r′ ∷ []) (#r′ ∷ []) [] [] [] [] [] }
+    ∷ record { updates = (a ∷ r′ ∷ []); gives = expect (a ∷ r′ ∷ []) (r′ ∷ []) [] [] [] [] [] }
     -- 12. 11 with another Add of t: t present.
-    ∷ record { updates = (a ∷ r′ ∷ c ∷ []); gives = expect (#c ∷ #a ∷ #r′ ∷ []) (#c ∷ #r′ ∷ []) [] [] [] (t ∷ []) [] }
+    ∷ record { updates = (a ∷ r′ ∷ c ∷ []); gives = expect (c ∷ a ∷ r′ ∷ []) (c ∷ r′ ∷ []) [] [] [] (t ∷ []) [] }
     -- 13. Insert p at the beginning, q there after p: list q, p.
-    ∷ record { updates = (p ∷ q ∷ []); gives = expect (#q ∷ #p ∷ []) (#q ∷ []) [] [] [] [] (Q ∷ P ∷ []) }
+    ∷ record { updates = (p ∷ q ∷ []); gives = expect (q ∷ p ∷ []) (q ∷ []) [] [] [] [] (Q ∷ P ∷ []) }
     -- 14. p, q two roots at the beginning, id p under id q: list q, p.
-    ∷ record { updates = (p ∷ q′ ∷ []); gives = expect (#p ∷ #q′ ∷ []) (#p ∷ #q′ ∷ []) [] [] [] [] (Q ∷ P ∷ []) }
+    ∷ record { updates = (p ∷ q′ ∷ []); gives = expect (p ∷ q′ ∷ []) (p ∷ q′ ∷ []) [] [] [] [] (Q ∷ P ∷ []) }
     -- 15. p, r anchored at p, p deleted: list r.
-    ∷ record { updates = (p ∷ i ∷ x ∷ []); gives = expect (#p ∷ #i ∷ #x ∷ []) (#i ∷ #x ∷ []) [] [] [] [] (R ∷ []) }
+    ∷ record { updates = (p ∷ i ∷ x ∷ []); gives = expect (p ∷ i ∷ x ∷ []) (i ∷ x ∷ []) [] [] [] [] (R ∷ []) }
     -- 16. Remove with m = 0: held.
-    ∷ record { updates = (m ∷ []); gives = expect (#m ∷ []) (#m ∷ []) [] [] [] [] [] }
+    ∷ record { updates = (m ∷ []); gives = expect (m ∷ []) (m ∷ []) [] [] [] [] [] }
     ∷ []
 
 -- what the sixteen do not reach
 unfoldable pub further : List Small
 further =
     -- a cycle of two: both wait
-    record { updates = (f ∷ g ∷ []); gives = expect [] [] (#f ∷ #g ∷ []) [] [] [] [] }
+    record { updates = (f ∷ g ∷ []); gives = expect [] [] (f ∷ g ∷ []) [] [] [] [] }
     -- `waits`: author 1 has a held and a waiting update, and no mark
-    ∷ record { updates = (a ∷ w ∷ []); gives = expect (#a ∷ []) (#a ∷ []) (#w ∷ []) [] [] (t ∷ []) [] }
+    ∷ record { updates = (a ∷ w ∷ []); gives = expect (a ∷ []) (a ∷ []) (w ∷ []) [] [] (t ∷ []) [] }
     -- an Insert whose id is zero: nothing hangs under it, and the walk ends
-    ∷ record { updates = (z ∷ y ∷ []); gives = expect (beginning ∷ #y ∷ []) (#y ∷ []) [] [] [] [] (Y ∷ Z ∷ []) }
+    ∷ record { updates = (z ∷ y ∷ []); gives = expect (z ∷ y ∷ []) (y ∷ []) [] [] [] [] (Y ∷ Z ∷ []) }
     -- an Insert under a deleted Insert stays; deleting twice is valid
-    ∷ record { updates = (p ∷ x ∷ i′ ∷ x′ ∷ []); gives = expect (#p ∷ #x ∷ #i′ ∷ #x′ ∷ []) (#i′ ∷ #x′ ∷ []) [] [] [] [] (R ∷ []) }
+    ∷ record { updates = (p ∷ x ∷ i′ ∷ x′ ∷ []); gives = expect (p ∷ x ∷ i′ ∷ x′ ∷ []) (i′ ∷ x′ ∷ []) [] [] [] [] (R ∷ []) }
     -- all that hangs under an entry comes before its next sibling
-    ∷ record { updates = (p ∷ k ∷ q′ ∷ i ∷ []); gives = expect (#p ∷ #q′ ∷ #i ∷ #k ∷ []) (#q′ ∷ #i ∷ #k ∷ []) [] [] [] [] (Y ∷ Q ∷ P ∷ R ∷ []) }
+    ∷ record { updates = (p ∷ k ∷ q′ ∷ i ∷ []); gives = expect (p ∷ q′ ∷ i ∷ k ∷ []) (q′ ∷ i ∷ k ∷ []) [] [] [] [] (Y ∷ Q ∷ P ∷ R ∷ []) }
     -- a Remove that names an Add of another tag is void
-    ∷ record { updates = (a ∷ v ∷ []); gives = expect (#a ∷ []) (#a ∷ []) [] (#v ∷ []) [] (t ∷ []) [] }
+    ∷ record { updates = (a ∷ v ∷ []); gives = expect (a ∷ []) (a ∷ []) [] (v ∷ []) [] (t ∷ []) [] }
     -- an Insert whose anchor is no ancestor is void
-    ∷ record { updates = (a ∷ p ∷ u ∷ []); gives = expect (#a ∷ #p ∷ []) (#a ∷ #p ∷ []) [] (#u ∷ []) (1 ∷ []) (t ∷ []) (P ∷ []) }
+    ∷ record { updates = (a ∷ p ∷ u ∷ []); gives = expect (a ∷ p ∷ []) (a ∷ p ∷ []) [] (u ∷ []) (1 ∷ []) (t ∷ []) (P ∷ []) }
     ∷ []
 
-pub small-ledgers : map (λ (c : Small). outcome (c .updates)) (sixteen ++ further) ≡ map (λ (c : Small). c .gives) (sixteen ++ further)
-unfolding sixteen further outcome expect read idsOf by nameIn encode encodeOperation same before member keep any all concatMap insert sort isHeld isWaiting isVoid isAdd isInsert heldIn voidIn addIn insertIn aboveIn ancestorsOf antichain validOp ruled judgeFine judgeKnown judgeBy judgeFrom judge round rounds start startAll settled heldRow covered heads forkedBy marks names removed tagsOf tags rank anchored siblings under walk entries deletes deleted valuesOf list a b a′ d e e′ r r′ c p q q′ i x m f g w z y i′ x′ v u k
-small-ledgers = refl
+abbrev pub table : List Small
+table = sixteen ++ further
+
+pub computed : map (λ (c : Small). partsOf (identOf c) (setOf c)) table ≡ map (λ (c : Small). c .gives) table
+unfolding sixteen further expect by nameIn encode encodeOperation same before member keep any all concatMap insert sort isHeld isWaiting isVoid isAdd isInsert heldIn voidIn addIn insertIn aboveIn ancestorsOf antichain validOp fineBy ruled judgeFine judgeKnown judgeBy judgeFrom judge round rounds start startAll settled heldRow covered heads forkedBy marks names removed tagsOf tags rank anchored siblings under walk entries deletes deleted valuesOf list partsIn partsOf a b a′ d e e′ r r′ c p q q′ i x m f g w z y i′ x′ v u k
+computed = refl
+
+-- no id stands twice
+unfoldable pub apart : List Id → Bool
+apart [] = true
+apart (i ∷ is) = not (member i is) && apart is
+
+pub ids-apart : all (λ (c : Small). apart (map (identOf c) (setOf c))) table ≡ true
+unfolding sixteen further by nameIn encode encodeOperation same member all concatMap apart a b a′ d e e′ r r′ c p q q′ i x m f g w z y i′ x′ v u k
+ids-apart = refl

@@ -9,10 +9,10 @@ use mathlib.Core.List.{List, [], _∷_, _++_, map, append-assoc, append-cancel-l
 use mathlib.Core.Bool.{Bool, true, false, cond}
 use lib.Dec.{ltb}
 use borrow.Author.Tests.{ltb-true}
-use Rattle.keys.specs.Member.{_∈_, keep, concatMap}
-use Rattle.keys.specs.MemberLaws.{∈-cases, append-∈, ∈-map, map-∈, ∈-keep, keep-∈}
-use Rattle.format.specs.Update.{Id}
-use Rattle.rules.specs.Settle.{Row, Table, Verdict, held, waiting, void, isHeld, isWaiting, isVoid}
+use Rattle.keys.specs.Member.{_∈_, concatMap}
+use Rattle.keys.specs.MemberLaws.{∈-cases, append-∈}
+use Rattle.format.specs.Update.{Id, Update}
+use Rattle.rules.specs.Parts.{Parts}
 use Rattle.rules.specs.Report.{codes, ascii, digit, hexByte, hex, decimalIn, decimal, updateLine, bytesLine, idLine, part, reportText}
 
 -- bytes that are digits or letters: above every bracket, space and newline
@@ -128,32 +128,33 @@ module _ {A : Type 0} {line key : A → List ℕ} (readable : Readable line key)
 
 -- the lines of the report that show an id
 
-update-line : (r : Row) (rest : List ℕ) → updateLine r ++ rest ≡ 40 ∷ (hex (r .id) ++ 32 ∷ (decimal (r .update .author) ++ 41 ∷ 10 ∷ rest))
+update-line : (ident : Update → Id) (u : Update) (rest : List ℕ)
+    → updateLine ident u ++ rest ≡ 40 ∷ (hex (ident u) ++ 32 ∷ (decimal (u .author) ++ 41 ∷ 10 ∷ rest))
 unfolding updateLine ascii codes
-update-line r rest =
+update-line ident u rest =
     ap {B = List ℕ} (λ l. 40 ∷ l)
-    (append-assoc (hex (r .id)) (32 ∷ (decimal (r .update .author) ++ 41 ∷ 10 ∷ [])) rest
-    ∙ ap {B = List ℕ} (λ l. hex (r .id) ++ 32 ∷ l) (append-assoc (decimal (r .update .author)) (41 ∷ 10 ∷ []) rest))
+    (append-assoc (hex (ident u)) (32 ∷ (decimal (u .author) ++ 41 ∷ 10 ∷ [])) rest
+    ∙ ap {B = List ℕ} (λ l. hex (ident u) ++ 32 ∷ l) (append-assoc (decimal (u .author)) (41 ∷ 10 ∷ []) rest))
 
 bytes-line : (bs rest : List ℕ) → bytesLine bs ++ rest ≡ 40 ∷ (hex bs ++ 41 ∷ 10 ∷ rest)
 unfolding bytesLine ascii codes
 bytes-line bs rest = ap {B = List ℕ} (λ l. 40 ∷ l) (append-assoc (hex bs) (41 ∷ 10 ∷ []) rest)
 
-update-readable : Readable updateLine (λ (r : Row). r .id)
+update-readable : (ident : Update → Id) → Readable (updateLine ident) ident
 unfolding updateLine ascii codes
-update-readable =
+update-readable ident =
     record {
-      opens = λ r. (hex (r .id) ++ (ascii " " ++ (decimal (r .update .author) ++ ascii ")\n")), refl);
-      reads = λ x y r r′ e. reads x y r r′ (tail-eq-of-cons-eq (sym (update-line x r) ∙ e ∙ update-line y r′));
+      opens = λ u. (hex (ident u) ++ (ascii " " ++ (decimal (u .author) ++ ascii ")\n")), refl);
+      reads = λ x y r r′ e. reads x y r r′ (tail-eq-of-cons-eq (sym (update-line ident x r) ∙ e ∙ update-line ident y r′));
     }
   where
-    reads : (x y : Row) (r r′ : List ℕ)
-        → hex (x .id) ++ 32 ∷ (decimal (x .update .author) ++ 41 ∷ 10 ∷ r) ≡ hex (y .id) ++ 32 ∷ (decimal (y .update .author) ++ 41 ∷ 10 ∷ r′)
-        → (x .id ≡ y .id) × (r ≡ r′)
+    reads : (x y : Update) (r r′ : List ℕ)
+        → hex (ident x) ++ 32 ∷ (decimal (x .author) ++ 41 ∷ 10 ∷ r) ≡ hex (ident y) ++ 32 ∷ (decimal (y .author) ++ 41 ∷ 10 ∷ r′)
+        → (ident x ≡ ident y) × (r ≡ r′)
     reads x y r r′ e =
-        let h = cut (hex (x .id)) (hex (y .id)) (hex-digits (x .id)) (hex-digits (y .id)) (omega arith) (omega arith) e in
-        let k = cut _ _ (decimal-digits (x .update .author)) (decimal-digits (y .update .author)) (omega arith) (omega arith) (h .1) in
-        (hex-injective (x .id) (y .id) (h .0), tail-eq-of-cons-eq (k .1))
+        let h = cut (hex (ident x)) (hex (ident y)) (hex-digits (ident x)) (hex-digits (ident y)) (omega arith) (omega arith) e in
+        let k = cut _ _ (decimal-digits (x .author)) (decimal-digits (y .author)) (omega arith) (omega arith) (h .1) in
+        (hex-injective (ident x) (ident y) (h .0), tail-eq-of-cons-eq (k .1))
 
 pub bytes-readable : Readable bytesLine (λ (bs : List ℕ). bs)
 unfolding bytesLine ascii codes
@@ -168,45 +169,21 @@ bytes-readable =
         let h = cut (hex x) (hex y) (hex-digits x) (hex-digits y) (omega arith) (omega arith) e in
         (hex-injective x y (h .0), tail-eq-of-cons-eq (h .1))
 
-id-readable : Readable idLine (λ (r : Row). r .id)
+id-readable : (ident : Update → Id) → Readable (idLine ident) ident
 unfolding idLine
-id-readable = record { opens = λ r. bytes-readable .opens (r .id); reads = λ x y. bytes-readable .reads (x .id) (y .id) }
+id-readable ident = record { opens = λ u. bytes-readable .opens (ident u); reads = λ x y. bytes-readable .reads (ident x) (ident y) }
 
--- the rows of a table whose verdict passes a test, by their ids
-abbrev ids : (Verdict → Bool) → Table → List Id
-ids p T = map (λ (r : Row). r .id) (keep (λ (r : Row). p (r .verdict)) T)
+-- equal texts show the same ids, part by part
+pub record SameIds (ident : Update → Id) (P Q : Parts) : Type 0 where
+  pub held-ids : map ident (P .held) ≡ map ident (Q .held)
+  pub waiting-ids : map ident (P .waiting) ≡ map ident (Q .waiting)
+  pub void-ids : map ident (P .void) ≡ map ident (Q .void)
 
--- what equal texts show
-record SameIds (T T′ : Table) : Type 0 where
-  held-ids : ids isHeld T ≡ ids isHeld T′
-  waiting-ids : ids isWaiting T ≡ ids isWaiting T′
-  void-ids : ids isVoid T ≡ ids isVoid T′
-
-text-ids : (T T′ : Table) → reportText T ≡ reportText T′ → SameIds T T′
+pub text-ids : (ident : Update → Id) (P Q : Parts) → reportText ident P ≡ reportText ident Q → SameIds ident P Q
 unfolding reportText
-text-ids T T′ e =
-    let h = part-reads update-readable "(held\n" _ _ _ _ (append-cancel-left (ascii "(ledger 1\n") _ _ e) in
-    let t = part-reads id-readable "(heads\n" _ _ _ _ (h .1) in
-    let w = part-reads update-readable "(waiting\n" _ _ _ _ (t .1) in
-    let v = part-reads update-readable "(void\n" _ _ _ _ (w .1) in
+text-ids ident P Q e =
+    let h = part-reads (update-readable ident) "(held\n" _ _ _ _ (append-cancel-left (ascii "(ledger 1\n") _ _ e) in
+    let t = part-reads (id-readable ident) "(heads\n" _ _ _ _ (h .1) in
+    let w = part-reads (update-readable ident) "(waiting\n" _ _ _ _ (t .1) in
+    let v = part-reads (update-readable ident) "(void\n" _ _ _ _ (w .1) in
     record { held-ids = h .0; waiting-ids = w .0; void-ids = v .0 }
-
--- a row is shown in the part of its verdict
-shown : (p : Verdict → Bool) (T T′ : Table) → ids p T ≡ ids p T′ → (r : Row) → r ∈ T → p (r .verdict) ≡ true → (q : Row) × (q ∈ T′) × (q .id ≡ r .id)
-shown p T T′ e r m h =
-    let k : r .id ∈ ids p T′ = subst (λ (l : List Id). r .id ∈ l) e (∈-map (λ (q : Row). q .id) (∈-keep (λ (q : Row). p (q .verdict)) m h)) in
-    let f = map-∈ (λ (q : Row). q .id) (keep (λ (q : Row). p (q .verdict)) T′) k in
-    (f .0, keep-∈ (λ (q : Row). p (q .verdict)) T′ (f .1) .0, f .2)
-
--- equal texts show the same ids
-pub text-shows : (T T′ : Table) → reportText T ≡ reportText T′ → (r : Row) → r ∈ T → (q : Row) × (q ∈ T′) × (q .id ≡ r .id)
-unfolding isHeld isWaiting isVoid
-text-shows T T′ e r m = step (r .verdict) refl
-  where
-    same : SameIds T T′
-    same = text-ids T T′ e
-
-    step : (v : Verdict) → r .verdict ≡ v → (q : Row) × (q ∈ T′) × (q .id ≡ r .id)
-    step held p = shown isHeld T T′ (same .held-ids) r m (ap isHeld p)
-    step waiting p = shown isWaiting T T′ (same .waiting-ids) r m (ap isWaiting p)
-    step void p = shown isVoid T T′ (same .void-ids) r m (ap isVoid p)

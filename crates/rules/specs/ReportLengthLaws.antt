@@ -7,8 +7,8 @@ use native.Mathlib.Omega.{arith}
 use mathlib.Core.Path.{_≡_, refl, _∙_, ap, subst}
 use mathlib.Core.Logic.{⊎-elim}
 use mathlib.Core.List.{List, [], _∷_, _++_, List·Memᴰ·head, List·Memᴰ·tail, List·Memᴰ·not-nil}
-use mathlib.Core.Bool.{Bool, true, false, cond, not}
-use lib.ListN.{length, length-append}
+use mathlib.Core.Bool.{Bool, true, false, cond}
+use lib.ListN.{length, length-append, length-map}
 use lib.Dec.{ltb}
 use borrow.Author.Tests.{lt-ltb}
 use Rattle.keys.specs.Member.{_∈_, keep, concatMap}
@@ -16,9 +16,9 @@ use Rattle.keys.specs.MemberLaws.{∈-singleton, map-∈, ∈-keep, keep-∈, k
 use Rattle.keys.specs.Distinct.{Distinct}
 use Rattle.keys.specs.DistinctLaws.{distinct-length, distinct-subset-length}
 use Rattle.keys.specs.SortLaws.{sort-∈, sort-length, sort-distinct}
-use Rattle.format.specs.Update.{idLength, tagLength, maxAuthor, Operation, Add, Remove, Insert, Delete, BoundedOperation, add, remove, insert, delete, Bounded}
+use Rattle.format.specs.Update.{Id, idLength, tagLength, maxAuthor, Operation, Add, Remove, Insert, Delete, BoundedOperation, add, remove, insert, delete, Update, Bounded}
 use Rattle.keys.specs.ListLaws.{concatMap-length, keep-concatMap-length}
-use Rattle.rules.specs.Settle.{Row, Table, Verdict, held, waiting, void, isHeld, isWaiting, isVoid, isInsert, heads, marks, tagsOf, tags, entries, deleted, valuesOf, list}
+use Rattle.rules.specs.Settle.{Row, Table, Verdict, held, waiting, void, isHeld, isWaiting, isVoid, isInsert, heads, marks, tagsOf, tags, entries, valuesOf, list, updatesIn, partsIn}
 use Rattle.rules.specs.Report.{codes, ascii, digit, hexByte, hex, decimalIn, decimal, updateLine, bytesLine, idLine, markLine, part, reportText}
 
 -- lines
@@ -57,13 +57,13 @@ bytes-line-length bs =
     let e = length-append (hex bs) (ascii ")\n") in
     omega arith
 
-update-line-length : (r : Row) → length (r .id) ≡ idLength → r .update .author ≤ maxAuthor → length (updateLine r) ≤ 70
+update-line-length : (ident : Update → Id) (u : Update) → length (ident u) ≡ idLength → u .author ≤ maxAuthor → length (updateLine ident u) ≤ 70
 unfolding updateLine ascii codes
-update-line-length r h a =
-    let d : length (decimal (r .update .author)) ≤ 2 = decimal-length (r .update .author) (omega arith) in
-    let x = hex-length (r .id) in
-    let e = length-append (decimal (r .update .author)) (ascii ")\n") in
-    let f = length-append (hex (r .id)) (ascii " " ++ (decimal (r .update .author) ++ ascii ")\n")) in
+update-line-length ident u h a =
+    let d : length (decimal (u .author)) ≤ 2 = decimal-length (u .author) (omega arith) in
+    let x = hex-length (ident u) in
+    let e = length-append (decimal (u .author)) (ascii ")\n") in
+    let f = length-append (hex (ident u)) (ascii " " ++ (decimal (u .author) ++ ascii ")\n")) in
     omega arith
 
 -- at most n bytes
@@ -154,24 +154,30 @@ short-lines ts h = concatMap-length bytesLine 35 ts (λ t m. line t (h t m))
 
 -- a table of bounded updates, whose entries are Inserts of its own, each once
 pub record Sized (T : Table) : Type 0 where
-  pub id-sized : (r : Row) → r ∈ T → length (r .id) ≡ idLength
   pub bounded : (r : Row) → r ∈ T → Bounded (r .update)
   pub entry-row : (r : Row) → r ∈ entries T → r ∈ T
   pub entry-insert : (r : Row) → r ∈ entries T → isInsert (r .update .op) ≡ true
   pub entry-once : Distinct (λ (r : Row). r .id) (entries T)
 
-module _ (T : Table) (sized : Sized T) where
-  updates-length : (p : Row → Bool) → length (concatMap updateLine (keep p T)) ≤ 70 * length (keep p T)
+module _ (ident : Update → Id) (id-sized : (u : Update) → length (ident u) ≡ idLength) (T : Table) (sized : Sized T) where
+  updates-length : (p : Row → Bool) → length (concatMap (updateLine ident) (updatesIn (keep p T))) ≤ 70 * length (keep p T)
   updates-length p =
-      concatMap-length updateLine 70 (keep p T)
-      (λ r m. let k : r ∈ T = keep-∈ p T m .0 in update-line-length r (sized .id-sized r k) (sized .bounded r k .author-small))
-
-  heads-length : length (concatMap idLine (heads T)) ≤ 67 * length (heads T)
-  unfolding heads idLine
-  heads-length = concatMap-length idLine 67 (heads T) (λ r m. line r (sized .id-sized r (keep-∈ _ T m .0)))
+      rw (← length-map (keep p T) (λ (r : Row). r .update))
+      (concatMap-length (updateLine ident) 70 (updatesIn (keep p T))
+      (λ u m. update-line-length ident u (id-sized u) (kept-bounded u m .author-small)))
     where
-      line : (r : Row) → length (r .id) ≡ idLength → length (bytesLine (r .id)) ≤ 67
-      line r h = let e = bytes-line-length (r .id) in omega arith
+      kept-bounded : (u : Update) → u ∈ updatesIn (keep p T) → Bounded u
+      kept-bounded u m =
+          let f = map-∈ (λ (r : Row). r .update) (keep p T) m in
+          subst Bounded (f .2) (sized .bounded (f .0) (keep-∈ p T (f .1) .0))
+
+  heads-length : length (concatMap (idLine ident) (updatesIn (heads T))) ≤ 67 * length (heads T)
+  unfolding idLine
+  heads-length =
+      rw (← length-map (heads T) (λ (r : Row). r .update)) (concatMap-length (idLine ident) 67 (updatesIn (heads T)) (λ u m. line u (id-sized u)))
+    where
+      line : (u : Update) → length (ident u) ≡ idLength → length (bytesLine (ident u)) ≤ 67
+      line u h = let e = bytes-line-length (ident u) in omega arith
 
   heads-few : length (heads T) ≤ length T
   unfolding heads
@@ -225,22 +231,22 @@ module _ (T : Table) (sized : Sized T) where
   list-few : length (list T) ≤ length (keep insertRow T)
   unfolding list insertRow
   list-few =
-      let h = keep-concatMap-length (λ (r : Row). valuesOf (r .update .op)) (λ r. not (deleted T (r .id))) (entries T) in
+      let h : length (list T) ≤ length (concatMap (λ (r : Row). valuesOf (r .update .op)) (entries T)) = keep-concatMap-length (λ (r : Row). valuesOf (r .update .op)) _ (entries T) in
       let k = concatMap-length (λ (r : Row). valuesOf (r .update .op)) 1 (entries T) (λ r m. values-few (r .update .op)) in
       let d = distinct-subset-length (sized .entry-once) (keep insertRow T) (λ r m. ∈-keep insertRow (sized .entry-row r m) (sized .entry-insert r m)) in
       omega arith
 
   -- all of the text: of a row at most 70 bytes by its verdict, 67 as a head and 35 as an Add or an Insert
-  pub text-length : length (reportText T) ≤ 152 + 172 * length T
-  unfolding reportText ascii codes
+  pub text-length : length (reportText ident (partsIn T)) ≤ 152 + 172 * length T
+  unfolding reportText partsIn ascii codes
   text-length =
       let l = part-short "(list\n" bytesLine (list T) refl list-length end in
       let s = part-short "(set\n" bytesLine (tags T) refl tags-length l in
       let m = part-short "(marks\n" markLine (marks T) refl marks-length s in
-      let v = part-short "(void\n" updateLine (keep (λ (r : Row). isVoid (r .verdict)) T) refl (updates-length (λ r. isVoid (r .verdict))) m in
-      let w = part-short "(waiting\n" updateLine (keep (λ (r : Row). isWaiting (r .verdict)) T) refl (updates-length (λ r. isWaiting (r .verdict))) v in
-      let t = part-short "(heads\n" idLine (heads T) refl heads-length w in
-      let h = part-short "(held\n" updateLine (keep (λ (r : Row). isHeld (r .verdict)) T) refl (updates-length (λ r. isHeld (r .verdict))) t in
+      let v = part-short "(void\n" (updateLine ident) (partsIn T .void) refl (updates-length (λ r. isVoid (r .verdict))) m in
+      let w = part-short "(waiting\n" (updateLine ident) (partsIn T .waiting) refl (updates-length (λ r. isWaiting (r .verdict))) v in
+      let t = part-short "(heads\n" (idLine ident) (partsIn T .heads) refl heads-length w in
+      let h = part-short "(held\n" (updateLine ident) (partsIn T .held) refl (updates-length (λ r. isHeld (r .verdict))) t in
       let all = h .short in
       let rows = by-verdict T in
       let tops = heads-few in

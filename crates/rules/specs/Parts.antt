@@ -1,0 +1,35 @@
+-- The parts of the report, and what it is for them to be those of a set of updates, by `Standing` and `ReadOff` alone.
+-- Assumes nothing.
+use Prim.Native.Nat.{ℕ}
+use mathlib.Core.List.{List, [], _∷_}
+use Rattle.keys.specs.Member.{_∈_}
+use Rattle.keys.specs.Ascending.{Ascending}
+use Rattle.format.specs.Update.{Id, Update}
+use Rattle.rules.specs.Standing.{Held, Void, Waiting}
+use Rattle.rules.specs.ReadOff.{Head, Marked, Present, Listed}
+
+-- updates, authors, tags and values
+pub record Parts : Type 0 where
+  pub held : List Update
+  pub heads : List Update
+  pub waiting : List Update
+  pub void : List Update
+  pub marks : List ℕ
+  pub set : List (List ℕ)
+  pub list : List (List ℕ)
+
+-- xs has only what is P, and all that is P; its keys are strictly ascending, so it has each once
+pub record Exactly {A : Type 0} (key : A → List ℕ) (P : A → Type 0) (xs : List A) : Type 0 where
+  pub right : (x : A) → x ∈ xs → P x
+  pub all : (x : A) → P x → x ∈ xs
+  pub ascending : Ascending key xs
+
+-- the parts are those that the rules give for the set S
+pub record ReadFrom (ident : Update → Id) (S : List Update) (parts : Parts) : Type 0 where
+  pub held : Exactly ident (Held ident S) (parts .held)
+  pub heads : Exactly ident (Head ident S) (parts .heads)
+  pub waiting : Exactly ident (Waiting ident S) (parts .waiting)
+  pub void : Exactly ident (Void ident S) (parts .void)
+  pub marks : Exactly (λ (a : ℕ). a ∷ []) (Marked ident S) (parts .marks)
+  pub set : Exactly (λ (t : List ℕ). t) (Present ident S) (parts .set)
+  pub list : Listed ident S (parts .list)

@@ -1,0 +1,119 @@
+-- For a set with distinct ids the parts of the report, as they are computed, are exactly those that `Standing` and `ReadOff` define, and only one choice of
+-- parts is.
+-- Assumes nothing.
+use Prim.Native.Nat.{ℕ}
+use mathlib.Core.Path.{_≡_, refl, sym, subst, subst₂}
+use mathlib.Core.List.{List, [], _∷_}
+use mathlib.Core.Bool.{Bool, true, not, _&&_}
+use Rattle.keys.specs.Order.{before}
+use Rattle.keys.specs.Member.{_∈_, keep}
+use Rattle.keys.specs.MemberLaws.{∈-cast, ∈-map, map-∈, ∈-keep, keep-∈}
+use Rattle.keys.specs.Distinct.{Distinct}
+use Rattle.keys.specs.Ascending.{Ascending}
+use Rattle.keys.specs.SortLaws.{ascending-distinct, ascending-keep, ascending-rekey, ascending-unique, sort-ascending}
+use Rattle.keys.specs.ListLaws.{ascending-map}
+use Rattle.format.specs.Update.{Id, Update}
+use Rattle.rules.specs.Standing.{Held, Void, Waiting}
+use Rattle.rules.specs.ReadOff.{Head, Marked, Present}
+use Rattle.rules.specs.Parts.{Parts, Exactly, ReadFrom}
+use Rattle.rules.specs.Settle.{Verdict, held, waiting, void, Row, Table, isHeld, isWaiting, isVoid, heldRow, covered, heads, marks, tags, updatesIn, partsIn, partsOf}
+use Rattle.rules.specs.Decides.{Decides}
+use Rattle.rules.specs.LeastSets.{Says}
+use Rattle.rules.specs.SettlingTable.{isHeld→, isWaiting→, isVoid→}
+use Rattle.rules.specs.Settling.{settled-decides, settled-ascending}
+use Rattle.rules.specs.TableLaws.{row-says, says-row}
+use Rattle.rules.specs.ReadOffLaws.{head-right, head-all, mark-right, mark-all, tag-right, tag-all, list-right, listed-unique}
+
+-- a part has each of its elements once, and its definition determines it
+module _ {A : Type 0} {key : A → List ℕ} {P : A → Type 0} where
+  pub exactly-once : {xs : List A} → Exactly key P xs → Distinct key xs
+  exactly-once e = ascending-distinct (e .ascending)
+
+  pub exactly-unique : {xs ys : List A} → Exactly key P xs → Exactly key P ys → xs ≡ ys
+  exactly-unique e f =
+      ascending-unique (e .ascending) (f .ascending)
+      (record { forth = λ x m. f .all x (e .right x m); back = λ x m. e .all x (f .right x m) })
+
+-- the parts of a table that decides its set
+module _ {ident : Update → Id} {S : List Update} {T : Table} (distinct : Distinct ident S) (decides : Decides ident S T) (ordered : Ascending (λ (r : Row). r .id) T) where
+  -- the updates of the rows that pass a test stand in the order of the rows
+  kept-ascending : (p : Row → Bool) → Ascending ident (updatesIn (keep p T))
+  kept-ascending p =
+      ascending-map ident (λ (r : Row). r .update)
+      (ascending-rekey (λ (r : Row). ident (r .update)) (ascending-keep p ordered)
+      (λ r q m k e. subst₂ (λ (i j : Id). before i j ≡ true) (decides .has-id r (keep-∈ p T m .0)) (decides .has-id q (keep-∈ p T k .0)) e)) (λ r. refl)
+
+  kept-exactly : (p : Row → Bool) (P : Update → Type 0) → ((r : Row) → r ∈ keep p T → P (r .update))
+      → ((u : Update) → P u → (r : Row) × (r ∈ keep p T) × (r .update ≡ u)) → Exactly ident P (updatesIn (keep p T))
+  kept-exactly p P right all =
+      record {
+        right = λ u m. let f = map-∈ (λ (r : Row). r .update) (keep p T) m in subst P (f .2) (right (f .0) (f .1));
+        all = λ u h. let f = all u h in ∈-cast (sym (f .2)) (∈-map (λ (r : Row). r .update) (f .1));
+        ascending = kept-ascending p;
+      }
+
+  -- those of a verdict, by its test
+  verdict-exactly : (v : Verdict) (p : Verdict → Bool) → ((w : Verdict) → p w ≡ true → w ≡ v) → p v ≡ true
+      → Exactly ident (Says ident S v) (updatesIn (keep (λ (r : Row). p (r .verdict)) T))
+  verdict-exactly v p only passes =
+      kept-exactly (λ (r : Row). p (r .verdict)) (Says ident S v)
+      (λ r m. let k = keep-∈ (λ (r : Row). p (r .verdict)) T m in row-says distinct decides v r (k .0) (only (r .verdict) (k .1)))
+      (λ u h. let f = says-row distinct decides v u h in
+      (f .0, ∈-keep (λ (r : Row). p (r .verdict)) (f .1) (subst (λ (w : Verdict). p w ≡ true) (sym (f .2)) passes), f .3))
+
+  held-exactly : Exactly ident (Held ident S) (updatesIn (keep (λ (r : Row). isHeld (r .verdict)) T))
+  unfolding isHeld
+  held-exactly = verdict-exactly held isHeld isHeld→ refl
+
+  waiting-exactly : Exactly ident (Waiting ident S) (updatesIn (keep (λ (r : Row). isWaiting (r .verdict)) T))
+  unfolding isWaiting
+  waiting-exactly = verdict-exactly waiting isWaiting isWaiting→ refl
+
+  void-exactly : Exactly ident (Void ident S) (updatesIn (keep (λ (r : Row). isVoid (r .verdict)) T))
+  unfolding isVoid
+  void-exactly = verdict-exactly void isVoid isVoid→ refl
+
+  heads-exactly : Exactly ident (Head ident S) (updatesIn (heads T))
+  unfolding heads
+  heads-exactly =
+      kept-exactly (λ (r : Row). heldRow r && not (covered T r)) (Head ident S) (head-right ident S T distinct decides) (head-all ident S T distinct decides)
+
+  marks-exactly : Exactly (λ (a : ℕ). a ∷ []) (Marked ident S) (marks T)
+  unfolding marks
+  marks-exactly =
+      record { right = mark-right ident S T distinct decides; all = mark-all ident S T distinct decides; ascending = sort-ascending (λ (a : ℕ). a ∷ []) _ }
+
+  set-exactly : Exactly (λ (t : List ℕ). t) (Present ident S) (tags T)
+  unfolding tags
+  set-exactly =
+      record { right = tag-right ident S T distinct decides; all = tag-all ident S T distinct decides; ascending = sort-ascending (λ (t : List ℕ). t) _ }
+
+  pub parts-right : ReadFrom ident S (partsIn T)
+  unfolding partsIn
+  parts-right =
+      record {
+        held = held-exactly;
+        heads = heads-exactly;
+        waiting = waiting-exactly;
+        void = void-exactly;
+        marks = marks-exactly;
+        set = set-exactly;
+        list = list-right ident S T distinct decides;
+      }
+
+-- Demand 2 of the rules: the parts of the report, as they are computed from a set, are exactly those of the definitions
+pub read-right : (ident : Update → Id) (S : List Update) → Distinct ident S → ReadFrom ident S (partsOf ident S)
+unfolding partsOf
+read-right ident S distinct = parts-right distinct (settled-decides ident S distinct) (settled-ascending ident S)
+
+-- and the definitions leave no choice
+pub read-unique : (ident : Update → Id) (S : List Update) → Distinct ident S → {p q : Parts} → ReadFrom ident S p → ReadFrom ident S q → p ≡ q
+read-unique ident S distinct f g =
+    let h = exactly-unique (f .held) (g .held) in
+    let t = exactly-unique (f .heads) (g .heads) in
+    let w = exactly-unique (f .waiting) (g .waiting) in
+    let v = exactly-unique (f .void) (g .void) in
+    let m = exactly-unique (f .marks) (g .marks) in
+    let s = exactly-unique (f .set) (g .set) in
+    let l = listed-unique ident S distinct (f .list) (g .list) in
+    λ i. record { held = h i; heads = t i; waiting = w i; void = v i; marks = m i; set = s i; list = l i }
