@@ -6,7 +6,7 @@ ghost use Rattle.bits.specs.Bits.{wordBits, has as hasPlace, includingBe
 pub fn has(w: u64, k: usize) -> bool
     ensures { λ r. ⌜ r ≡ hasPlace w k ⌝ }
 {
-    if k < 64 { (w >> k) % 2 == 1 } else { false }
+    if k < 64 { (w >> k) & 1 == 1 } else { false }
 }
 
 // The set with place k added; unchanged where a word has no room for it.

@@ -1,11 +1,10 @@
 // The operation of an update, from its kind byte on: rows 6 to 9.
 ghost use mathlib.Core.Path.{_≡_};
 ghost use mathlib.Core.Bool.{not};
-ghost use Prim.Native.Nat.{_≤_};
-ghost use Rattle.format.specs.Update.{maxPredecessors};
-ghost use Rattle.format.specs.Decode.{authorOf, countOf, row8, row9};
+ghost use Rattle.format.specs.Decode.{countOf, row8, row9};
 ghost use Rattle.format.specs.Places.{AtBody, AtCount};
 ghost use Rattle.format.specs.Reading.{offsetsOf, operationReading};
+ghost use Rattle.reader.specs.Header.{AtKind};
 use format::Malformed;
 use format::Operation;
 use format::Parsed;
@@ -19,64 +18,64 @@ use format::bounds::INSERT;
 use format::bounds::MAX_NAMED;
 use format::bounds::REMOVE;
 use format::bounds::TAG_LENGTH;
-use reader::byte_past;
+use reader::Header;
 use reader::wide;
 
 // Whether a Remove's count byte is missing or too large, or its named ids do not end with the bytes.
-fn wrong_remove(s: &[u8], at: usize) -> bool
-    requires { ⌜ AtCount (now s) at ⌝ }
+fn wrong_remove(s: &[u8], at: usize, named: u8) -> bool
+    requires { ⌜ AtCount (now s) at named ⌝ }
     ensures { λ r. ⌜ r ≡ row8 (now (s .entry)) ⌝ }
 {
     if s.len() <= at {
         return true;
     }
-    let count = byte_past(s, at);
-    if MAX_NAMED < count {
+    if MAX_NAMED < named {
         return true;
     }
-    s.len() != at + 1 + ID_LENGTH * wide(count)
+    s.len() != at + 1 + ID_LENGTH * wide(named)
 }
 
 // Whether the length is not what kind and counts give.
-fn wrong_layout(s: &[u8], kind: u8, body: usize) -> bool
-    requires { ⌜ AtBody (now s) kind body ⌝ }
+fn wrong_layout(s: &[u8], header: Header) -> bool
+    requires { ⌜ AtBody (now s) (header .kind) (header .body) (header .named) ⌝ }
     ensures { λ r. ⌜ r ≡ row8 (now (s .entry)) ⌝ }
 {
-    if kind == ADD {
-        return s.len() != body + TAG_LENGTH;
+    if header.kind == ADD {
+        return s.len() != header.body + TAG_LENGTH;
     }
-    if kind == REMOVE {
-        return wrong_remove(s, body + TAG_LENGTH);
+    if header.kind == REMOVE {
+        return wrong_remove(s, header.body + TAG_LENGTH, header.named);
     }
-    if kind == INSERT {
-        return s.len() != body + ID_LENGTH + TAG_LENGTH;
+    if header.kind == INSERT {
+        return s.len() != header.body + ID_LENGTH + TAG_LENGTH;
     }
-    s.len() != body + ID_LENGTH
+    s.len() != header.body + ID_LENGTH
 }
 
 // The offsets of the operation's fields.
-fn offsets(s: &[u8], kind: u8, body: usize) -> Operation
-    requires { ⌜ AtBody (now s) kind body ⌝ }
+fn offsets(s: &[u8], header: Header) -> Operation
+    requires { ⌜ AtBody (now s) (header .kind) (header .body) (header .named) ⌝ }
     ensures { λ r. ⌜ r ≡ offsetsOf (now (s .entry)) ⌝ }
 {
-    if kind == ADD {
-        return Operation::Add { tag: body };
+    if header.kind == ADD {
+        return Operation::Add { tag: header.body };
     }
-    if kind == REMOVE {
-        let at = body + TAG_LENGTH;
+    if header.kind == REMOVE {
         return Operation::Remove {
-            tag: body,
-            named: at + 1,
-            count: wide(byte_past(s, at)),
+            tag: header.body,
+            named: header.body + TAG_LENGTH + 1,
+            count: wide(header.named),
         };
     }
-    if kind == INSERT {
+    if header.kind == INSERT {
         return Operation::Insert {
-            anchor: body,
-            value: body + ID_LENGTH,
+            anchor: header.body,
+            value: header.body + ID_LENGTH,
         };
     }
-    Operation::Delete { deleted: body }
+    Operation::Delete {
+        deleted: header.body,
+    }
 }
 
 // Whether the predecessors and a Remove's named ids are strictly ascending.
@@ -103,31 +102,29 @@ fn ordered(s: &[u8], count: usize, operation: Operation) -> bool
 }
 
 // Rows 6 to 9, then the offsets.
-pub fn read(s: &[u8], author: u8, count: usize) -> Reading
-    requires { ⌜ (author ≡ authorOf (now s)) × (count ≡ countOf (now s)) × (count ≤ maxPredecessors) ⌝ }
+pub fn read(s: &[u8], header: Header) -> Reading
+    requires { ⌜ AtKind (now s) header ⌝ }
     ensures { λ r. ⌜ r ≡ operationReading (now (s .entry)) ⌝ }
 {
-    let at = FIRST_PREDECESSOR + ID_LENGTH * count;
-    if s.len() <= at {
+    if s.len() < header.body {
         return Reading::Refused(Malformed::Truncated);
     }
-    let kind = byte_past(s, at);
-    if kind < ADD {
+    if header.kind < ADD {
         return Reading::Refused(Malformed::Kind);
     }
-    if DELETE < kind {
+    if DELETE < header.kind {
         return Reading::Refused(Malformed::Kind);
     }
-    let body = at + 1;
-    if wrong_layout(s, kind, body) {
+    if wrong_layout(s, header) {
         return Reading::Refused(Malformed::Layout);
     }
-    let operation = offsets(s, kind, body);
+    let count = wide(header.count);
+    let operation = offsets(s, header);
     if !ordered(s, count, operation) {
         return Reading::Refused(Malformed::Unordered);
     }
     Reading::Update(Parsed {
-        author,
+        author: header.author,
         count,
         operation,
     })

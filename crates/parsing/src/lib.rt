@@ -12,8 +12,7 @@ use format::bounds::MAX_LENGTH;
 use format::bounds::MAX_PREDECESSORS;
 use format::bounds::MIN_LENGTH;
 use format::bounds::VERSION;
-use reader::byte_past;
-use reader::wide;
+use reader::read_header;
 
 // Reads an update of any length: the number of the first row that applies, or the offsets.
 pub fn read(s: &[u8]) -> Reading
@@ -26,17 +25,15 @@ pub fn read(s: &[u8]) -> Reading
     if MAX_LENGTH < s.len() {
         return Reading::Refused(Malformed::Length);
     }
-    let version = byte_past(s, 0);
-    if version != VERSION {
+    let header = read_header(s);
+    if header.version != VERSION {
         return Reading::Refused(Malformed::Version);
     }
-    let author = byte_past(s, 1);
-    if MAX_AUTHOR < author {
+    if MAX_AUTHOR < header.author {
         return Reading::Refused(Malformed::Author);
     }
-    let count = byte_past(s, 2);
-    if MAX_PREDECESSORS < count {
+    if MAX_PREDECESSORS < header.count {
         return Reading::Refused(Malformed::Predecessors);
     }
-    body::read(s, author, wide(count))
+    body::read(s, header)
 }

@@ -1,1 +1,1 @@
--- No definitions of its own: the contracts cite the library alone.
+pub mod Header

@@ -1,12 +1,27 @@
-// Document 01: "The reader of an update carries the lent bytes together with how far it has read". The functions over the reader are few and
-// thin; `byte_past` makes one, moves it and reads, for every caller with a plain slice and a number.
+// Document 01: "The reader of an update carries the lent bytes together with how far it has read". `start`, `past` and `byte` are all that is
+// made of the struct; `read_header` carries one reader through an update's layout, for every caller with a plain slice.
 ghost use mathlib.Core.Path.{_≡_};
-ghost use Prim.Native.Nat.{_+_, _<_, _^_};
+ghost use Prim.Native.Nat.{_+_, _*_, _<_, _^_};
 ghost use lib.ListN.{getD};
+ghost use Rattle.format.specs.Update.{idLength};
+ghost use Rattle.reader.specs.Header.{headerOf};
+use format::bounds::ID_LENGTH;
+use format::bounds::TAG_LENGTH;
 
 pub struct Reader<'a> {
     pub bytes: &'a [u8],
     pub at: usize,
+}
+
+// The bytes that say how an update is laid out, and where its operation's own bytes begin. `named` is a Remove's count byte; 0 stands for a
+// missing byte.
+pub struct Header {
+    pub version: u8,
+    pub author: u8,
+    pub count: u8,
+    pub kind: u8,
+    pub body: usize,
+    pub named: u8,
 }
 
 // The reader at the first byte.
@@ -41,11 +56,37 @@ fn byte_at(s: &[u8], at: usize) -> u8
     if at < s.len() { s[at] } else { 0 }
 }
 
-// The byte past the first n, as a reader reads it; 0 stands for a missing one.
-pub fn byte_past(s: &[u8], n: usize) -> u8
-    ensures { λ r. ⌜ r ≡ getD (now (s .entry)) n 0 ⌝ }
+// How many bytes so many ids take.
+fn ids_length(count: u8) -> usize
+    ensures { λ r. ⌜ r ≡ idLength * count ⌝ }
 {
-    byte(past(start(s), n))
+    ID_LENGTH * wide(count)
+}
+
+// What a reader finds on its way from the version to a Remove's count byte.
+pub fn read_header(s: &[u8]) -> Header
+    ensures { λ r. ⌜ r ≡ headerOf (now (s .entry)) ⌝ }
+{
+    let at_version = start(s);
+    let version = byte(at_version);
+    let at_author = past(at_version, 1);
+    let author = byte(at_author);
+    let at_count = past(at_author, 1);
+    let count = byte(at_count);
+    let at_ids = past(at_count, 1);
+    let at_kind = past(at_ids, ids_length(count));
+    let kind = byte(at_kind);
+    let at_body = past(at_kind, 1);
+    let at_named = past(at_body, TAG_LENGTH);
+    let named = byte(at_named);
+    Header {
+        version,
+        author,
+        count,
+        kind,
+        body: at_body.at,
+        named,
+    }
 }
 
 // A byte as a count.

@@ -1,15 +1,18 @@
--- `bits::has` meets its contract: a word has no place past its last. Assumes nothing.
+-- `bits::has` meets its contract: the lowest digit of the shifted word is its place k, and a word has no place past its last. Assumes nothing.
+use Prim.Native.Nat.{ℕ, _/_, _^_}
 use native.Mathlib.Omega.{arith}
 use borrow.Author.Needs.{needs}
+use lib.Bits.{and-mask}
+use lib.Dec.{eqb}
 use Rattle.bits.specs.Bits.{has}
 use Rattle.bits.specs.BitsLaws.{has-beyond}
-use mathlib.Core.Path.{sym}
+use mathlib.Core.Path.{sym, ap}
 use Rattle.bits.proofs.has.Statement.{statement}
 use Rattle.bits.proofs.has.Tie as tie
 
 returns : tie.Need-returns
 unfolding has
-returns c = search needs
+returns c = ap (λ (m : ℕ). eqb m 1) (and-mask (c .before .args .w / 2 ^ c .before .args .k) 1)
 
 returns-2 : tie.Need-returns-2
 returns-2 c = sym (has-beyond {n = 64} (omega arith) (omega arith))
