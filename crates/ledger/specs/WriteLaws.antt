@@ -1,5 +1,5 @@
--- A written update is a well-formed update of the author and the operation asked for, is held where it is offered next, and forms no fork with the held
--- updates of an author who is not marked.
+-- What is written is a well-formed update, whatever the ledger. For a ledger that stands it is of the author and the operation asked for, is held where it is
+-- offered next, and forms no fork with the held updates of an author who is not marked.
 -- Assumes nothing.
 use mathlib.Core.Path.{_≡_, refl, sym, ap, subst, _∙_}
 use Prim.Native.Nat.{ℕ, _+_, _-_, _≤_, _<_}
@@ -11,8 +11,9 @@ use lib.Seq.{take-at, getD-append-seam}
 use Rattle.keys.specs.Member.{_∈_}
 use Rattle.keys.specs.BoolLaws.{true-false}
 use Rattle.fips180.specs.Fips180.{SHA-256}
-use Rattle.format.specs.Update.{Id, maxAuthor, idLength, tagLength, Operation, Update, encode}
+use Rattle.format.specs.Update.{Id, maxAuthor, Operation, Update, encode, WellFormed}
 use Rattle.format.specs.Decode.{refused, decode, update}
+use Rattle.format.specs.Laws.{decode-complete}
 use Rattle.rules.specs.Standing.{Ancestor, Held}
 use Rattle.rules.specs.Settle.{held}
 use Rattle.rules.specs.ReadOff.{Marked}
@@ -32,14 +33,10 @@ use Rattle.state.specs.TakeLaws.{stands-sound}
 use Rattle.operations.specs.declared.Kind.{Kind}
 use Rattle.operations.specs.declared.Kind.the-variants.{Add as AnAdd}
 use Rattle.operations.specs.Operations.{operationFor, badNamed, unorderedNamed}
-use Rattle.refusals.specs.declared.Refusal.{Refusal}
-use Rattle.refusals.specs.declared.Refusal.the-variants.{Unfit, Malformed as Bad, Full, Short, Invalid}
-use Rattle.writing.specs.declared.Wrote.{Wrote}
-use Rattle.writing.specs.declared.Wrote.the-variants.{Written, Refused}
+use Rattle.refusals.specs.Numbers.{row12, Output, putBytes, refusedBy}
 use Rattle.offering.specs.Values.{OfferValues, takenAs}
 use Rattle.offering.specs.Offer.{OfferRow, unfit as not-fit, malformed, known, full, taken}
 use Rattle.ledger.specs.Calls.{says, only-held}
-use Rattle.writing.specs.BoundLaws.{operation-bounded, rules-decode}
 use Rattle.writing.specs.Write.{WrittenUpdate, Writing, unfit, author, layout, unordered, invalid, short, written}
 
 -- the writer's answers taken apart
@@ -49,29 +46,22 @@ module _ (l : Book) (s : List ℕ) (a : ℕ) (k : Kind) (t : List ℕ) (i : Id) 
     pub number : n ≡ length (encode value)
     pub output : o′ ≡ encode value ++ drop (length (encode value)) o
     pub author-small : a ≤ maxAuthor
-    pub named-good : badNamed k named ≡ false
-    pub named-ordered : unorderedNamed k named ≡ false
+    pub named-good : badNamed named ≡ false
+    pub named-ordered : unorderedNamed named ≡ false
     pub may : (us : List Update) → Stands l s us → writableOf ident us a (operationFor k t i named) ≡ true
     pub is-written : WrittenUpdate l s a (operationFor k t i named) value
 
-  abbrev RefusedSays : Refusal → Type 0
-  RefusedSays Unfit = Unit {0}
-  RefusedSays (Bad m) = Unit {0}
-  RefusedSays Full = Unit {0}
-  RefusedSays Short = Unit {0}
-  RefusedSays Invalid = (us : List Update) → Stands l s us → writableOf ident us a (operationFor k t i named) ≡ false
+  abbrev WroteSays : Output → List ℕ → Type 0
+  WroteSays (putBytes n) o′ = IsWritten n o′
+  WroteSays (refusedBy n) o′ = n ≡ row12 → (us : List Update) → Stands l s us → writableOf ident us a (operationFor k t i named) ≡ false
 
-  abbrev WroteSays : Wrote → List ℕ → Type 0
-  WroteSays (Written n) o′ = IsWritten n o′
-  WroteSays (Refused r) o′ = RefusedSays r
-
-  wrote-says : {w : Wrote} {o′ : List ℕ} → Writing l s a k t i named o w o′ → WroteSays w o′
-  wrote-says (unfit e) = tt
-  wrote-says (author e h) = tt
-  wrote-says (layout e h g) = tt
-  wrote-says (unordered e h g f) = tt
-  wrote-says (invalid e h g f n) = n
-  wrote-says (short u e h g f m w c) = tt
+  wrote-says : {w : Output} {o′ : List ℕ} → Writing l s a k t i named o w o′ → WroteSays w o′
+  wrote-says (unfit e) = λ q. absurd (omega arith)
+  wrote-says (author e h) = λ q. absurd (omega arith)
+  wrote-says (layout e h g) = λ q. absurd (omega arith)
+  wrote-says (unordered e h g f) = λ q. absurd (omega arith)
+  wrote-says (invalid e h g f n) = λ q. n
+  wrote-says (short u e h g f m w c) = λ q. absurd (omega arith)
   wrote-says (written u e h g f m w c) =
       record {
         value = u;
@@ -84,16 +74,16 @@ module _ (l : Book) (s : List ℕ) (a : ℕ) (k : Kind) (t : List ℕ) (i : Id) 
         is-written = w;
       }
 
-  pub says-written : {n : ℕ} {o′ : List ℕ} → Writing l s a k t i named o (Written n) o′ → IsWritten n o′
+  pub says-written : {n : ℕ} {o′ : List ℕ} → Writing l s a k t i named o (putBytes n) o′ → IsWritten n o′
   says-written w = wrote-says w
 
-  pub says-invalid : {o′ : List ℕ} → Writing l s a k t i named o (Refused Invalid) o′
+  pub says-invalid : {o′ : List ℕ} → Writing l s a k t i named o (refusedBy row12) o′
       → (us : List Update) → Stands l s us → writableOf ident us a (operationFor k t i named) ≡ false
-  says-invalid w = wrote-says w
+  says-invalid w = wrote-says w refl
 
 -- "Add: always valid": the writer never refuses one with row 12
 pub add-not-invalid : (l : Book) (s : List ℕ) (us : List Update) → Stands l s us → (a : ℕ) (t : List ℕ) (i : Id) (named o : List ℕ) {o′ : List ℕ}
-    → Writing l s a AnAdd t i named o (Refused Invalid) o′ → ⊥
+    → Writing l s a AnAdd t i named o (refusedBy row12) o′ → ⊥
 unfolding operationFor
 add-not-invalid l s us stands a t i named o w = true-false (add-writable ident us a t) (says-invalid l s a AnAdd t i named o w us stands)
 
@@ -115,34 +105,41 @@ refused-update : {n : ℕ} {u : Update} → refused n ≡ update u → ⊥
 refused-update e = let z : _≡_ {A = ℕ} 0 1 = cc in omega arith
 
 -- the written bytes: the first n of the output
+module _ (l : Book) (s : List ℕ) (a : ℕ) (k : Kind) (t : List ℕ) (i : Id) (named o : List ℕ) {n : ℕ} {o′ : List ℕ}
+    (wrote : Writing l s a k t i named o (putBytes n) o′) where
+  told : IsWritten l s a k t i named o n o′
+  told = says-written l s a k t i named o wrote
+
+  bytes-are : take n o′ ≡ encode (told .value)
+  bytes-are =
+      ap (take n) (told .output) ∙ take-at (encode (told .value)) (drop (length (encode (told .value))) o) n (sym (told .number))
+
+  -- whatever the ledger, they are a well-formed update
+  pub written-well-formed : WellFormed (take n o′)
+  written-well-formed = record { value = told .value; bounded = told .is-written .laid-out; laid-out = sym bytes-are }
+
+-- for a ledger that stands
 module _ (l : Book) (s : List ℕ) (us : List Update) (stands : Stands l s us) (a : ℕ) (k : Kind) (t : List ℕ) (i : Id) (named o : List ℕ)
-    (tag-sized : length t ≡ tagLength) (id-sized : length i ≡ idLength) {n : ℕ} {o′ : List ℕ} (wrote : Writing l s a k t i named o (Written n) o′) where
+    {n : ℕ} {o′ : List ℕ} (wrote : Writing l s a k t i named o (putBytes n) o′) where
   abbrev op : Operation
   op = operationFor k t i named
 
   abbrev new : Update
   new = writtenOf ident us a op
 
-  abbrev bytes : List ℕ
-  bytes = take n o′
-
-  W : IsWritten l s a k t i named o n o′
-  W = says-written l s a k t i named o wrote
+  abbrev W : IsWritten l s a k t i named o n o′
+  W = told l s a k t i named o wrote
 
   is-new : W .value ≡ new
   is-new = W .is-written .of-rules us stands
 
-  bytes-are : bytes ≡ encode new
-  bytes-are =
-      ap (take n) (W .output)
-      ∙ take-at (encode (W .value)) (drop (length (encode (W .value))) o) n (sym (W .number))
-      ∙ ap encode is-new
+  bytes-new : take n o′ ≡ encode new
+  bytes-new = bytes-are l s a k t i named o wrote ∙ ap encode is-new
 
   -- they decode to the author and the operation asked for, and to the rules' update
   pub written-decodes : decode (take n o′) ≡ update (writtenOf ident us a (operationFor k t i named))
   written-decodes =
-      ap decode bytes-are
-      ∙ rules-decode l s us stands a op (W .author-small) (operation-bounded k t i named tag-sized id-sized (W .named-good) (W .named-ordered))
+      ap decode (bytes-are l s a k t i named o wrote) ∙ decode-complete (W .value) (W .is-written .laid-out) ∙ ap update is-new
 
   pub written-author : writtenOf ident us a (operationFor k t i named) .author ≡ a
   written-author = ap (λ (u : Update). u .author) (sym is-new) ∙ W .is-written .by-author
@@ -155,9 +152,9 @@ module _ (l : Book) (s : List ℕ) (us : List Update) (stands : Stands l s us) (
       → Ancestor ident us u (writtenOf ident us a (operationFor k t i named))
   written-forks-not m u h e = written-no-fork ident us (stands .holds .distinct) a op m u h e
 
-  id-is : ident new ≡ SHA-256 bytes
+  id-is : ident new ≡ SHA-256 (take n o′)
   unfolding ident
-  id-is = ap SHA-256 (sym bytes-are)
+  id-is = ap SHA-256 (sym bytes-new)
 
   same-update : {u : Update} → decode (take n o′) ≡ update u → u ≡ writtenOf ident us a (operationFor k t i named)
   same-update {u} d = let e : update u ≡ update new = sym d ∙ written-decodes in cc
@@ -180,8 +177,7 @@ module _ (l : Book) (s : List ℕ) (us : List Update) (stands : Stands l s us) (
 
 -- Offered next, where a place is free and no stored update has its id, it is taken and held.
 module _ (l : Ledger) (s : List ℕ) (us : List Update) (stands : Stands (bookOf l) s us) (a : ℕ) (k : Kind) (t : List ℕ) (i : Id) (named o : List ℕ)
-    (tag-sized : length t ≡ tagLength) (id-sized : length i ≡ idLength) {n : ℕ} {o′ : List ℕ}
-    (wrote : Writing (bookOf l) s a k t i named o (Written n) o′) (free : bookOf l .used < places)
+    {n : ℕ} {o′ : List ℕ} (wrote : Writing (bookOf l) s a k t i named o (putBytes n) o′) (free : bookOf l .used < places)
     (fresh : (u : Update) → u ∈ us → ident u ≡ SHA-256 (take n o′) → ⊥) where
   abbrev before : Book
   before = bookOf l
@@ -190,15 +186,15 @@ module _ (l : Ledger) (s : List ℕ) (us : List Update) (stands : Stands (bookOf
       → (h v : ℕ) × (x ≡ takenAs held h v) × (1 ≤ h)
   written-taken (not-fit e) = absurd (true-false (stands-sound before s us stands) e)
   written-taken (malformed m e d) =
-      absurd (refused-update (sym d ∙ written-decodes before s us stands a k t i named o tag-sized id-sized wrote))
+      absurd (refused-update (sym d ∙ written-decodes before s us stands a k t i named o wrote))
   written-taken (known u j e d f) =
       let r = find-right before s us (stands .holds) (SHA-256 (take n o′)) j f in absurd (fresh (updateAt us j) (stored-at us j (r .0)) (r .1))
   written-taken (full u e d f g) = absurd (omega arith)
   written-taken (taken u r e d f g took) =
       let after : Book = bookOf r in
       let v : placeAt after (before .used) .standing ≡ IsHeld =
-      stands-held before s us stands a k t i named o tag-sized id-sized wrote fresh u after
-      (same-update before s us stands a k t i named o tag-sized id-sized wrote d) (took .settles us stands) in (
+      stands-held before s us stands a k t i named o wrote fresh u after
+      (same-update before s us stands a k t i named o wrote d) (took .settles us stands) in (
         countOf isHeld after - countOf isHeld before,
         countOf isVoid after - countOf isVoid before,
         ap (λ (w : Standing). takenAs (verdictOf w) (countOf isHeld after - countOf isHeld before) (countOf isVoid after - countOf isVoid before)) v,

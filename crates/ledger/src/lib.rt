@@ -5,7 +5,7 @@ ghost use Rattle.state.specs.View.{bookOf};
 ghost use Rattle.offering.specs.Offer.{Offering};
 ghost use Rattle.ledger.specs.Ask.{askedValues, askedOf};
 ghost use Rattle.ledger.specs.Report.{Reporting};
-ghost use Rattle.writing.specs.Write.{Writing};
+ghost use Rattle.writing.specs.Write.{wroteValues, Writing};
 use format::Malformed;
 use format::Reading;
 use format::bounds::MAX_AUTHOR;
@@ -84,8 +84,8 @@ pub fn report(ledger: Ledger, store: &[u8], out: &mut [u8]) -> Reported
     Reported::Written(length)
 }
 
-// Writes a new update at the start of the output buffer; the bytes after it keep their values. The update is not offered. A kind does not look at what it
-// does not have: the tag is an Insert's value too, the id an anchor or a deleted id, and the named ids are a Remove's.
+// Writes a new update at the start of the output buffer; the bytes after it keep their values. The update is not offered. The tag is an Insert's value too, the
+// id an anchor or a deleted id, and the named ids are a Remove's. Rows 8 and 9 look at the named ids' bytes whatever the kind; a kind that names no ids writes none.
 pub fn write(
     ledger: Ledger,
     store: &[u8],
@@ -96,7 +96,7 @@ pub fn write(
     named: &[u8],
     out: &mut [u8],
 ) -> Wrote
-    ensures { λ r. ⌜ Writing (bookOf ledger) (now (store .entry)) author kind tag id (now (named .entry)) (now (out .entry)) r (now (out .exit)) ⌝ }
+    ensures { λ r. ⌜ Writing (bookOf ledger) (now (store .entry)) author kind tag id (now (named .entry)) (now (out .entry)) (wroteValues r) (now (out .exit)) ⌝ }
 {
     if !sound(ledger, store) {
         return Wrote::Refused(Refusal::Unfit);
@@ -104,10 +104,10 @@ pub fn write(
     if MAX_AUTHOR < author {
         return Wrote::Refused(Refusal::Malformed(Malformed::Author));
     }
-    if operations::bad_named(kind, named) {
+    if operations::bad_named(named) {
         return Wrote::Refused(Refusal::Malformed(Malformed::Layout));
     }
-    if operations::unordered_named(kind, named) {
+    if operations::unordered_named(named) {
         return Wrote::Refused(Refusal::Malformed(Malformed::Unordered));
     }
     write_asked(ledger, store, author, kind, tag, id, named, out)

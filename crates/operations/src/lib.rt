@@ -1,22 +1,21 @@
-// What a written update is to do: the kinds of operation, what they ask of the named ids, and their bytes.
+// What a written update is to do: what is asked of the named ids, the kinds of operation, and their bytes.
 ghost use mathlib.Core.Path.{_≡_};
 ghost use mathlib.Core.Bool.{false};
 ghost use mathlib.Core.List.{_∷_};
-ghost use Prim.Native.Nat.{_+_, _/_, _%_, _≤_};
-ghost use lib.ListN.{length};
-ghost use Rattle.format.specs.Update.{idLength, Add, Remove, Insert, Delete, encodeOperation};
-ghost use Rattle.format.specs.Decode.{idsAt};
+ghost use Prim.Native.Nat.{_+_, _≤_};
+ghost use Rattle.format.specs.Update.{Add, Remove, Insert, Delete, encodeOperation};
 ghost use Rattle.printing.specs.Page.{Prints};
-ghost use Rattle.operations.specs.Operations.{operationFor, badNamed, unorderedNamed};
+ghost use Rattle.operations.specs.Operations.{operationFor, namedIds, badNamed, unorderedNamed};
 use format::bounds::ADD;
 use format::bounds::DELETE;
 use format::bounds::ID_LENGTH;
 use format::bounds::INSERT;
+use format::bounds::MAX_NAMED;
 use format::bounds::REMOVE;
 use printing::put;
 
 // How many bytes of named ids there are at most.
-const MAX_NAMED_LENGTH: usize = 256;
+const MAX_NAMED_LENGTH: usize = ID_LENGTH * (MAX_NAMED as usize);
 
 // The kind of a written operation.
 pub enum Kind {
@@ -26,34 +25,22 @@ pub enum Kind {
     Delete,
 }
 
-// Whether the named ids' bytes are not a multiple of 32, or over 256.
-pub fn bad_named(kind: Kind, named: &[u8]) -> bool
-    ensures { λ r. ⌜ r ≡ badNamed kind (now (named .entry)) ⌝ }
+// Whether the named ids' bytes are not a multiple of 32, or over 256: of every kind.
+pub fn bad_named(named: &[u8]) -> bool
+    ensures { λ r. ⌜ r ≡ badNamed (now (named .entry)) ⌝ }
 {
-    match kind {
-        Kind::Add => false,
-        Kind::Remove => {
-            if named.len() % ID_LENGTH == 0 {
-                MAX_NAMED_LENGTH < named.len()
-            } else {
-                true
-            }
-        }
-        Kind::Insert => false,
-        Kind::Delete => false,
+    if named.len() % ID_LENGTH == 0 {
+        MAX_NAMED_LENGTH < named.len()
+    } else {
+        true
     }
 }
 
-// Whether the named ids are not strictly ascending.
-pub fn unordered_named(kind: Kind, named: &[u8]) -> bool
-    ensures { λ r. ⌜ r ≡ unorderedNamed kind (now (named .entry)) ⌝ }
+// Whether the named ids are not strictly ascending: of every kind.
+pub fn unordered_named(named: &[u8]) -> bool
+    ensures { λ r. ⌜ r ≡ unorderedNamed (now (named .entry)) ⌝ }
 {
-    match kind {
-        Kind::Add => false,
-        Kind::Remove => !format::ascends(named, 0, named.len() / ID_LENGTH),
-        Kind::Insert => false,
-        Kind::Delete => false,
-    }
+    !format::ascends(named, 0, named.len() / ID_LENGTH)
 }
 
 // The byte of a kind and the bytes after it.
@@ -77,8 +64,8 @@ fn put_add(tag: [u8; 16], page: &mut [u8], at: usize) -> usize
 
 // The bytes of a Remove.
 fn put_remove(tag: [u8; 16], named: &[u8], page: &mut [u8], at: usize) -> usize
-    requires { ⌜ (at ≤ 3000) × (length (now named) % 32 ≡ 0) × (length (now named) ≤ 256) ⌝ }
-    ensures prints { λ r. ⌜ Prints (now (page .entry)) at (encodeOperation (Remove tag (idsAt (now (named .entry)) 0 (length (now (named .entry)) / idLength)))) (now (page .exit)) r ⌝ }
+    requires { ⌜ (at ≤ 3000) × (badNamed (now named) ≡ false) ⌝ }
+    ensures prints { λ r. ⌜ Prints (now (page .entry)) at (encodeOperation (Remove tag (namedIds (now (named .entry))))) (now (page .exit)) r ⌝ }
     ensures small { λ r. ⌜ r ≤ at + 274 ⌝ }
 {
     let tagged = put_part(REMOVE, &tag, page, at);
@@ -115,7 +102,7 @@ pub fn put_operation(
     page: &mut [u8],
     at: usize,
 ) -> usize
-    requires { ⌜ (at ≤ 3000) × (badNamed kind (now named) ≡ false) ⌝ }
+    requires { ⌜ (at ≤ 3000) × (badNamed (now named) ≡ false) ⌝ }
     ensures prints { λ r. ⌜ Prints (now (page .entry)) at (encodeOperation (operationFor kind tag id (now (named .entry)))) (now (page .exit)) r ⌝ }
     ensures small { λ r. ⌜ r ≤ at + 274 ⌝ }
 {

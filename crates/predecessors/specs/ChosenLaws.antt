@@ -9,12 +9,11 @@ use mathlib.Core.Bool.{Bool, true, false, cond, not, _&&_, _||_}
 use lib.ListN.{length, getD, take, length-map}
 use lib.Dec.{leb, eqb}
 use Rattle.keys.specs.Member.{_∈_, member, keep}
-use Rattle.keys.specs.Ascending.{Ascending}
 use Rattle.keys.specs.Sort.{sort}
 use Rattle.keys.specs.BoolLaws.{and-true→}
 use Rattle.keys.specs.OrderLaws.{same-refl, ne→same-false}
 use Rattle.keys.specs.MemberLaws.{append-∈, keep-∈, keep-map, keep-cong, keep-all, map-cong}
-use Rattle.keys.specs.SortLaws.{ascending-keep, sort-∈, sort-sorted, sort-map, sort-cong}
+use Rattle.keys.specs.SortLaws.{sort-∈, sort-sorted, sort-map, sort-cong}
 use Rattle.keys.specs.ListLaws.{take-∈}
 use Rattle.format.specs.Update.{Id, maxPredecessors, Update}
 use Rattle.rules.specs.Settle.{Row, Table, heldRow, covered, heads, settled}
@@ -26,11 +25,12 @@ use Rattle.bits.specs.Bits.{has}
 use Rattle.state.specs.State.{Book, placeAt}
 use Rattle.state.specs.Stands.{ident, Stands}
 use Rattle.relations.specs.PlaceTests.{idAt, heldAt, coveredAt, headAt, order}
-use Rattle.relations.specs.RowLaws.{rowAt, row-id, order-∈, order-ascending, table-rows, above-agrees, head-agrees, same-agrees}
+use Rattle.relations.specs.RowLaws.{rowAt, row-id, order-∈, table-rows, above-agrees, head-agrees, same-agrees}
 use Rattle.highest.specs.Top.{topBelow}
 use Rattle.highest.specs.TopLaws.{RankedBy, top-right}
 use Rattle.predecessors.specs.Choose.{headsOf, aboveAt, eightWith, eightFor, chosenPlaces}
 use Rattle.predecessors.specs.FrontLaws.{take-map, first-kept, none-kept, ascending-take, front-with}
+use Rattle.predecessors.specs.ShapeLaws.{heads-ascending}
 
 module _ {l : Book} {s : List ℕ} {us : List Update} (stands : Stands l s us) where
   abbrev T : Table
@@ -47,10 +47,6 @@ module _ {l : Book} {s : List ℕ} {us : List Update} (stands : Stands l s us) w
   unfolding headsOf headAt
   head-at {k} m =
       let f = keep-∈ (headAt l s) (order l s) m in (order-∈ stands (f .0), and-true→ (heldAt l s k) (not (coveredAt l s k)) (f .1) .0)
-
-  heads-ascending : Ascending (idAt l s) H
-  unfolding headsOf
-  heads-ascending = ascending-keep (headAt l s) (order-ascending stands)
 
   heads-rows : heads T ≡ map row H
   unfolding heads headsOf
@@ -148,13 +144,13 @@ module _ {l : Book} {s : List ℕ} {us : List Update} (stands : Stands l s us) w
   unfolding eightOf otherThan member
   eight-none =
       ap (λ (ks : List ℕ). sort (idAt l s) (take maxPredecessors ks)) (keep-all (otherThan []) H (λ k m. refl))
-      ∙ sort-sorted (idAt l s) (ascending-take maxPredecessors heads-ascending)
+      ∙ sort-sorted (idAt l s) (ascending-take maxPredecessors (heads-ascending l s))
 
   eight-some : (j : ℕ) → j < length H → eightOf (getD H j 0 ∷ []) ≡ eightWith l s (some j)
   unfolding eightOf eightWith otherThan member
   eight-some j h =
       front-with (otherThan (getD H j 0 ∷ [])) (getD H j 0) 0 (ap (λ (b : Bool). not (b || false)) (same-refl (idAt l s (getD H j 0))))
-      (λ y n. ap (λ (b : Bool). not (b || false)) (ne→same-false (idAt l s y) (idAt l s (getD H j 0)) n)) 7 j heads-ascending h refl
+      (λ y n. ap (λ (b : Bool). not (b || false)) (ne→same-false (idAt l s y) (idAt l s (getD H j 0)) n)) 7 j (heads-ascending l s) h refl
 
   eight-right : (o : Option ℕ) → eightOf (firstOf o) ≡ eightFor l s o
   unfolding firstOf eightFor eightWith upAt aboveAt

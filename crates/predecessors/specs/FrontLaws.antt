@@ -54,6 +54,12 @@ module _ {A : Type 0} {key : A → List ℕ} where
       subst (λ (z : A). before (key z) (key (getD xs j d)) ≡ true) (sym q) (ascending-head a (getD xs j d) (getD-∈ xs j d (le-of-suc-le-suc l))))
       (λ (k : y ∈ take n xs). taken-before n xs j d (ascending-tail a) (le-of-suc-le-suc h) (le-of-suc-le-suc l) y k) (∈-cases m)
 
+  -- the first n members and a later one
+  pub front-ascending : (n : ℕ) {xs : List A} (j : ℕ) (d : A) → Ascending key xs → n ≤ j → j < length xs → Ascending key (take n xs ++ (getD xs j d ∷ []))
+  front-ascending n {xs} j d a h l =
+      ascending-append (ascending-take n a) (ascending-cons (λ y m. absurd (List·Memᴰ·not-nil m)) ascending-nil)
+      (λ y z m k. subst (λ (w : A). before (key y) (key w) ≡ true) (sym (∈-singleton k)) (taken-before n xs j d a h l y m))
+
   -- x is the member at index j, and all but it pass p
   module _ (p : A → Bool) (x d : A) (without : p x ≡ false) (others : (y : A) → (key y ≡ key x → ⊥) → p y ≡ true) where
     passes : {y : A} {ys : List A} (j : ℕ) → Distinct key (y ∷ ys) → j < length ys → getD ys j d ≡ x → p y ≡ true
@@ -121,6 +127,4 @@ module _ {A : Type 0} {key : A → List ℕ} where
             sort-unique key one (ascending-take (suc n) a) (early n xs j (ascending-distinct a) (le-of-suc-le-suc (ltb-true j (suc n) q)) h e)
         step false q =
             let l : n ≤ j = let g = ltb-false j (suc n) q in omega arith in
-            sort-unique key one
-            (ascending-append (ascending-take n a) (ascending-cons (λ y m. absurd (List·Memᴰ·not-nil m)) ascending-nil)
-            (λ y z m k. subst (λ (w : A). before (key y) (key w) ≡ true) (e ∙ sym (∈-singleton k)) (taken-before n xs j d a l h y m))) (last l)
+            sort-unique key one (subst (λ (w : A). Ascending key (take n xs ++ (w ∷ []))) e (front-ascending n j d a l h)) (last l)

@@ -1,3 +1,4 @@
 pub mod Choose
 pub mod FrontLaws
+pub mod ShapeLaws
 pub mod ChosenLaws

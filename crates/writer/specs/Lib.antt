@@ -1,3 +1,4 @@
 pub mod Written
+pub mod WrittenLaws
 pub mod JudgedLaws
 pub mod ChooseRight

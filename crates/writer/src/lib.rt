@@ -26,7 +26,7 @@ pub fn compose(
     named: &[u8],
     page: &mut [u8],
 ) -> usize
-    requires { ⌜ (bookOf l .used ≤ 64) × (badNamed kind (now named) ≡ false) ⌝ }
+    requires { ⌜ (bookOf l .used ≤ 64) × (badNamed (now named) ≡ false) ⌝ }
     ensures prints { λ r. ⌜ Prints (now (page .entry)) 0 (encode (writtenAt (bookOf l) (now (store .entry)) author (operationFor kind tag id (now (named .entry))))) (now (page .exit)) r ⌝ }
     ensures small { λ r. ⌜ r ≤ 533 ⌝ }
 {

@@ -8,23 +8,24 @@ use mathlib.Core.List.{List, _++_}
 use mathlib.Core.Bool.{Bool, true, false}
 use lib.ListN.{length, take, drop}
 use lib.Seq.{take-at}
-use Rattle.format.specs.Update.{Id, Operation, Update, encode}
+use Rattle.format.specs.Update.{Id, idLength, tagLength, Operation, Update, encode, Bounded}
 use Rattle.format.specs.Decode.{decode, update}
+use Rattle.format.specs.Laws.{encode-within, decode-complete}
 use Rattle.rules.specs.Writing.{writableOf}
 use Rattle.judging.specs.declared.Judgement.{Judgement}
 use Rattle.judging.specs.declared.Judgement.the-variants.{Holds, Fails, Waits}
 use Rattle.judging.specs.Judge.{judgeDecoded}
+use Rattle.state.specs.State.{Book, placeAt}
 use Rattle.state.specs.Stands.{ident, Stands}
 use Rattle.printing.specs.Page.{Prints}
 use Rattle.operations.specs.declared.Kind.{Kind}
 use Rattle.operations.specs.Operations.{operationFor}
+use Rattle.refusals.specs.Numbers.{row11, row12, putBytes, refusedBy}
 use Rattle.writer.specs.Written.{writtenAt}
+use Rattle.writer.specs.WrittenLaws.{laid-out}
 use Rattle.writer.specs.ChooseRight.{chosen-right, writable-holds, unwritable-fails}
-use Rattle.refusals.specs.declared.Refusal.the-variants.{Short, Invalid}
-use Rattle.writing.specs.declared.Wrote.the-variants.{Written, Refused}
 use Rattle.writing.specs.Write.{WrittenUpdate, Writing, invalid, short, written, WellAsked}
-use Rattle.writing.specs.BoundLaws.{operation-bounded, rules-decode}
-use Rattle.state.specs.State.{Book}
+use Rattle.writing.specs.BoundLaws.{operation-bounded}
 
 holds-fails : {h : ℕ} → Holds h ≡ Fails → ⊥
 holds-fails e = let z : _≡_ {A = ℕ} 0 1 = cc in omega arith
@@ -32,71 +33,92 @@ holds-fails e = let z : _≡_ {A = ℕ} 0 1 = cc in omega arith
 holds-waits : {h : ℕ} → Holds h ≡ Waits → ⊥
 holds-waits e = let z : _≡_ {A = ℕ} 0 1 = cc in omega arith
 
-module _ (l : Book) (s : List ℕ) (a : ℕ) (k : Kind) (t : List ℕ) (i : Id) (named : List ℕ) (asked : WellAsked l s a k named) (x : length t ≡ 16) (y : length i ≡ 32) where
+-- the lengths that the arguments' types give: of the tag, of the id, and of the ledger's ids
+pub record Sized (l : Book) (t : List ℕ) (i : Id) : Type 0 where
+  pub tag-sized : length t ≡ tagLength
+  pub id-sized : length i ≡ idLength
+  pub ids-sized : (k : ℕ) → k < l .used → length (placeAt l k .id) ≡ idLength
+
+-- the first n bytes of a page on which an update is printed
+pub cut-is : (u : Update) {page page₁ : List ℕ} {n : ℕ} → Prints page 0 (encode u) page₁ n → n ≤ length page → take n page₁ ≡ encode u
+cut-is u {page} {page₁} {n} prints room =
+    ap (take n) (prints .fits room) ∙ take-at (encode u) (drop (0 + length (encode u)) page) n (sym (prints .past ∙ zero-add (length (encode u))))
+
+module _ (l : Book) (s : List ℕ) (a : ℕ) (k : Kind) (t : List ℕ) (i : Id) (named : List ℕ) where
   abbrev op : Operation
   op = operationFor k t i named
 
   abbrev new : Update
-  new = writtenAt l s a op
+  new = writtenAt l s a (operationFor k t i named)
 
-  is-written : WrittenUpdate l s a op new
-  unfolding writtenAt
-  is-written = record { by-author = refl; with-operation = refl; of-rules = λ us stands. chosen-right l s us stands a op }
+  bounded : WellAsked l s a named → Sized l t i → Bounded new
+  bounded asked sized =
+      laid-out l s (sized .ids-sized) a op (asked .author-small)
+      (operation-bounded k t i named (sized .tag-sized) (sized .id-sized) (asked .named-good) (asked .named-ordered))
 
-  decodes : (us : List Update) → Stands l s us → decode (encode new) ≡ update new
-  decodes us stands =
-      subst (λ (u : Update). decode (encode u) ≡ update u) (sym (chosen-right l s us stands a op))
-      (rules-decode l s us stands a op (asked .author-small) (operation-bounded k t i named x y (asked .named-good) (asked .named-ordered)))
+  -- what the writer knows once it has judged: n is the update's length, and j the judgement of it
+  pub record Judged (n : ℕ) (j : Judgement) : Type 0 where
+    pub asked : WellAsked l s a named
+    pub sized : Sized l t i
+    pub long : n ≡ length (encode new)
+    pub judged : j ≡ judgeDecoded l s (update new)
 
-  -- the first n bytes of the page are the update
-  module _ {page page₁ : List ℕ} {n : ℕ} (prints : Prints page 0 (encode new) page₁ n) (room : n ≤ length page) (b : List ℕ) (cut : b ≡ take n page₁) where
-    long : n ≡ length (encode new)
-    long = prints .past ∙ zero-add (length (encode new))
+  pub judged-by : WellAsked l s a named → Sized l t i → {page page₁ : List ℕ} {n : ℕ} {j : Judgement} → Prints page 0 (encode new) page₁ n → n ≤ length page
+      → j ≡ judgeDecoded l s (decode (take n page₁)) → Judged n j
+  judged-by asked sized prints room e = record {
+    asked = asked;
+    sized = sized;
+    long = prints .past ∙ zero-add (length (encode new));
+    judged = e ∙ ap (λ (c : List ℕ). judgeDecoded l s (decode c)) (cut-is new prints room) ∙ ap (judgeDecoded l s) (decode-complete new (bounded asked sized));
+  }
 
-    bytes-are : b ≡ encode new
-    bytes-are = cut ∙ ap (take n) (prints .fits room) ∙ take-at (encode new) (drop (0 + length (encode new)) page) n (sym long)
+  module _ {n : ℕ} {j : Judgement} (w : Judged n j) (o : List ℕ) where
+    may : (h : ℕ) → j ≡ Holds h → (us : List Update) → Stands l s us → writableOf ident us a op ≡ true
+    may h e us stands = go (writableOf ident us a op) refl
+      where
+        go : (c : Bool) → writableOf ident us a op ≡ c → c ≡ true
+        go true f = refl
+        go false f = absurd (holds-fails (sym e ∙ w .judged ∙ unwritable-fails l s us stands a op f))
 
-    module _ (j : Judgement) (judged : j ≡ judgeDecoded l s (decode b)) (o : List ℕ) where
-      judged-as : (us : List Update) → Stands l s us → j ≡ judgeDecoded l s (update new)
-      judged-as us stands = judged ∙ ap (λ (c : List ℕ). judgeDecoded l s (decode c)) bytes-are ∙ ap (judgeDecoded l s) (decodes us stands)
+    may-not : ((h : ℕ) → j ≡ Holds h → ⊥) → (us : List Update) → Stands l s us → writableOf ident us a op ≡ false
+    may-not never us stands = go (writableOf ident us a op) refl
+      where
+        go : (c : Bool) → writableOf ident us a op ≡ c → c ≡ false
+        go true f = let h = writable-holds l s us stands a op f in absurd (never (h .0) (w .judged ∙ h .1))
+        go false f = refl
 
-      may : (h : ℕ) → j ≡ Holds h → (us : List Update) → Stands l s us → writableOf ident us a op ≡ true
-      may h e us stands = go (writableOf ident us a op) refl
-        where
-          go : (c : Bool) → writableOf ident us a op ≡ c → c ≡ true
-          go true f = refl
-          go false f = absurd (holds-fails (sym e ∙ judged-as us stands ∙ unwritable-fails l s us stands a op f))
+    refused : ((h : ℕ) → j ≡ Holds h → ⊥) → Writing l s a k t i named o (refusedBy row12) o
+    refused never = invalid (w .asked .fits) (w .asked .author-small) (w .asked .named-good) (w .asked .named-ordered) (may-not never)
 
-      may-not : ((h : ℕ) → j ≡ Holds h → ⊥) → (us : List Update) → Stands l s us → writableOf ident us a op ≡ false
-      may-not n us stands = go (writableOf ident us a op) refl
-        where
-          go : (c : Bool) → writableOf ident us a op ≡ c → c ≡ false
-          go true f = let w = writable-holds l s us stands a op f in absurd (n (w .0) (judged-as us stands ∙ w .1))
-          go false f = refl
+    pub ended-fails : j ≡ Fails → Writing l s a k t i named o (refusedBy row12) o
+    ended-fails e = refused (λ h f. holds-fails (sym f ∙ e))
 
-      refused : ((h : ℕ) → j ≡ Holds h → ⊥) → Writing l s a k t i named o (Refused Invalid) o
-      refused n = invalid (asked .fits) (asked .author-small) (asked .named-good) (asked .named-ordered) (may-not n)
+    pub ended-waits : j ≡ Waits → Writing l s a k t i named o (refusedBy row12) o
+    ended-waits e = refused (λ h f. holds-waits (sym f ∙ e))
 
-      pub ended-fails : j ≡ Fails → Writing l s a k t i named o (Refused Invalid) o
-      ended-fails e = refused (λ h f. holds-fails (sym f ∙ e))
+    is-written : WrittenUpdate l s a op new
+    unfolding writtenAt
+    is-written = record {
+      by-author = refl;
+      with-operation = refl;
+      laid-out = bounded (w .asked) (w .sized);
+      at-most = encode-within new (bounded (w .asked) (w .sized)) .1;
+      of-rules = λ us stands. chosen-right l s us stands a op;
+    }
 
-      pub ended-waits : j ≡ Waits → Writing l s a k t i named o (Refused Invalid) o
-      ended-waits e = refused (λ h f. holds-waits (sym f ∙ e))
+    pub ended-short : (h : ℕ) → j ≡ Holds h → length o < n → Writing l s a k t i named o (refusedBy row11) o
+    ended-short h e g =
+        short new (w .asked .fits) (w .asked .author-small) (w .asked .named-good) (w .asked .named-ordered) (may h e) is-written
+        (subst (λ (m : ℕ). length o < m) (w .long) g)
 
-      pub ended-short : (h : ℕ) → j ≡ Holds h → length o < n → Writing l s a k t i named o (Refused Short) o
-      ended-short h e g =
-          short new (asked .fits) (asked .author-small) (asked .named-good) (asked .named-ordered) (may h e) is-written
-          (subst (λ (m : ℕ). length o < m) long g)
-
-      pub ended-written : (h : ℕ) → j ≡ Holds h → n ≤ length o → {o′ : List ℕ} {m : ℕ} → Prints o 0 b o′ m
-          → Writing l s a k t i named o (Written n) o′
-      ended-written h e g {o′} {m} p =
-          let c : length b ≡ n = ap length bytes-are ∙ sym long in
-          let q : m ≡ n = p .past ∙ zero-add (length b) ∙ c in
-          let put : o′ ≡ encode new ++ drop (length (encode new)) o =
-          p .fits (subst (λ (r : ℕ). r ≤ length o) (sym q) g)
-          ∙ ap (λ (r : ℕ). b ++ drop r o) (zero-add (length b) ∙ ap length bytes-are)
-          ∙ ap (λ (r : List ℕ). r ++ drop (length (encode new)) o) bytes-are in
-          rw (put, long)
-          (written new (asked .fits) (asked .author-small) (asked .named-good) (asked .named-ordered) (may h e) is-written
-          (subst (λ (r : ℕ). r ≤ length o) long g))
+    pub ended-written : (h : ℕ) → j ≡ Holds h → n ≤ length o → (b : List ℕ) → b ≡ encode new → {o′ : List ℕ} {m : ℕ} → Prints o 0 b o′ m
+        → Writing l s a k t i named o (putBytes n) o′
+    ended-written h e g b is {o′} {m} p =
+        let q : m ≡ n = p .past ∙ zero-add (length b) ∙ ap length is ∙ sym (w .long) in
+        let put : o′ ≡ encode new ++ drop (length (encode new)) o =
+        p .fits (subst (λ (r : ℕ). r ≤ length o) (sym q) g)
+        ∙ ap (λ (r : ℕ). b ++ drop r o) (zero-add (length b) ∙ ap length is)
+        ∙ ap (λ (r : List ℕ). r ++ drop (length (encode new)) o) is in
+        rw (put, w .long)
+        (written new (w .asked .fits) (w .asked .author-small) (w .asked .named-good) (w .asked .named-ordered) (may h e) is-written
+        (subst (λ (r : ℕ). r ≤ length o) (w .long) g))

@@ -1,6 +1,6 @@
 // Writing an update that rows 1, 4, 8 and 9 let through.
 ghost use Rattle.state.specs.View.{bookOf};
-ghost use Rattle.writing.specs.Write.{Writing, WellAsked};
+ghost use Rattle.writing.specs.Write.{wroteValues, Writing, WellAsked};
 use format::bounds::MAX_LENGTH;
 use judging::Judgement;
 use judging::judge_bytes;
@@ -26,8 +26,8 @@ pub fn write_asked(
     named: &[u8],
     out: &mut [u8],
 ) -> Wrote
-    requires { ⌜ WellAsked (bookOf ledger) (now store) author kind (now named) ⌝ }
-    ensures { λ r. ⌜ Writing (bookOf ledger) (now (store .entry)) author kind tag id (now (named .entry)) (now (out .entry)) r (now (out .exit)) ⌝ }
+    requires { ⌜ WellAsked (bookOf ledger) (now store) author (now named) ⌝ }
+    ensures { λ r. ⌜ Writing (bookOf ledger) (now (store .entry)) author kind tag id (now (named .entry)) (now (out .entry)) (wroteValues r) (now (out .exit)) ⌝ }
 {
     let mut bytes = [0u8; MAX_LENGTH];
     let end = writer::compose(ledger, store, author, kind, tag, id, named, &mut bytes);

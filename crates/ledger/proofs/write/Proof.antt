@@ -1,44 +1,66 @@
 -- `write` meets its contract: rows 1, 4, 8 and 9 in their order, then the update.
 -- Assumes nothing.
-use mathlib.Core.Path.{sym, _∙_}
+use mathlib.Core.Path.{_≡_, sym, _∙_}
+use mathlib.Core.Bool.{Bool, true, false, not}
 use borrow.Author.Needs.{needs}
 use borrow.Author.Tests.{not-true, not-false}
 use Rattle.writing.specs.Write.{unfit, author, layout, unordered}
 use Rattle.ledger.proofs.write.Statement.{statement}
 use Rattle.ledger.proofs.write.Tie as tie
 
+-- what the answer r of a call says of the test b
+answered : {r b v : Bool} → r ≡ b → r ≡ v → b ≡ v
+answered e f = sym e ∙ f
+
+passed : {r b : Bool} → r ≡ b → not r ≡ false → b ≡ true
+passed {r} e f = answered e (not-false r f)
+
+failed : {r b : Bool} → r ≡ b → not r ≡ true → b ≡ false
+failed {r} e f = answered e (not-true r f)
+
+ruleset rows = (needs, unfit, author, layout, unordered, answered, passed, failed)
+
+sound-requires : tie.Need-sound-requires
+sound-requires c κs = search needs
+
+returns : tie.Need-returns
+returns c = search rows
+
+returns-2 : tie.Need-returns-2
+returns-2 c = search rows
+
+bad-named-requires : tie.Need-bad-named-requires
+bad-named-requires c κs = search needs
+
+returns-3 : tie.Need-returns-3
+returns-3 c = search rows
+
+unordered-named-requires : tie.Need-unordered-named-requires
+unordered-named-requires c κs = search needs
+
+returns-4 : tie.Need-returns-4
+returns-4 c = search rows
+
+write-asked-requires : tie.Need-write-asked-requires
+write-asked-requires c κs = search rows
+
+same-length : tie.Need-same-length
+same-length c = search needs
+
+returns-5 : tie.Need-returns-5
+returns-5 c = search needs
+
 pub write-spec : {M : Type 1} → statement M
 write-spec =
     tie.close
     (tie.spec
-    (λ c κs. search needs)
-    (λ c. unfit (sym (c .before .sound .ensures) ∙ not-true _ (c .if1 .taken)))
-    (λ c.
-    let sound = c .before .before .sound in
-    author (sym (sound .ensures) ∙ not-false _ (c .before .if1 .left)) (c .if2 .taken))
-    (λ c κs. search needs)
-    (λ c.
-    let sound = c .before .before .before .before .sound in
-    let if1 = c .before .before .before .if1 in
-    let if2 = c .before .before .if2 in
-    layout (sym (sound .ensures) ∙ not-false _ (if1 .left)) (if2 .left) (sym (c .before .bad-named .ensures) ∙ c .if3 .taken))
-    (λ c κs. search needs)
-    (λ c.
-    let sound = c .before .before .before .before .before .before .sound in
-    let if1 = c .before .before .before .before .before .if1 in
-    let if2 = c .before .before .before .before .if2 in
-    let bad-named = c .before .before .before .bad-named in
-    let if3 = c .before .before .if3 in
-    unordered (sym (sound .ensures) ∙ not-false _ (if1 .left)) (if2 .left) (sym (bad-named .ensures) ∙ if3 .left) (sym (c .before .unordered-named .ensures) ∙ c .if4 .taken))
-    (λ c κs.
-    let sound = c .before .before .before .before .before .before .before .sound in
-    let if1 = c .before .before .before .before .before .before .if1 in
-    let if2 = c .before .before .before .before .before .if2 in
-    let bad-named = c .before .before .before .before .bad-named in
-    let if3 = c .before .before .before .if3 in
-    let unordered-named = c .before .before .unordered-named in
-    record { fits = (sym (sound .ensures) ∙ not-false _ (if1 .left)); author-small = if2 .left; named-good = sym (bad-named .ensures) ∙ if3 .left; named-ordered = sym (unordered-named .ensures) ∙ c .before .if4 .left })
-    (λ c. search needs)
-    (λ c.
-    let write-asked = c .before .before .write-asked in
-    write-asked .ensures))
+    sound-requires
+    returns
+    returns-2
+    bad-named-requires
+    returns-3
+    unordered-named-requires
+    returns-4
+    write-asked-requires
+    same-length
+    returns-5)

@@ -1,70 +1,105 @@
 -- `write_asked` meets its contract, by the judgement.
 -- Assumes nothing.
-use mathlib.Core.Path.{_≡_, refl, sym}
+use mathlib.Core.Path.{sym}
+use Prim.Native.Nat.{ℕ, _≤_}
+use native.Mathlib.Omega.{arith}
 use borrow.Author.Needs.{needs}
-use lib.ListN.{length}
 use lib.Seq.{length-take-le}
 use denote.Ref.{now}
+use Rattle.state.specs.State.{places}
 use Rattle.state.specs.Row1Laws.{sound→}
 use Rattle.state.specs.View.{bookOf}
-use Rattle.writing.proofs.WriteEnds.{ended-fails, ended-waits, ended-short, ended-written}
+use Rattle.state.proofs.Owning.{id-length}
+use Rattle.writing.proofs.WriteEnds.{Sized, Judged, cut-is, judged-by, ended-fails, ended-waits, ended-short, ended-written}
 use Rattle.writing.proofs.write_asked.Statement.{statement}
 use Rattle.writing.proofs.write_asked.Tie as tie
+
+few : (z : tie.Start) → bookOf (z .args .ledger) .used ≤ places
+few z = sound→ (bookOf (z .args .ledger)) (now (z .args .store)) (z .pre .fits) .few
+
+sized : (z : tie.Start) → Sized (bookOf (z .args .ledger)) (z .args .tag) (z .args .id)
+sized z = record {
+  tag-sized = search needs;
+  id-sized = search needs;
+  ids-sized = λ k h. id-length (z .args .ledger) _ (z .good .0) k (omega (arith, few z));
+}
+
+-- once the update is judged
+abbrev start : tie.After-judge-bytes → tie.Start
+start c = c .before .before .before .before .before .before .before .before
+
+abbrev composed : (c : tie.After-judge-bytes) → ℕ
+composed c = c .before .before .before .compose .result
+
+judged : (c : tie.After-judge-bytes)
+    → Judged (bookOf (start c .args .ledger)) (now (start c .args .store)) (start c .args .author) (start c .args .kind) (start c .args .tag)
+    (start c .args .id) (now (start c .args .named)) (composed c) (c .judge-bytes .result)
+judged c =
+    let compose = c .before .before .before .compose in
+    judged-by _ _ _ _ _ _ _ (start c .pre) (sized (start c)) (compose .ensures .0) (compose .ensures .1) (c .judge-bytes .ensures)
+
+slice-aggregate-compose : tie.Need-slice-aggregate-compose
+slice-aggregate-compose c = search needs
+
+compose-requires : tie.Need-compose-requires
+compose-requires c κs =
+    let z : tie.Start = c .before .before .before .before in (few z, z .pre .named-good)
+
+array-share-prefix-bytes : tie.Need-array-share-prefix-bytes
+array-share-prefix-bytes c = search needs
+
+slice-aggregate-update : tie.Need-slice-aggregate-update
+slice-aggregate-update c = sym (length-take-le (c .before .before .compose .result) _ (search needs))
+
+judge-bytes-requires : tie.Need-judge-bytes-requires
+judge-bytes-requires c κs = few (c .before .before .before .before .before .before .before)
+
+enum-told : tie.Need-enum-told
+enum-told c = search needs
+
+returns : tie.Need-returns
+returns c = ended-short _ _ _ _ _ _ _ (judged (c .before .before .before)) _ _ (c .before .enum-told .given .1) (c .if1 .taken)
+
+put-requires : tie.Need-put-requires
+put-requires c κs = search needs
+
+enum-told-2 : tie.Need-enum-told-2
+enum-told-2 c = search needs
+
+enum-told-3 : tie.Need-enum-told-3
+enum-told-3 c = search needs
+
+same-length : tie.Need-same-length
+same-length c = search needs
+
+returns-2 : tie.Need-returns-2
+returns-2 c =
+    let told = c .before .before .before .before .before in
+    let compose = told .before .before .before .before .before .compose in
+    ended-written _ _ _ _ _ _ _ (judged (told .before .before)) _ _ (told .enum-told .given .1) (c .before .before .before .before .if1 .left) _
+    (cut-is _ (compose .ensures .0) (compose .ensures .1)) (c .before .before .put .ensures)
+
+returns-3 : tie.Need-returns-3
+returns-3 c = ended-fails _ _ _ _ _ _ _ (judged (c .before .before)) _ (c .enum-told2 .given .1)
+
+returns-4 : tie.Need-returns-4
+returns-4 c = ended-waits _ _ _ _ _ _ _ (judged (c .before .before)) _ (c .enum-told3 .given .1)
 
 pub write-asked-spec : {M : Type 1} → statement M
 write-asked-spec =
     tie.close
     (tie.spec
-    (λ c. search needs)
-    (λ c κs.
-    let args = c .before .before .before .before .args in
-    let pre = c .before .before .before .before .pre in
-    (sound→ (bookOf (args .ledger)) (now (args .store)) (pre .fits) .few, pre .named-good))
-    (λ c. search needs)
-    (λ c.
-    let compose = c .before .before .compose in
-    sym (length-take-le (compose .result) _ (search needs)))
-    (λ c κs.
-    let args = c .before .before .before .before .before .before .before .args in
-    let pre = c .before .before .before .before .before .before .before .pre in
-    sound→ (bookOf (args .ledger)) (now (args .store)) (pre .fits) .few)
-    (λ c. search needs)
-    (λ c.
-    let x : length (c .before .before .before .before .before .before .before .before .before .before .before .args .tag) ≡ 16 = search needs in
-    let y : length (c .before .before .before .before .before .before .before .before .before .before .before .args .id) ≡ 32 = search needs in
-    let args = c .before .before .before .before .before .before .before .before .before .before .before .args in
-    let pre = c .before .before .before .before .before .before .before .before .before .before .before .pre in
-    let compose = c .before .before .before .before .before .before .compose in
-    let judge-bytes = c .before .before .before .judge-bytes in
-    ended-short (bookOf (args .ledger)) (now (args .store)) (args .author) (args .kind) (args .tag) (args .id) (now (args .named)) (pre) x y (compose .ensures .0) (compose .ensures .1) _ refl _ (judge-bytes .ensures) (now (args .out)) _ (c .before .enum-told .given .1) (c .if1 .taken))
-    (λ c κs. search needs)
-    (λ c. search needs)
-    (λ c. search needs)
-    (λ c. search needs)
-    (λ c.
-    let x : length (c .before .before .before .before .before .before .before .before .before .before .before .before .before .before .before .args .tag) ≡ 16 = search needs in
-    let y : length (c .before .before .before .before .before .before .before .before .before .before .before .before .before .before .before .args .id) ≡ 32 = search needs in
-    let args = c .before .before .before .before .before .before .before .before .before .before .before .before .before .before .before .args in
-    let pre = c .before .before .before .before .before .before .before .before .before .before .before .before .before .before .before .pre in
-    let compose = c .before .before .before .before .before .before .before .before .before .before .compose in
-    let judge-bytes = c .before .before .before .before .before .before .before .judge-bytes in
-    let enum-told = c .before .before .before .before .before .enum-told in
-    let if1 = c .before .before .before .before .if1 in
-    let put = c .before .before .put in
-    ended-written (bookOf (args .ledger)) (now (args .store)) (args .author) (args .kind) (args .tag) (args .id) (now (args .named)) (pre) x y (compose .ensures .0) (compose .ensures .1) _ refl _ (judge-bytes .ensures) (now (args .out)) _ (enum-told .given .1) (if1 .left) (put .ensures))
-    (λ c.
-    let x : length (c .before .before .before .before .before .before .before .before .before .before .args .tag) ≡ 16 = search needs in
-    let y : length (c .before .before .before .before .before .before .before .before .before .before .args .id) ≡ 32 = search needs in
-    let args = c .before .before .before .before .before .before .before .before .before .before .args in
-    let pre = c .before .before .before .before .before .before .before .before .before .before .pre in
-    let compose = c .before .before .before .before .before .compose in
-    let judge-bytes = c .before .before .judge-bytes in
-    ended-fails (bookOf (args .ledger)) (now (args .store)) (args .author) (args .kind) (args .tag) (args .id) (now (args .named)) (pre) x y (compose .ensures .0) (compose .ensures .1) _ refl _ (judge-bytes .ensures) (now (args .out)) (c .enum-told2 .given .1))
-    (λ c.
-    let x : length (c .before .before .before .before .before .before .before .before .before .before .args .tag) ≡ 16 = search needs in
-    let y : length (c .before .before .before .before .before .before .before .before .before .before .args .id) ≡ 32 = search needs in
-    let args = c .before .before .before .before .before .before .before .before .before .before .args in
-    let pre = c .before .before .before .before .before .before .before .before .before .before .pre in
-    let compose = c .before .before .before .before .before .compose in
-    let judge-bytes = c .before .before .judge-bytes in
-    ended-waits (bookOf (args .ledger)) (now (args .store)) (args .author) (args .kind) (args .tag) (args .id) (now (args .named)) (pre) x y (compose .ensures .0) (compose .ensures .1) _ refl _ (judge-bytes .ensures) (now (args .out)) (c .enum-told3 .given .1)))
+    slice-aggregate-compose
+    compose-requires
+    array-share-prefix-bytes
+    slice-aggregate-update
+    judge-bytes-requires
+    enum-told
+    returns
+    put-requires
+    enum-told-2
+    enum-told-3
+    same-length
+    returns-2
+    returns-3
+    returns-4)
