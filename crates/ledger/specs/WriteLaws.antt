@@ -11,7 +11,7 @@ use lib.Seq.{take-at, getD-append-seam}
 use Rattle.keys.specs.Member.{_∈_}
 use Rattle.keys.specs.BoolLaws.{true-false}
 use Rattle.fips180.specs.Fips180.{SHA-256}
-use Rattle.format.specs.Update.{Id, maxAuthor, Operation, Update, encode, WellFormed}
+use Rattle.format.specs.Update.{Id, maxAuthor, maxLength, Operation, Update, encode, WellFormed}
 use Rattle.format.specs.Decode.{refused, decode, update}
 use Rattle.format.specs.Laws.{decode-complete}
 use Rattle.rules.specs.Standing.{Ancestor, Held}
@@ -33,7 +33,7 @@ use Rattle.state.specs.TakeLaws.{stands-sound}
 use Rattle.operations.specs.declared.Kind.{Kind}
 use Rattle.operations.specs.declared.Kind.the-variants.{Add as AnAdd}
 use Rattle.operations.specs.Operations.{operationFor, badNamed, unorderedNamed}
-use Rattle.refusals.specs.Numbers.{row12, Output, putBytes, refusedBy}
+use Rattle.refusals.specs.Numbers.{row11, row12, Output, putBytes, refusedBy}
 use Rattle.offering.specs.Values.{OfferValues, takenAs}
 use Rattle.offering.specs.Offer.{OfferRow, unfit as not-fit, malformed, known, full, taken}
 use Rattle.ledger.specs.Calls.{says, only-held}
@@ -51,17 +51,21 @@ module _ (l : Book) (s : List ℕ) (a : ℕ) (k : Kind) (t : List ℕ) (i : Id) 
     pub may : (us : List Update) → Stands l s us → writableOf ident us a (operationFor k t i named) ≡ true
     pub is-written : WrittenUpdate l s a (operationFor k t i named) value
 
+  record RefusedSays (n : ℕ) : Type 0 where
+    void : n ≡ row12 → (us : List Update) → Stands l s us → writableOf ident us a (operationFor k t i named) ≡ false
+    short-of : n ≡ row11 → length o < maxLength
+
   abbrev WroteSays : Output → List ℕ → Type 0
   WroteSays (putBytes n) o′ = IsWritten n o′
-  WroteSays (refusedBy n) o′ = n ≡ row12 → (us : List Update) → Stands l s us → writableOf ident us a (operationFor k t i named) ≡ false
+  WroteSays (refusedBy n) o′ = RefusedSays n
 
   wrote-says : {w : Output} {o′ : List ℕ} → Writing l s a k t i named o w o′ → WroteSays w o′
-  wrote-says (unfit e) = λ q. absurd (omega arith)
-  wrote-says (author e h) = λ q. absurd (omega arith)
-  wrote-says (layout e h g) = λ q. absurd (omega arith)
-  wrote-says (unordered e h g f) = λ q. absurd (omega arith)
-  wrote-says (invalid e h g f n) = λ q. n
-  wrote-says (short u e h g f m w c) = λ q. absurd (omega arith)
+  wrote-says (unfit e) = record { void = λ q. absurd (omega arith); short-of = λ q. absurd (omega arith) }
+  wrote-says (author e h) = record { void = λ q. absurd (omega arith); short-of = λ q. absurd (omega arith) }
+  wrote-says (layout e h g) = record { void = λ q. absurd (omega arith); short-of = λ q. absurd (omega arith) }
+  wrote-says (unordered e h g f) = record { void = λ q. absurd (omega arith); short-of = λ q. absurd (omega arith) }
+  wrote-says (invalid e h g f n) = record { void = λ q. n; short-of = λ q. absurd (omega arith) }
+  wrote-says (short u e h g f m w c) = record { void = λ q. absurd (omega arith); short-of = λ q. omega (arith, w .at-most) }
   wrote-says (written u e h g f m w c) =
       record {
         value = u;
@@ -79,7 +83,11 @@ module _ (l : Book) (s : List ℕ) (a : ℕ) (k : Kind) (t : List ℕ) (i : Id) 
 
   pub says-invalid : {o′ : List ℕ} → Writing l s a k t i named o (refusedBy row12) o′
       → (us : List Update) → Stands l s us → writableOf ident us a (operationFor k t i named) ≡ false
-  says-invalid w = wrote-says w refl
+  says-invalid w = wrote-says w .void refl
+
+  -- a buffer of 533 bytes is never too short, whatever the ledger
+  pub says-short : {o′ : List ℕ} → Writing l s a k t i named o (refusedBy row11) o′ → length o < maxLength
+  says-short w = wrote-says w .short-of refl
 
 -- "Add: always valid": the writer never refuses one with row 12
 pub add-not-invalid : (l : Book) (s : List ℕ) (us : List Update) → Stands l s us → (a : ℕ) (t : List ℕ) (i : Id) (named o : List ℕ) {o′ : List ℕ}

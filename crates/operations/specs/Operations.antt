@@ -1,12 +1,12 @@
 -- The operation that is asked for, and what rows 8 and 9 say of the named ids' bytes.
 -- Assumes nothing.
-use Prim.Native.Nat.{ℕ, _*_, _/_, _%_}
+use Prim.Native.Nat.{ℕ, _+_, _*_, _/_, _%_}
 use mathlib.Core.List.{List}
 use mathlib.Core.Bool.{Bool, not, _||_}
 use lib.ListN.{length}
 use lib.Dec.{eqb, ltb}
 use Rattle.keys.specs.Order.{ascending}
-use Rattle.format.specs.Update.{Id, maxNamed, idLength, Operation, Add, Remove, Insert, Delete}
+use Rattle.format.specs.Update.{Id, maxNamed, idLength, tagLength, Operation, Add, Remove, Insert, Delete}
 use Rattle.format.specs.Decode.{idsAt}
 use Rattle.operations.specs.declared.Kind.{Kind}
 use Rattle.operations.specs.declared.Kind.the-variants.{Add as AnAdd, Remove as ARemove, Insert as AnInsert, Delete as ADelete}
@@ -18,6 +18,10 @@ namedIds named = idsAt named 0 (length named / idLength)
 -- the most bytes that named ids have: 256
 abbrev pub maxNamedLength : ℕ
 maxNamedLength = idLength * maxNamed
+
+-- the most bytes that an operation has, those of a Remove: the kind, the tag, the count and the named ids
+abbrev pub maxOperationLength : ℕ
+maxOperationLength = 1 + tagLength + 1 + maxNamedLength
 
 -- the operation of a kind: a tag or value of 16 bytes, an anchor or deleted id of 32, and the named ids as bytes; of these a kind has only its own
 unfoldable pub operationFor : Kind → List ℕ → Id → List ℕ → Operation

@@ -5,7 +5,7 @@ ghost use mathlib.Core.List.{_∷_};
 ghost use Prim.Native.Nat.{_+_, _≤_};
 ghost use Rattle.format.specs.Update.{Add, Remove, Insert, Delete, encodeOperation};
 ghost use Rattle.printing.specs.Page.{Prints};
-ghost use Rattle.operations.specs.Operations.{operationFor, namedIds, badNamed, unorderedNamed};
+ghost use Rattle.operations.specs.Operations.{operationFor, namedIds, maxOperationLength, badNamed, unorderedNamed};
 use format::bounds::ADD;
 use format::bounds::DELETE;
 use format::bounds::ID_LENGTH;
@@ -66,7 +66,7 @@ fn put_add(tag: [u8; 16], page: &mut [u8], at: usize) -> usize
 fn put_remove(tag: [u8; 16], named: &[u8], page: &mut [u8], at: usize) -> usize
     requires { ⌜ (at ≤ 3000) × (badNamed (now named) ≡ false) ⌝ }
     ensures prints { λ r. ⌜ Prints (now (page .entry)) at (encodeOperation (Remove tag (namedIds (now (named .entry))))) (now (page .exit)) r ⌝ }
-    ensures small { λ r. ⌜ r ≤ at + 274 ⌝ }
+    ensures small { λ r. ⌜ r ≤ at + maxOperationLength ⌝ }
 {
     let tagged = put_part(REMOVE, &tag, page, at);
     let count = [(named.len() / ID_LENGTH) as u8];
@@ -104,7 +104,7 @@ pub fn put_operation(
 ) -> usize
     requires { ⌜ (at ≤ 3000) × (badNamed (now named) ≡ false) ⌝ }
     ensures prints { λ r. ⌜ Prints (now (page .entry)) at (encodeOperation (operationFor kind tag id (now (named .entry)))) (now (page .exit)) r ⌝ }
-    ensures small { λ r. ⌜ r ≤ at + 274 ⌝ }
+    ensures small { λ r. ⌜ r ≤ at + maxOperationLength ⌝ }
 {
     match kind {
         Kind::Add => put_add(tag, page, at),

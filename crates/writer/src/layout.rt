@@ -2,6 +2,7 @@
 ghost use mathlib.Core.Path.{_≡_};
 ghost use mathlib.Core.List.{[], _∷_, map};
 ghost use Prim.Native.Nat.{ℕ, _+_, _*_, _≤_, _<_};
+ghost use Rattle.format.specs.Update.{maxPredecessors};
 ghost use Rattle.format.specs.Parts.{joined};
 ghost use Rattle.state.specs.State.{placeAt};
 ghost use Rattle.state.specs.View.{bookOf};
@@ -14,7 +15,7 @@ use state::Ledger;
 
 // The version, the author and the count of predecessors.
 pub fn put_header(author: u8, count: usize, page: &mut [u8]) -> usize
-    requires { ⌜ count ≤ 8 ⌝ }
+    requires { ⌜ count ≤ maxPredecessors ⌝ }
     ensures { λ r. ⌜ Prints (now (page .entry)) 0 (1 ∷ author ∷ count ∷ []) (now (page .exit)) r ⌝ }
 {
     let bytes = [VERSION, author, count as u8];

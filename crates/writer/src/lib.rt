@@ -2,9 +2,10 @@
 ghost use mathlib.Core.Path.{_≡_};
 ghost use mathlib.Core.Bool.{false};
 ghost use Prim.Native.Nat.{_≤_};
-ghost use Rattle.format.specs.Update.{encode};
+ghost use Rattle.format.specs.Update.{maxLength, encode};
 ghost use Rattle.printing.specs.Page.{Prints};
 ghost use Rattle.operations.specs.Operations.{operationFor, badNamed};
+ghost use Rattle.state.specs.State.{places};
 ghost use Rattle.state.specs.View.{bookOf};
 ghost use Rattle.writer.specs.Written.{writtenAt};
 
@@ -26,9 +27,9 @@ pub fn compose(
     named: &[u8],
     page: &mut [u8],
 ) -> usize
-    requires { ⌜ (bookOf l .used ≤ 64) × (badNamed (now named) ≡ false) ⌝ }
+    requires { ⌜ (bookOf l .used ≤ places) × (badNamed (now named) ≡ false) ⌝ }
     ensures prints { λ r. ⌜ Prints (now (page .entry)) 0 (encode (writtenAt (bookOf l) (now (store .entry)) author (operationFor kind tag id (now (named .entry))))) (now (page .exit)) r ⌝ }
-    ensures small { λ r. ⌜ r ≤ 533 ⌝ }
+    ensures small { λ r. ⌜ r ≤ maxLength ⌝ }
 {
     let places = chosen(l, store, author);
     let start = layout::put_header(author, places.count, page);
