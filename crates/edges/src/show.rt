@@ -79,12 +79,12 @@ pub fn compared(c: Compared) {
             decimal(second);
         }
         Compared::FirstUnreported(r) => {
-            text(b"first ");
-            refused(r);
+            text(b"first unreported ");
+            decimal(r.number() as usize);
         }
         Compared::SecondUnreported(r) => {
-            text(b"second ");
-            refused(r);
+            text(b"second unreported ");
+            decimal(r.number() as usize);
         }
     }
     text(b")\n");
