@@ -31,8 +31,7 @@ length-cases fill = go (leb fill maxLine) refl
 pub keeps-some : (buffer : List ℕ) (fill : ℕ) → length buffer ≡ maxLine → (line : List ℕ) × Keeps buffer fill line
 keeps-some buffer fill e =
     ⊎-elim (λ h. (take fill buffer, record { sized = e; kept = λ _. refl; longer = λ g. absurd (omega arith) }))
-    (λ h.
-    (
+    (λ h. (
       buffer ++ (0 ∷ []),
       record { sized = e; kept = λ g. absurd (omega arith); longer = λ _. omega (arith, length-append buffer (0 ∷ []), e) },
     ))

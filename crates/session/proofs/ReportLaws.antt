@@ -9,14 +9,11 @@ use Rattle.state.specs.State.{Book}
 use Rattle.refusals.specs.declared.Refusal.{Refusal}
 use Rattle.ledger.specs.declared.Reported.{Reported}
 use Rattle.ledger.specs.declared.Reported.the-variants.{Written as ReportWritten, Refused}
-use Rattle.ledger.specs.Report.{Reporting, unfit, short, written}
+use Rattle.ledger.specs.Report.{Reporting}
 use Rattle.session.specs.declared.Finished.the-variants.{Written, Unreported}
 use Rattle.session.specs.Feeding.{ReportsAt, reported, unreported}
+use Rattle.session.specs.FinishLaws.{report-within}
 use Rattle.session.proofs.OutLaws.{partFrom, withPart, part-is, part-length, with-is}
-
--- a report that is written lies within the buffer
-report-within : {l : Book} {s out o : List ℕ} {n : ℕ} → Reporting l s out (ReportWritten n) o → n ≤ length out
-report-within (written text e t j) = j
 
 module _ {l : Book} {s : List ℕ} (out : List ℕ) (at : ℕ) (inside : at ≤ length out) {r : Reported} {o : List ℕ} (p : Reporting l s (partFrom out at) r o) where
   lent : (x : Reported) → r ≡ x → Reporting l s (drop at out) x o

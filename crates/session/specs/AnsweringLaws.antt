@@ -66,8 +66,7 @@ unfolding linesOf lineAfter broken any
 lines-text line [] h = (refl, sym (append-nil line))
 lines-text line (b ∷ bs) h =
     let p = or-false→ (eqb b 10) (any (λ (k : ℕ). eqb k 10) bs) h in
-    let r = lines-text (line ++ (b ∷ [])) bs (p .1) in
-    (
+    let r = lines-text (line ++ (b ∷ [])) bs (p .1) in (
       ap (λ (t : Bool). cond t (readLine line ∷ linesOf [] bs) (linesOf (line ++ (b ∷ [])) bs)) (p .0) ∙ r .0,
       ap (λ (t : Bool). cond t (lineAfter [] bs) (lineAfter (line ++ (b ∷ [])) bs)) (p .0) ∙ r .1 ∙ append-assoc line (b ∷ []) bs,
     )
@@ -78,8 +77,7 @@ pub lines-ended : (line t : List ℕ) → broken t ≡ false
 unfolding linesOf lineAfter
 lines-ended line t h =
     let a = lines-append line t (10 ∷ []) in
-    let r = lines-text line t h in
-    (
+    let r = lines-text line t h in (
       a .0 ∙ ap (λ (os : List (Option (List ℕ))). os ++ (readLine (lineAfter line t) ∷ [])) (r .0) ∙ ap (λ (y : List ℕ). readLine y ∷ []) (r .1),
       a .1,
     )

@@ -24,6 +24,13 @@ use Rattle.session.specs.Answering.{AnswersLines, linesOf, lineAfter, la
 abbrev pub maxEnd : ℕ
 maxEnd = maxAnswer + 12000
 
+-- how many bytes of output an end comes to
+abbrev pub putOut : Finished → ℕ
+putOut (Written n) = n
+putOut (Unreported n e) = n
+putOut Short = 0
+putOut UnfitLine = 0
+
 -- From a ledger, store, line buffer and length to others, by a text: whatever line the buffer keeps, the lines that end in the text are answered one after the
 -- other; what they put out; and the buffer keeps the line that the text leaves begun. (A line buffer of maxLine bytes always keeps one: `keeps-some`.)
 pub record Moves (l : Ledger) (s buffer : List ℕ) (fill : ℕ) (text put : List ℕ) (l′ : Ledger) (s′ buffer′ : List ℕ) (fill′ : ℕ) : Type 0 where

@@ -24,9 +24,13 @@ use Rattle.session.specs.declared.Finished.{Finished}
 use Rattle.session.specs.declared.Finished.the-variants.{Written}
 use Rattle.session.specs.Session.{Machine, lastLine, finish}
 use Rattle.session.specs.AnsweringLaws.{last-answers}
-use Rattle.session.specs.Feeding.{maxEnd, ReportsAt, reported, unreported, LastLine, Finishes, ended}
+use Rattle.session.specs.Feeding.{maxEnd, putOut, ReportsAt, reported, unreported, LastLine, Finishes, ended}
 use Rattle.session.specs.Feeding as feeding
 use Rattle.session.specs.FeedLaws.{Follows}
+
+-- a report that is written lies within its buffer
+pub report-within : {l : Book} {s out o : List ℕ} {n : ℕ} → Reporting l s out (ReportWritten n) o → n ≤ length out
+report-within (written text e t j) = j
 
 -- a report of a ledger that stands has at most 12,000 bytes
 report-few : {l : Book} {s : List ℕ} (us : List Update) → Stands l s us → length (reportOf ident us) ≤ 12000
@@ -109,3 +113,16 @@ finish-output {out = out} {n = n} m f (ended r l′ s′ put out′ e h last p) 
     let o = reports-output m f out put h last p in
     let i : o .count ≡ n = cc in
     subst (λ (k : ℕ). m .out ++ take k out′ ≡ finish m) i (o .output)
+
+-- what is put out lies within the output buffer
+reports-within : {l : Book} {s out out′ : List ℕ} {at : ℕ} {r : Finished} → at ≤ length out → ReportsAt l s at out r out′ → putOut r ≤ length out
+reports-within {out = out} {at = at} h (reported n o p) = omega (arith, report-within p, length-drop at out)
+reports-within h (unreported e o p) = h
+
+pub finishes-within : {l : Ledger} {s buffer out s′ out′ : List ℕ} {fill : ℕ} {r : Finished} → Finishes l s buffer fill out r s′ out′ → putOut r ≤ length out
+finishes-within (feeding.unfit-line n) = omega arith
+finishes-within (feeding.short e n) = omega arith
+finishes-within {out = out} (ended r l′ s′ put out′ e h last p) =
+    let long : length (put ++ drop (length put) out) ≡ length out =
+    omega (arith, length-append put (drop (length put) out), length-drop (length put) out, last .short) in
+    subst (λ (n : ℕ). putOut r ≤ n) long (reports-within (omega (arith, last .short)) p)

@@ -1,10 +1,11 @@
 // The command's work on slices: input bytes to lines, lines to answers, and the report at the end. The input may come in pieces of any length.
+ghost use mathlib.Core.Path.{_≡_};
 ghost use Prim.Native.Nat.{_+_, _≤_};
 ghost use lib.ListN.{length};
 ghost use Rattle.state.specs.View.{bookOf};
 ghost use Rattle.answers.specs.Answers.{maxAnswer};
 ghost use Rattle.session.specs.Answering.{Answers};
-ghost use Rattle.session.specs.Feeding.{Feeding, ReportsAt, Finishes};
+ghost use Rattle.session.specs.Feeding.{putOut, Feeding, ReportsAt, Finishes};
 use answers::Begun;
 use answers::begin_answer;
 use answers::print_answer;
@@ -41,6 +42,20 @@ pub enum Finished {
     Short,
     // The line buffer has not MAX_LINE bytes.
     UnfitLine,
+}
+
+impl Finished {
+    // How many bytes of output.
+    pub fn written(self) -> usize
+        ensures { λ r. ⌜ r ≡ putOut self ⌝ }
+    {
+        match self {
+            Finished::Written(n) => n,
+            Finished::Unreported(n, _) => n,
+            Finished::Short => 0,
+            Finished::UnfitLine => 0,
+        }
+    }
 }
 
 // What the answer to a line comes to: the ledger, and where the output ends.
@@ -91,7 +106,8 @@ pub fn feed(
 ) -> Fed
     ensures { λ r. ⌜ Feeding ledger (now (store .entry)) (now (line .entry)) fill (now (input .entry)) (now (out .entry)) r (now (store .exit)) (now (line .exit)) (now (out .exit)) ⌝ }
 {
-    if line.len() != MAX_LINE {
+    let size = line.len();
+    if size != MAX_LINE {
         return Fed {
             ledger: ledger,
             fill: fill,
@@ -137,7 +153,13 @@ fn report_at(ledger: Ledger, store: &[u8], out: &mut [u8], at: usize) -> Finishe
 }
 
 // The end of the input: the answer to a last line that lacks its newline, and the report.
-pub fn finish(ledger: Ledger, store: &mut [u8], line: &[u8], fill: usize, out: &mut [u8]) -> Finished
+pub fn finish(
+    ledger: Ledger,
+    store: &mut [u8],
+    line: &[u8],
+    fill: usize,
+    out: &mut [u8],
+) -> Finished
     ensures { λ r. ⌜ Finishes ledger (now (store .entry)) (now (line .entry)) fill (now (out .entry)) r (now (store .exit)) (now (out .exit)) ⌝ }
 {
     if line.len() != MAX_LINE {

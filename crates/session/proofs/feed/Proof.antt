@@ -64,8 +64,7 @@ slice-aggregate-answer-line c = search needs
 answer-line-requires : tie.Need-answer-line-requires Inv-loop μ-loop
 answer-line-requires c κs =
     let t = at-take (at-ended c .before) in
-    let l = at-turn t .before .loop in
-    (
+    let l = at-turn t .before .loop in (
       omega (arith, l .inv .update-long),
       omega (arith, leb-true maxAnswer (length (l .out) - l .written) (at-room t .if2 .taken), l .inv .within-out, l .inv .out-kept),
     )
