@@ -106,8 +106,7 @@ pub fn feed(
 ) -> Fed
     ensures { λ r. ⌜ Feeding ledger (now (store .entry)) (now (line .entry)) fill (now (input .entry)) (now (out .entry)) r (now (store .exit)) (now (line .exit)) (now (out .exit)) ⌝ }
 {
-    let size = line.len();
-    if size != MAX_LINE {
+    if line.len() != MAX_LINE {
         return Fed {
             ledger: ledger,
             fill: fill,
@@ -162,7 +161,8 @@ pub fn finish(
 ) -> Finished
     ensures { λ r. ⌜ Finishes ledger (now (store .entry)) (now (line .entry)) fill (now (out .entry)) r (now (store .exit)) (now (out .exit)) ⌝ }
 {
-    if line.len() != MAX_LINE {
+    let size = line.len();
+    if size != MAX_LINE {
         return Finished::UnfitLine;
     }
     if out.len() < MAX_END {
