@@ -11,6 +11,7 @@ use Rattle.state.specs.State.{written}
 use Rattle.printing.specs.Page.{Prints}
 use Rattle.reading.specs.Reading.{maxLine}
 use Rattle.input.specs.Lines.{Appends, FirstNewline, Takes}
+use Rattle.input.specs.KeepLaws.{keeps-longer}
 
 module _ (buffer : List ℕ) (fill : ℕ) (text : List ℕ) where
   -- a line that gets too long
@@ -20,8 +21,8 @@ module _ (buffer : List ℕ) (fill : ℕ) (text : List ℕ) where
         keeps = λ line k.
             record {
               sized = k .sized;
-              counted = let g = h (k .sized) in omega (arith, k .counted, length-append line text);
               kept = λ g. absurd (omega arith);
+              longer = λ g. omega (arith, keeps-longer k (length text) (h (k .sized)), length-append line text);
             };
       }
 
@@ -42,8 +43,8 @@ module _ (buffer : List ℕ) (fill : ℕ) (text : List ℕ) where
               sized =
                   ap length w
                   ∙ omega (arith, length-append (line ++ text) (drop (fill + length text) buffer), length-drop (fill + length text) buffer, p .past, k .sized);
-              counted = omega (arith, k .sized, p .past);
               kept = λ h. ap (take r) w ∙ take-at (line ++ text) (drop (fill + length text) buffer) r m;
+              longer = λ h. absurd (omega (arith, k .sized, p .past));
             };
       }
 

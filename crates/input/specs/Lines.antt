@@ -1,7 +1,7 @@
 -- Lines as a lent buffer keeps them, assembled from pieces of the input.
 -- Assumes nothing.
 use mathlib.Core.Path.{_≡_}
-use Prim.Native.Nat.{ℕ, _+_, _-_, _≤_, _<_, min}
+use Prim.Native.Nat.{ℕ, _+_, _≤_, _<_}
 use mathlib.Core.List.{List, [], _∷_, _++_}
 use mathlib.Core.Bool.{Bool, true, false}
 use lib.ListN.{length, take, drop}
@@ -20,11 +20,11 @@ pub record FirstNewline (xs : List ℕ) (n : ℕ) : Type 0 where
   pub none-before : broken (take n xs) ≡ false
   pub here : n < length xs → drop n xs ≡ 10 ∷ drop (n + 1) xs
 
--- The line so far, as the line buffer keeps it: how long it is, with maxLine + 1 for every greater length; and its bytes, up to maxLine of them.
+-- The line so far, as a line buffer of maxLine bytes keeps it: its length and its bytes, up to maxLine of them; a greater length stands for every line that is longer.
 pub record Keeps (buffer : List ℕ) (fill : ℕ) (line : List ℕ) : Type 0 where
   pub sized : length buffer ≡ maxLine
-  pub counted : fill ≡ min (length line) (maxLine + 1)
   pub kept : fill ≤ maxLine → take fill buffer ≡ line
+  pub longer : maxLine < fill → maxLine < length line
 
 -- a line goes on with the text
 pub record Appends (buffer : List ℕ) (fill : ℕ) (text : List ℕ) (r : ℕ) (buffer′ : List ℕ) : Type 0 where

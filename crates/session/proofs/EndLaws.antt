@@ -1,82 +1,69 @@
--- The end of the input: a last line that lacks its newline is ended by one, and the report comes after its answer.
+-- The end of the input: a last line that is begun is answered, and the report comes after its answer.
 -- Assumes nothing.
-use mathlib.Core.Path.{_≡_, refl, sym, ap, subst, _∙_}
+use mathlib.Core.Path.{_≡_, refl, sym, ap, subst, subst₂, _∙_}
 use Prim.Native.Nat.{ℕ, _+_, _≤_}
+use native.Mathlib.Nat.{zero-add}
 use native.Mathlib.Omega.{arith}
-use mathlib.Core.List.{List, [], _∷_, _++_, append-assoc}
-use lib.ListN.{length, take, drop, length-append, length-drop}
-use lib.Seq.{length-take-le, take-append-le}
-use Rattle.rules.specs.Report.{reportOf}
+use mathlib.Core.List.{List, [], _∷_, _++_}
+use mathlib.Core.Option.{Option}
+use lib.ListN.{length, drop}
 use Rattle.state.specs.declared.Ledger.{Ledger}
+use Rattle.state.specs.State.{written}
 use Rattle.state.specs.View.{bookOf}
-use Rattle.state.specs.Stands.{ident}
-use Rattle.answers.specs.Answers.{maxAnswer}
-use Rattle.session.specs.declared.Fed.{Fed}
-use Rattle.session.specs.declared.Finished.the-variants.{Written}
-use Rattle.session.specs.Session.{Machine, endLine, feedByte, feed, lastLine, finish}
-use Rattle.session.specs.Feeding.{maxEnd, Follows, Feeds, Reports, Finishes, written}
+use Rattle.reading.specs.Reading.{maxLine, readLine}
+use Rattle.reading.specs.Line.{lineIn}
+use Rattle.input.specs.Lines.{Keeps}
+use Rattle.input.specs.KeepLaws.{keeps-read, keeps-unbegun, keeps-begun}
+use Rattle.session.specs.declared.Answered.{Answered}
+use Rattle.session.specs.declared.Finished.{Finished}
+use Rattle.session.specs.Answering.{AnswersLines, done, lastOf, Answers}
+use Rattle.session.specs.AnsweringLaws.{answers-one}
+use Rattle.session.specs.Feeding.{maxEnd, ReportsAt, LastLine, Finishes, ended}
 
-abbrev pub newline : List ℕ
-newline = 10 ∷ []
+no-last : (line : List ℕ) → length line ≡ 0 → lastOf line ≡ []
+unfolding lastOf
+no-last [] e = refl
+no-last (c ∷ cs) e = absurd (omega arith)
 
--- no line was begun, or the last one lacks its newline
-no-last : (m : Machine) (line : List ℕ) → length line ≡ 0 → lastLine m line ≡ m
-unfolding lastLine
-no-last m [] e = refl
-no-last m (x ∷ xs) e = absurd (omega arith)
+some-last : (line : List ℕ) → (length line ≡ 0 → ⊥) → lastOf line ≡ readLine line ∷ []
+unfolding lastOf
+some-last [] n = absurd (n refl)
+some-last (c ∷ cs) n = refl
 
-some-last : (m : Machine) (line : List ℕ) → (length line ≡ 0 → ⊥) → lastLine m line ≡ endLine m
-unfolding lastLine
-some-last m [] e = absurd (e refl)
-some-last m (x ∷ xs) e = refl
+module _ {l : Ledger} {s buffer : List ℕ} {fill : ℕ} (out : List ℕ) (sized : length buffer ≡ maxLine) (room : maxEnd ≤ length out) where
+  -- no line is begun
+  last-none : fill ≡ 0 → LastLine l s buffer fill l s []
+  last-none e =
+      record {
+        short = omega arith;
+        answers = λ line k. subst (λ (os : List (Option (List ℕ))). AnswersLines l s os l s []) (sym (no-last line (keeps-unbegun k e))) done;
+      }
 
--- the output, from the machine after the last line
-finish-is : (m k : Machine) → lastLine m (m .line) ≡ k → k .out ++ reportOf ident (k .stored) ≡ finish m
-unfolding finish
-finish-is m k e = sym (ap (λ (x : Machine). x .out ++ reportOf ident (x .stored)) e)
+  pub end-unbegun : fill ≡ 0 → {r : Finished} {out′ : List ℕ} → ReportsAt (bookOf l) s 0 out r out′ → Finishes l s buffer fill out r s out′
+  end-unbegun e {r} {out′} p = ended r l s [] out′ sized room (last-none e) p
 
-module _ {l : Ledger} {s buffer : List ℕ} {fill : ℕ} (out : List ℕ) (room : maxEnd ≤ length out) where
-  pub end-begun : fill ≡ 0 → {n : ℕ} {out′ : List ℕ} → Reports (bookOf l) s 0 out n out′ → Finishes l s buffer fill out (Written n) s buffer out′
-  end-begun e {n} {out′} r =
-      written n s buffer out′ room (r .within)
-      (λ m h.
-      ap (λ (x : List ℕ). m .out ++ x) (r .text (m .stored) (h .stands))
-      ∙ finish-is m m (no-last m (m .line) (omega (arith, h .keeps .counted))))
+  module _ (begun : fill ≡ 0 → ⊥) {a : Answered} {s′ out₁ : List ℕ} (w : Answers l s buffer fill out 0 a s′ out₁) where
+    last-some : LastLine l s buffer fill (a .ledger) s′ (w .text)
+    last-some =
+        record {
+          short = w .short;
+          answers = λ line k.
+              subst (λ (os : List (Option (List ℕ))). AnswersLines l s os (a .ledger) s′ (w .text))
+              (ap (λ (o : Option (List ℕ)). o ∷ []) (keeps-read k) ∙ sym (some-last line (keeps-begun k begun)))
+              (answers-one (w .answers));
+        }
 
-  module _ {r : Fed} {s′ buffer′ o : List ℕ} (f : Feeds l s buffer fill newline (take maxAnswer out) r s′ buffer′ o)
-      (kept : length o ≡ length (take maxAnswer out)) where
-    long : length o ≡ maxAnswer
-    long = kept ∙ length-take-le maxAnswer out (omega arith)
+    -- where the answer ends, and the buffer then
+    end-at : a .written ≡ length (w .text)
+    end-at = w .past ∙ zero-add (length (w .text))
 
-    all-long : length (o ++ drop maxAnswer out) ≡ length out
-    all-long = omega (arith, length-append o (drop maxAnswer out), length-drop maxAnswer out, long)
+    end-out : out₁ ≡ w .text ++ drop (length (w .text)) out
+    end-out = w .put ∙ ap (λ (n : ℕ). w .text ++ drop n out) (zero-add (length (w .text)))
 
-    pub end-room : r .written + 12000 ≤ length (o ++ drop maxAnswer out)
-    end-room = omega (arith, f .within-out, kept, long, all-long)
+    pub end-inside : length out₁ ≡ length out → a .written ≤ length out₁
+    end-inside e = omega (arith, end-at, w .short)
 
-    -- the newline is consumed
-    one : take (r .consumed) newline ≡ newline
-    one =
-        let some-consumed : 1 ≤ r .consumed = f .some-consumed (omega (arith, kept, long)) (omega arith) in
-        let e : r .consumed ≡ 1 = omega (arith, f .within-input) in
-        ap (λ (k : ℕ). take k newline) e
-
-    ended : (m : Machine) → feed m (take (r .consumed) newline) ≡ endLine m
-    unfolding feed feedByte
-    ended m = ap (feed m) one
-
-    pub end-line : (fill ≡ 0 → ⊥) → {n : ℕ} {out′ : List ℕ} → Reports (bookOf (r .ledger)) s′ (r .written) (o ++ drop maxAnswer out) n out′
-        → Finishes l s buffer fill out (Written n) s′ buffer′ out′
-    end-line begun {n} {out′} p =
-        written n s′ buffer′ out′ room (omega (arith, p .within, all-long))
-        (λ m h.
-        let k = endLine m in
-        let follows : Follows (r .ledger) s′ buffer′ (r .fill) k = subst (Follows (r .ledger) s′ buffer′ (r .fill)) (ended m) (f .follows m h) in
-        let put : k .out ≡ m .out ++ take (r .written) o = ap (λ (x : Machine). x .out) (sym (ended m)) ∙ f .puts-out m h in
-        let text : take n out′ ≡ take (r .written) o ++ reportOf ident (k .stored) =
-        p .text (k .stored) (follows .stands)
-        ∙ ap (λ (x : List ℕ). x ++ reportOf ident (k .stored)) (take-append-le (r .written) o (drop maxAnswer out) (omega (arith, f .within-out, kept))) in
-        ap (λ (x : List ℕ). m .out ++ x) text
-        ∙ sym (append-assoc (m .out) (take (r .written) o) (reportOf ident (k .stored)))
-        ∙ ap (λ (x : List ℕ). x ++ reportOf ident (k .stored)) (sym put)
-        ∙ finish-is m k (some-last m (m .line) (λ z. begun (omega (arith, h .keeps .counted)))))
+    pub end-line : {r : Finished} {out′ : List ℕ} → ReportsAt (bookOf (a .ledger)) s′ (a .written) out₁ r out′ → Finishes l s buffer fill out r s′ out′
+    end-line {r} {out′} p =
+        ended r (a .ledger) s′ (w .text) out′ sized room last-some
+        (subst₂ (λ (n : ℕ) (o : List ℕ). ReportsAt (bookOf (a .ledger)) s′ n o r out′) end-at end-out p)

@@ -1,5 +1,6 @@
 pub mod OutLaws
-pub mod ReportLaws
+pub mod LineLaws
 pub mod TurnLaws
 pub mod RunLaws
+pub mod ReportLaws
 pub mod EndLaws

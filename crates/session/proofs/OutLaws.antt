@@ -1,6 +1,6 @@
 -- The output buffer, of which the part from byte w on is lent and given back: a text at the start of that part comes after the first w bytes.
 -- Assumes nothing.
-use mathlib.Core.Path.{_≡_, refl, sym, ap, ap₂, subst, _∙_}
+use mathlib.Core.Path.{_≡_, refl, sym, ap, ap₂, _∙_}
 use Prim.Native.Nat.{ℕ, _+_, _-_, _≤_}
 use native.Mathlib.Nat.{zero-add}
 use native.Mathlib.Omega.{arith}
@@ -8,6 +8,7 @@ use mathlib.Core.List.{List, [], _++_, append-assoc, append-nil}
 use lib.ListN.{length, take, drop, length-append, length-drop, take-append-drop, drop-of-length-le}
 use lib.Seq.{length-take-le, take-all, take-at, drop-at, drop-drop}
 use Rattle.printing.specs.Page.{Prints}
+use Rattle.state.specs.State.{written}
 
 -- the text t comes after the first w bytes, the bytes after it keep their values, and w′ is its end
 pub record Extends (out : List ℕ) (w : ℕ) (t out′ : List ℕ) (w′ : ℕ) : Type 0 where
@@ -20,6 +21,21 @@ pub record Extends (out : List ℕ) (w : ℕ) (t out′ : List ℕ) (w′ : ℕ)
 -- no text
 pub extends-none : (out : List ℕ) (w : ℕ) → w ≤ length out → Extends out w [] out w
 extends-none out w h = record { past = omega arith; within = h; kept = refl; text = sym (append-nil (take w out)); rest = refl }
+
+-- a text that is written there
+pub extends-written : (out : List ℕ) (w : ℕ) (t : List ℕ) {out′ : List ℕ} {w′ : ℕ} → w + length t ≤ length out → w′ ≡ w + length t → out′ ≡ written out w t
+    → Extends out w t out′ w′
+extends-written out w t {out′} {w′} fits past e =
+    let rest = drop (w + length t) out in
+    let front : length (take w out ++ t) ≡ w′ = omega (arith, length-append (take w out) t, length-take-le w out (omega arith)) in
+    let whole : out′ ≡ (take w out ++ t) ++ rest = e ∙ sym (append-assoc (take w out) t rest) in
+    record {
+      past = past;
+      within = omega arith;
+      kept = ap length whole ∙ omega (arith, length-append (take w out ++ t) rest, length-drop (w + length t) out);
+      text = ap (take w′) whole ∙ take-at (take w out ++ t) rest w′ front;
+      rest = ap (drop w′) whole ∙ drop-at (take w out ++ t) rest w′ front ∙ ap (λ (n : ℕ). drop n out) (sym past);
+    }
 
 -- what is lent, and the buffer with o in its place
 abbrev pub partFrom : List ℕ → ℕ → List ℕ
@@ -35,49 +51,19 @@ module _ (out : List ℕ) (w : ℕ) (inside : w ≤ length out) where
   pub part-length : length (partFrom out w) ≡ length out - w
   part-length = ap length part-is ∙ length-drop w out
 
-  none-after : drop (length out - w) (drop w out) ≡ []
-  none-after = drop-of-length-le (drop w out) {i = length out - w} (omega (arith, length-drop w out))
+  -- nothing comes after the part
+  pub with-is : (o : List ℕ) → withPart out w o ≡ take w out ++ o
+  with-is o =
+      ap (λ (x : List ℕ). take w out ++ (o ++ x)) (drop-of-length-le (drop w out) {i = length out - w} (omega (arith, length-drop w out)))
+      ∙ ap (λ (x : List ℕ). take w out ++ x) (append-nil o)
 
-  -- the buffer keeps its length, and what is given back as it was lent changes nothing
-  pub with-length : (o : List ℕ) → length o ≡ length (partFrom out w) → length (withPart out w o) ≡ length out
-  with-length o e =
-      omega (
-        arith,
-        length-append (take w out) (o ++ drop (length out - w) (drop w out)),
-        length-append o (drop (length out - w) (drop w out)),
-        length-take-le w out inside,
-        part-length,
-        ap length none-after,
-      )
-
-  pub with-inside : (o : List ℕ) → length o ≡ length (partFrom out w) → w ≤ length (withPart out w o)
-  with-inside o e = omega (arith, with-length o e)
-
+  -- what is given back as it was lent changes nothing
   pub with-same : withPart out w (partFrom out w) ≡ out
-  with-same =
-      ap (λ (x : List ℕ). take w out ++ x) (take-append-drop (length out - w) (drop w out)) ∙ take-append-drop w out
+  with-same = with-is (partFrom out w) ∙ ap (λ (x : List ℕ). take w out ++ x) part-is ∙ take-append-drop w out
 
-  -- a text at the start of the part
-  pub puts : (t o : List ℕ) → w + length t ≤ length out → o ≡ t ++ drop (length t) (partFrom out w) → Extends out w t (withPart out w o) (w + length t)
-  puts t o fits e =
-      let n = w + length t in
-      let front : length (take w out ++ t) ≡ n = omega (arith, length-append (take w out) t, length-take-le w out inside) in
-      let whole : withPart out w o ≡ (take w out ++ t) ++ drop n out =
-      ap₂ (λ (x y : List ℕ). take w out ++ (x ++ y)) (e ∙ ap (λ (x : List ℕ). t ++ drop (length t) x) part-is) none-after
-      ∙ ap (λ (x : List ℕ). take w out ++ x) (append-nil (t ++ drop (length t) (drop w out)))
-      ∙ sym (append-assoc (take w out) t (drop (length t) (drop w out)))
-      ∙ ap (λ (x : List ℕ). (take w out ++ t) ++ x) (drop-drop (length t) w out) in
-      record {
-        past = refl;
-        within = fits;
-        kept = ap length whole ∙ omega (arith, length-append (take w out ++ t) (drop n out), length-drop n out);
-        text = ap (take n) whole ∙ take-at (take w out ++ t) (drop n out) n front;
-        rest = ap (drop n) whole ∙ drop-at (take w out ++ t) (drop n out) n front;
-      }
-
-  -- a text that is printed there
-  pub prints : {t o : List ℕ} {n : ℕ} → Prints (partFrom out w) 0 t o n → w + n ≤ length out → Extends out w t (withPart out w o) (w + n)
+  -- a text that is printed at the start of the part
+  pub prints : {t o : List ℕ} {n : ℕ} → Prints (partFrom out w) 0 t o n → w + n ≤ length out → withPart out w o ≡ written out w t
   prints {t} {o} {n} p fits =
-      let e : n ≡ length t = p .past ∙ zero-add (length t) in
-      subst (λ (k : ℕ). Extends out w t (withPart out w o) (w + k)) (sym e)
-      (puts t o (omega arith) (p .fits (omega (arith, part-length)) ∙ ap (λ (k : ℕ). t ++ drop k (partFrom out w)) (zero-add (length t))))
+      let text : o ≡ t ++ drop (length t) (drop w out) =
+      p .fits (omega (arith, part-length)) ∙ ap₂ (λ (k : ℕ) (x : List ℕ). t ++ drop k x) (zero-add (length t)) part-is in
+      with-is o ∙ ap (λ (x : List ℕ). take w out ++ x) (text ∙ ap (λ (x : List ℕ). t ++ x) (drop-drop (length t) w out))

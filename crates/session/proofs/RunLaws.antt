@@ -1,6 +1,6 @@
--- Feeding, turn after turn: where the machine is once some of the input is consumed and some of the output is written; and what that comes to at the end.
+-- Feeding, turn after turn: what was done once some of the input is consumed and some of the output is written; and what that comes to at the end.
 -- Assumes nothing.
-use mathlib.Core.Path.{_≡_, refl, sym, ap, subst, subst₂, _∙_}
+use mathlib.Core.Path.{_≡_, refl, sym, ap, subst₂, _∙_}
 use Prim.Native.Nat.{ℕ, _+_, _-_, _*_, _≤_, _<_}
 use native.Mathlib.Omega.{arith}
 use mathlib.Core.Bool.{true, false}
@@ -8,21 +8,15 @@ use mathlib.Core.List.{List, _++_}
 use lib.ListN.{length, take, drop}
 use lib.Seq.{take-add, drop-drop}
 use Rattle.state.specs.declared.Ledger.{Ledger}
-use Rattle.printing.specs.Page.{Prints}
-use Rattle.offering.specs.Values.{OfferValues}
-use Rattle.offering.specs.Offer.{OfferRow}
-use Rattle.offering.specs.Words.{valuesText}
 use Rattle.input.specs.declared.Assembled.{Assembled}
 use Rattle.input.specs.Lines.{Takes}
-use Rattle.answers.specs.declared.Begun.{Begun}
-use Rattle.answers.specs.declared.Begun.the-variants.{Unread, Offers}
-use Rattle.answers.specs.Answers.{maxAnswer, Begins}
-use Rattle.answers.proofs.AnswerLaws.{unread-past}
-use Rattle.answers.proofs.BeginLaws.{begun-unread, begun-offer}
-use Rattle.session.specs.Feeding.{Feeds}
-use Rattle.session.specs.FeedLaws.{Moves, moves-none, moves-then}
-use Rattle.session.proofs.OutLaws.{Extends, extends-none, partFrom, withPart, part-is, part-length, with-same, prints}
-use Rattle.session.proofs.TurnLaws.{turn-text, turn-unread, turn-offer}
+use Rattle.answers.specs.Answers.{maxAnswer}
+use Rattle.session.specs.declared.Answered.{Answered}
+use Rattle.session.specs.Answering.{Answers}
+use Rattle.session.specs.Feeding.{Moves, Feeds}
+use Rattle.session.specs.FeedLaws.{moves-none, moves-then}
+use Rattle.session.proofs.OutLaws.{Extends, extends-none, extends-written, partFrom, part-is, part-length}
+use Rattle.session.proofs.TurnLaws.{turn-text, turn-line}
 
 pub record Running (l : Ledger) (s buffer : List ℕ) (fill : ℕ) (input out : List ℕ) (l′ : Ledger) (s′ buffer′ out′ update : List ℕ) (fill′ consumed written : ℕ)
     : Type 0 where
@@ -94,57 +88,39 @@ module _ {l : Ledger} {s buffer input out : List ℕ} {fill : ℕ} where
           run-turn (turn-text t e) (extends-none out₁ written (omega (arith, run .within-out, run .out-kept))) (t .some-taken left) (t .within) (omega arith)
           refl bk (run .update-long)
 
-      module _ (e : a .ended ≡ true) (room : maxAnswer ≤ length out₁ - written) {update₂ : List ℕ} (uk : length update₂ ≡ 996) {r : Begun} {o : List ℕ}
-          (b : Begins buffer₂ (a .fill) (partFrom out₁ written) r update₂ o) where
-        -- the line ends, and is not read
-        pub run-unread : (n : ℕ) → r ≡ Unread n
-            → Running l s buffer fill input out l₁ s₁ buffer₂ (withPart out₁ written o) update₂ 0 (consumed + a .consumed) (written + n)
-        run-unread n q =
-            let u = begun-unread n b q in
-            run-turn (turn-unread t e (u .0)) (prints out₁ written (omega arith) (u .1) (omega (arith, unread-past (u .1)))) (t .some-taken left) (t .within)
-            (omega (arith, unread-past (u .1), u .1 .past)) refl bk uk
-
-        -- the line ends, and its bytes are offered
-        pub run-offer : (n : ℕ) → r ≡ Offers n → {v : OfferValues} {l₂ : Ledger} {s₂ : List ℕ} → OfferRow l₁ s₁ (take n update₂) v l₂ s₂ → length s₂ ≡ length s₁
-            → {o₂ : List ℕ} {k : ℕ} → Prints (partFrom (withPart out₁ written o) written) 0 (valuesText v) o₂ k → k ≤ maxAnswer
-            → Running l s buffer fill input out l₂ s₂ buffer₂ (withPart (withPart out₁ written o) written o₂) update₂ 0 (consumed + a .consumed)
-            (written + k)
-        run-offer n q {v} {l₂} {s₂} x sk {o₂} {k} p short =
-            let u = begun-offer n b q in
-            let inside : written ≤ length out₁ = omega arith in
-            let same : withPart out₁ written o ≡ out₁ = ap (withPart out₁ written) (u .2) ∙ with-same out₁ written inside in
-            let p₁ : Prints (partFrom out₁ written) 0 (valuesText v) o₂ k =
-            subst (λ (y : List ℕ). Prints (partFrom y written) 0 (valuesText v) o₂ k) same p in
-            subst
-            (λ (y : List ℕ).
-            Running l s buffer fill input out l₂ s₂ buffer₂ (withPart y written o₂) update₂ 0 (consumed + a .consumed) (written + k))
-            (sym same)
-            (run-turn (turn-offer t e (u .0) x) (prints out₁ written inside p₁ (omega arith)) (t .some-taken left) (t .within) (omega (arith, p₁ .past)) sk bk uk)
+      -- the line ends, and is answered
+      pub run-line : a .ended ≡ true → {r : Answered} {s₂ out₂ update₂ : List ℕ} → Answers l₁ s₁ buffer₂ (a .fill) out₁ written r s₂ out₂
+          → maxAnswer ≤ length out₁ - written → length s₂ ≡ length s₁ → length update₂ ≡ 996
+          → Running l s buffer fill input out (r .ledger) s₂ buffer₂ out₂ update₂ 0 (consumed + a .consumed) (r .written)
+      run-line e {r} {s₂} {out₂} w room sk uk =
+          run-turn (turn-line t e (w .answers))
+          (extends-written out₁ written (w .text) (omega (arith, w .short, run .within-out, run .out-kept)) (w .past) (w .put))
+          (t .some-taken left) (t .within) (w .short) sk bk uk
 
     -- all is consumed
     pub run-ends : length input ≤ consumed
-        → Feeds l s buffer fill input out (record { ledger = l₁; fill = fill₁; consumed = consumed; written = written }) s₁ buffer₁ out₁
+        → Feeds l s buffer fill input out (record { ledger = l₁; fill = fill₁; consumed = consumed; written = written; refused = false }) s₁ buffer₁ out₁
     run-ends h =
         record {
+          accepted = refl;
           within-input = run .within-input;
           within-out = run .within-out;
           goes-on = λ g. omega (arith, run .within-input);
           some-consumed = λ g j. omega arith;
           rest-kept = run .rest-kept;
-          follows = run .moves .follows;
-          puts-out = run .moves .puts-out;
+          moves = run .moves;
         }
 
     -- there is no room for another answer
     pub run-full : length out < written + maxAnswer
-        → Feeds l s buffer fill input out (record { ledger = l₁; fill = fill₁; consumed = consumed; written = written }) s₁ buffer₁ out₁
+        → Feeds l s buffer fill input out (record { ledger = l₁; fill = fill₁; consumed = consumed; written = written; refused = false }) s₁ buffer₁ out₁
     run-full h =
         record {
+          accepted = refl;
           within-input = run .within-input;
           within-out = run .within-out;
           goes-on = λ g. absurd (omega arith);
           some-consumed = λ g j. omega (arith, run .slow);
           rest-kept = run .rest-kept;
-          follows = run .moves .follows;
-          puts-out = run .moves .puts-out;
+          moves = run .moves;
         }

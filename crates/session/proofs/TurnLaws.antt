@@ -1,90 +1,47 @@
--- One turn of feeding: what a piece of a line, an unread line and an offer do to a followed machine; and that an offer's answer is printable.
+-- One turn of feeding: what a piece of a line does, and a line that ends and is answered.
 -- Assumes nothing.
 use mathlib.Core.Path.{_≡_, sym, ap, subst, _∙_}
-use Prim.Native.Nat.{ℕ, _≤_}
-use native.Mathlib.Omega.{arith}
-use mathlib.Core.List.{List, [], _++_, append-nil}
-use mathlib.Core.Option.{Option, none, some}
+use Prim.Native.Nat.{ℕ}
+use mathlib.Core.List.{List, [], _∷_, _++_, append-nil}
+use mathlib.Core.Option.{Option}
 use mathlib.Core.Bool.{Bool, true, false}
 use lib.ListN.{take}
-use Rattle.bits.specs.BelowLaws.{countBelow-le}
-use Rattle.rules.specs.Report.{ascii}
 use Rattle.state.specs.declared.Ledger.{Ledger}
-use Rattle.state.specs.declared.Standing.{Standing}
-use Rattle.state.specs.View.{bookOf}
-use Rattle.state.specs.State.{Book, placeAt, isHeld, isVoid, countOf}
-use Rattle.offering.specs.Values.{OfferValues}
-use Rattle.offering.specs.Offer.{OfferRow, unfit, malformed, known, full, taken}
-use Rattle.offering.specs.Words.{valuesText}
-use Rattle.ledger.specs.Calls.{offer-stands}
-use Rattle.ledger.specs.Answers.{answer-right}
-use Rattle.input.specs.declared.Assembled.{Assembled}
+use Rattle.reading.specs.Reading.{readLine}
 use Rattle.reading.specs.Line.{lineIn}
+use Rattle.input.specs.declared.Assembled.{Assembled}
 use Rattle.input.specs.Lines.{Keeps, Takes, ending}
 use Rattle.input.specs.KeepLaws.{keeps-none, keeps-read}
-use Rattle.answers.specs.Answers.{Printable}
-use Rattle.session.specs.Session.{Machine, answerLine, endLine, feed}
-use Rattle.session.specs.Feeding.{Follows}
-use Rattle.session.specs.FeedLaws.{withText, feed-text, feed-line, Moves}
-
--- a count over the places is at most 64
-count-few : (p : Standing → Bool) (l : Book) → countOf p l ≤ l .used
-unfolding countOf
-count-few p l = countBelow-le (l .used) (λ (k : ℕ). p (placeAt l k .standing))
-
-pub offering-printable : {l r : Ledger} {s b s′ : List ℕ} {v : OfferValues} → OfferRow l s b v r s′ → Printable v
-offering-printable (unfit e) = tt
-offering-printable (malformed n e d) = tt
-offering-printable (known u k e d f) = tt
-offering-printable (full u e d f n) = tt
-offering-printable (taken u r e d f n t) = (omega (arith, count-few isHeld (bookOf r), t .used-next), omega (arith, count-few isVoid (bookOf r), t .used-next))
+use Rattle.session.specs.Answering.{AnswersLine, AnswersLines, done, linesOf, lineAfter}
+use Rattle.session.specs.AnsweringLaws.{answers-one, lines-text, lines-ended}
+use Rattle.session.specs.Feeding.{Moves}
 
 module _ {buffer buffer′ input : List ℕ} {fill : ℕ} {a : Assembled} (t : Takes buffer fill input a buffer′) where
-  fed-text : a .ended ≡ false → (m : Machine) → feed m (take (a .consumed) input) ≡ withText m (t .text)
-  fed-text e m =
-      ap (feed m) (t .consumes ∙ ap (λ (b : Bool). t .text ++ ending b) e ∙ append-nil (t .text)) ∙ feed-text m (t .text) (t .whole)
+  taken : (b : Bool) → a .ended ≡ b → take (a .consumed) input ≡ t .text ++ ending b
+  taken b e = t .consumes ∙ ap (λ (x : Bool). t .text ++ ending x) e
 
-  fed-line : a .ended ≡ true → (m : Machine) → feed m (take (a .consumed) input) ≡ endLine (withText m (t .text))
-  fed-line e m = ap (feed m) (t .consumes ∙ ap (λ (b : Bool). t .text ++ ending b) e) ∙ feed-line m (t .text) (t .whole)
+  -- the line goes on
+  pub turn-text : {l : Ledger} {s : List ℕ} → a .ended ≡ false → Moves l s buffer fill (take (a .consumed) input) [] l s buffer′ (a .fill)
+  turn-text {l} {s} e =
+      let x : take (a .consumed) input ≡ t .text = taken false e ∙ append-nil (t .text) in
+      record {
+        answers = λ line k.
+            subst (λ (os : List (Option (List ℕ))). AnswersLines l s os l s []) (sym (ap (linesOf line) x ∙ lines-text line (t .text) (t .whole) .0)) done;
+        keeps = λ line k.
+            subst (Keeps buffer′ (a .fill)) (sym (ap (lineAfter line) x ∙ lines-text line (t .text) (t .whole) .1)) (t .keeps line k);
+      }
 
-  module _ {l : Ledger} {s : List ℕ} where
-    -- the line goes on
-    pub turn-text : a .ended ≡ false → Moves l s buffer fill (take (a .consumed) input) [] l s buffer′ (a .fill)
-    turn-text e =
-        record {
-          follows = λ m h. subst (Follows l s buffer′ (a .fill)) (sym (fed-text e m)) (record { stands = h .stands; keeps = t .keeps (m .line) (h .keeps) });
-          puts-out = λ m h. ap (λ (n : Machine). n .out) (fed-text e m) ∙ sym (append-nil (m .out));
-        }
-
-    module _ (e : a .ended ≡ true) where
-      answered : (o : Option (List ℕ)) → lineIn buffer′ (a .fill) ≡ o → (m : Machine) → Follows l s buffer fill m
-          → feed m (take (a .consumed) input) ≡ answerLine (withText m (t .text)) o
-      unfolding endLine
-      answered o q m h =
-          fed-line e m ∙ ap (answerLine (withText m (t .text))) (sym (keeps-read (t .keeps (m .line) (h .keeps))) ∙ q)
-
-      begun : (m : Machine) → Follows l s buffer fill m → Keeps buffer′ 0 []
-      begun m h = keeps-none (t .keeps (m .line) (h .keeps) .sized)
-
-      -- the line ends, and is not read
-      pub turn-unread : lineIn buffer′ (a .fill) ≡ none → Moves l s buffer fill (take (a .consumed) input) (ascii "(unread)\n") l s buffer′ 0
-      unfolding answerLine
-      turn-unread q =
-          record {
-            follows = λ m h. subst (Follows l s buffer′ 0) (sym (answered none q m h)) (record { stands = h .stands; keeps = begun m h });
-            puts-out = λ m h. ap (λ (n : Machine). n .out) (answered none q m h);
-          }
-
-      -- the line ends, and its bytes are offered
-      pub turn-offer : {b : List ℕ} {v : OfferValues} {r : Ledger} {s′ : List ℕ} → lineIn buffer′ (a .fill) ≡ some b → OfferRow l s b v r s′
-          → Moves l s buffer fill (take (a .consumed) input) (valuesText v) r s′ buffer′ 0
-      unfolding answerLine
-      turn-offer {b} {v} {r} {s′} q o =
-          record {
-            follows = λ m h.
-                subst (Follows r s′ buffer′ 0) (sym (answered (some b) q m h))
-                (record { stands = offer-stands l s (m .stored) (h .stands) b o; keeps = begun m h });
-            puts-out = λ m h.
-                ap (λ (n : Machine). n .out) (answered (some b) q m h)
-                ∙ ap (λ (x : List ℕ). m .out ++ x) (sym (ap valuesText (answer-right l s (m .stored) (h .stands) b o)));
-          }
+  -- the line ends, and is answered
+  pub turn-line : {l l′ : Ledger} {s s′ u : List ℕ} → a .ended ≡ true → AnswersLine l s (lineIn buffer′ (a .fill)) l′ s′ u
+      → Moves l s buffer fill (take (a .consumed) input) u l′ s′ buffer′ 0
+  turn-line {l} {l′} {s} {s′} {u} e w =
+      let x = taken true e in
+      record {
+        answers = λ line k.
+            let reads : linesOf line (take (a .consumed) input) ≡ lineIn buffer′ (a .fill) ∷ [] =
+            ap (linesOf line) x ∙ lines-ended line (t .text) (t .whole) .0
+            ∙ ap (λ (o : Option (List ℕ)). o ∷ []) (sym (keeps-read (t .keeps line k))) in
+            subst (λ (os : List (Option (List ℕ))). AnswersLines l s os l′ s′ u) (sym reads) (answers-one w);
+        keeps = λ line k.
+            subst (Keeps buffer′ 0) (sym (ap (lineAfter line) x ∙ lines-ended line (t .text) (t .whole) .1)) (keeps-none (t .keeps line k .sized));
+      }

@@ -1,60 +1,64 @@
--- Laws of the machine: what it does with one text after another, with a text inside a line, and with the end of a line; and what a call, or a row of calls, does to a
--- followed machine.
+-- Where a ledger, its store and a line buffer are where a machine is: what a call, or a row of calls, of `feed` does to them. And for every ledger: the ledger and the
+-- store that come back are those of calls of `offer`.
 -- Assumes nothing.
-use mathlib.Core.Path.{_≡_, refl, sym, ap, subst, _∙_}
+use mathlib.Core.Path.{_≡_, refl, sym, subst}
 use Prim.Native.Nat.{ℕ}
-use mathlib.Core.List.{List, [], _∷_, _++_, append-assoc, append-nil}
-use mathlib.Core.Bool.{Bool, false, cond}
-use lib.Dec.{eqb}
-use Rattle.keys.specs.BoolLaws.{or-false→}
-use Rattle.keys.specs.Member.{any}
+use mathlib.Core.List.{List, [], _++_}
+use mathlib.Core.Option.{Option}
+use lib.ListN.{length}
 use Rattle.state.specs.declared.Ledger.{Ledger}
-use Rattle.input.specs.Lines.{broken}
-use Rattle.session.specs.Session.{Machine, endLine, feedByte, feed}
-use Rattle.session.specs.Feeding.{Follows}
+use Rattle.state.specs.View.{bookOf}
+use Rattle.state.specs.Stands.{Stands}
+use Rattle.ledger.specs.Calls.{Calls}
+use Rattle.reading.specs.Reading.{maxLine}
+use Rattle.input.specs.Lines.{Keeps}
+use Rattle.input.specs.KeepLaws.{keeps-some}
+use Rattle.session.specs.declared.Fed.{Fed}
+use Rattle.session.specs.Session.{Machine, feed}
+use Rattle.session.specs.Answering.{AnswersLines, done, linesOf, lineAfter}
+use Rattle.session.specs.AnsweringLaws.{answers-then, answers-calls, lines-append, feed-begins, feed-answers}
+use Rattle.session.specs.Feeding.{Moves, Feeds, Feeding, refused, fed}
 
--- the line so far goes on with the text
-abbrev pub withText : Machine → List ℕ → Machine
-withText m t = record { stored = m .stored; line = m .line ++ t; out = m .out }
-
-pub feed-append : (m : Machine) (xs ys : List ℕ) → feed m (xs ++ ys) ≡ feed (feed m xs) ys
-unfolding feed
-feed-append m [] ys = refl
-feed-append m (x ∷ xs) ys = feed-append (feedByte m x) xs ys
-
--- a text without a newline only goes on with the line
-pub feed-text : (m : Machine) (t : List ℕ) → broken t ≡ false → feed m t ≡ withText m t
-unfolding feed feedByte broken any
-feed-text m [] h = ap (λ (l : List ℕ). record { stored = m .stored; line = l; out = m .out }) (sym (append-nil (m .line)))
-feed-text m (b ∷ bs) h =
-    let p = or-false→ (eqb b 10) (any (λ (k : ℕ). eqb k 10) bs) h in
-    ap (λ (t : Bool). feed (cond t (endLine m) (withText m (b ∷ []))) bs) (p .0)
-    ∙ feed-text (withText m (b ∷ [])) bs (p .1)
-    ∙ ap (λ (l : List ℕ). record { stored = m .stored; line = l; out = m .out }) (append-assoc (m .line) (b ∷ []) bs)
-
--- a newline ends the line
-pub feed-line : (m : Machine) (t : List ℕ) → broken t ≡ false → feed m (t ++ (10 ∷ [])) ≡ endLine (withText m t)
-unfolding feed feedByte
-feed-line m t h = feed-append m t (10 ∷ []) ∙ ap (λ (n : Machine). feed n (10 ∷ [])) (feed-text m t h)
-
--- From a ledger, store, line buffer and length to others: a machine that these follow and that is fed xs is followed by those, and has put out ys.
-pub record Moves (l : Ledger) (s buffer : List ℕ) (fill : ℕ) (xs ys : List ℕ) (l′ : Ledger) (s′ buffer′ : List ℕ) (fill′ : ℕ) : Type 0 where
-  pub follows : (m : Machine) → Follows l s buffer fill m → Follows l′ s′ buffer′ fill′ (feed m xs)
-  pub puts-out : (m : Machine) → Follows l s buffer fill m → feed m xs .out ≡ m .out ++ ys
+-- a line buffer of maxLine bytes is not refused
+pub feeding-feeds : {l : Ledger} {s buffer input out s′ buffer′ out′ : List ℕ} {fill : ℕ} {r : Fed} → Feeding l s buffer fill input out r s′ buffer′ out′
+    → length buffer ≡ maxLine → Feeds l s buffer fill input out r s′ buffer′ out′
+feeding-feeds (refused n) e = absurd (n e)
+feeding-feeds (fed r s′ buffer′ out′ e f) _ = f
 
 pub moves-none : {l : Ledger} {s buffer : List ℕ} {fill : ℕ} → Moves l s buffer fill [] [] l s buffer fill
-unfolding feed
-moves-none = record { follows = λ m h. h; puts-out = λ m h. sym (append-nil (m .out)) }
+unfolding linesOf lineAfter
+moves-none = record { answers = λ line k. done; keeps = λ line k. k }
 
 pub moves-then : {l l₁ l′ : Ledger} {s s₁ s′ buffer buffer₁ buffer′ xs xs′ ys ys′ : List ℕ} {fill fill₁ fill′ : ℕ}
     → Moves l s buffer fill xs ys l₁ s₁ buffer₁ fill₁ → Moves l₁ s₁ buffer₁ fill₁ xs′ ys′ l′ s′ buffer′ fill′
     → Moves l s buffer fill (xs ++ xs′) (ys ++ ys′) l′ s′ buffer′ fill′
-moves-then {l′ = l′} {s′ = s′} {buffer′ = buffer′} {xs = xs} {xs′ = xs′} {ys = ys} {ys′ = ys′} {fill′ = fill′} a b =
+moves-then {l} {l′ = l′} {s} {s′ = s′} {buffer′ = buffer′} {xs = xs} {xs′ = xs′} {ys = ys} {ys′ = ys′} {fill′ = fill′} a b =
     record {
-      follows = λ m h. subst (λ (n : Machine). Follows l′ s′ buffer′ fill′ n) (sym (feed-append m xs xs′)) (b .follows (feed m xs) (a .follows m h));
-      puts-out = λ m h.
-          ap (λ (n : Machine). n .out) (feed-append m xs xs′)
-          ∙ b .puts-out (feed m xs) (a .follows m h)
-          ∙ ap (λ (o : List ℕ). o ++ ys′) (a .puts-out m h)
-          ∙ append-assoc (m .out) ys ys′;
+      answers = λ line k.
+          subst (λ (os : List (Option (List ℕ))). AnswersLines l s os l′ s′ (ys ++ ys′)) (sym (lines-append line xs xs′ .0))
+          (answers-then (a .answers line k) (b .answers (lineAfter line xs) (a .keeps line k)));
+      keeps = λ line k. subst (Keeps buffer′ fill′) (sym (lines-append line xs xs′ .1)) (b .keeps (lineAfter line xs) (a .keeps line k));
     }
+
+-- For every ledger and store, and a line buffer of maxLine bytes: the ledger and the store that come back are those of calls of `offer`.
+pub moves-calls : {l l′ : Ledger} {s s′ buffer buffer′ xs ys : List ℕ} {fill fill′ : ℕ} → length buffer ≡ maxLine
+    → Moves l s buffer fill xs ys l′ s′ buffer′ fill′ → (bs : List (List ℕ)) × Calls l s bs l′ s′
+moves-calls {buffer = buffer} {fill = fill} e m = let k = keeps-some buffer fill e in (_, answers-calls (m .answers (k .0) (k .1)))
+
+-- the ledger, its store and the line so far are where the machine is
+pub record Follows (l : Ledger) (s buffer : List ℕ) (fill : ℕ) (m : Machine) : Type 0 where
+  pub stands : Stands (bookOf l) s (m .stored)
+  pub keeps : Keeps buffer fill (m .line)
+
+-- they stay where it is, and the machine puts out the same
+module _ {l l′ : Ledger} {s s′ buffer buffer′ xs ys : List ℕ} {fill fill′ : ℕ} (m : Machine) (f : Follows l s buffer fill m)
+    (v : Moves l s buffer fill xs ys l′ s′ buffer′ fill′) where
+  pub moves-follows : Follows l′ s′ buffer′ fill′ (feed m xs)
+  moves-follows =
+      record {
+        stands = feed-answers m xs (f .stands) (v .answers (m .line) (f .keeps)) .0;
+        keeps = subst (Keeps buffer′ fill′) (sym (feed-begins m xs)) (v .keeps (m .line) (f .keeps));
+      }
+
+  pub moves-out : feed m xs .out ≡ m .out ++ ys
+  moves-out = feed-answers m xs (f .stands) (v .answers (m .line) (f .keeps)) .1

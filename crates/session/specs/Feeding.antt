@@ -1,34 +1,45 @@
 -- The command's work in pieces: what feeding a piece of the input promises, and the end of the input, for every ledger, store, line buffer, piece and output
--- buffer. For a ledger or a line that no calls from a fresh ledger have led to, the output is left free.
+-- buffer.
 -- Assumes nothing.
 use mathlib.Core.Path.{_≡_}
 use Prim.Native.Nat.{ℕ, _+_, _≤_, _<_}
 use mathlib.Core.List.{List, _++_}
+use mathlib.Core.Bool.{true, false}
 use lib.ListN.{length, take, drop}
-use Rattle.format.specs.Update.{Update}
-use Rattle.rules.specs.Report.{reportOf}
 use Rattle.state.specs.declared.Ledger.{Ledger}
 use Rattle.state.specs.State.{Book}
 use Rattle.state.specs.View.{bookOf}
-use Rattle.state.specs.Stands.{ident, Stands}
+use Rattle.refusals.specs.declared.Refusal.{Refusal}
+use Rattle.ledger.specs.declared.Reported.the-variants.{Written as ReportWritten, Refused}
+use Rattle.ledger.specs.Report.{Reporting}
+use Rattle.reading.specs.Reading.{maxLine}
 use Rattle.input.specs.Lines.{Keeps}
 use Rattle.answers.specs.Answers.{maxAnswer}
 use Rattle.session.specs.declared.Fed.{Fed}
 use Rattle.session.specs.declared.Finished.{Finished}
-use Rattle.session.specs.declared.Finished.the-variants.{Written, Short}
-use Rattle.session.specs.Session.{Machine, feed, finish}
+use Rattle.session.specs.declared.Finished.the-variants.{Written, Unreported, Short, UnfitLine}
+use Rattle.session.specs.Answering.{AnswersLines, linesOf, lineAfter, lastOf}
 
 -- the longest end of an output: an answer and a report
 abbrev pub maxEnd : ℕ
 maxEnd = maxAnswer + 12000
 
--- the ledger, its store and the line so far are where the machine is
-pub record Follows (l : Ledger) (s buffer : List ℕ) (fill : ℕ) (m : Machine) : Type 0 where
-  pub stands : Stands (bookOf l) s (m .stored)
-  pub keeps : Keeps buffer fill (m .line)
+-- how many bytes of output an end comes to
+abbrev pub putOut : Finished → ℕ
+putOut (Written n) = n
+putOut (Unreported n e) = n
+putOut Short = 0
+putOut UnfitLine = 0
+
+-- From a ledger, store, line buffer and length to others, by a text: whatever line the buffer keeps, the lines that end in the text are answered one after the
+-- other; what they put out; and the buffer keeps the line that the text leaves begun. (A line buffer of maxLine bytes always keeps one: `keeps-some`.)
+pub record Moves (l : Ledger) (s buffer : List ℕ) (fill : ℕ) (text put : List ℕ) (l′ : Ledger) (s′ buffer′ : List ℕ) (fill′ : ℕ) : Type 0 where
+  pub answers : (line : List ℕ) → Keeps buffer fill line → AnswersLines l s (linesOf line text) l′ s′ put
+  pub keeps : (line : List ℕ) → Keeps buffer fill line → Keeps buffer′ fill′ (lineAfter line text)
 
 -- Feeding the piece `input`, with the output buffer `out`.
 pub record Feeds (l : Ledger) (s buffer : List ℕ) (fill : ℕ) (input out : List ℕ) (r : Fed) (s′ buffer′ out′ : List ℕ) : Type 0 where
+  pub accepted : r .refused ≡ false
   pub within-input : r .consumed ≤ length input
   pub within-out : r .written ≤ length out
   -- all is consumed, unless there is no room for another answer; something is, where there was room for one
@@ -36,18 +47,32 @@ pub record Feeds (l : Ledger) (s buffer : List ℕ) (fill : ℕ) (input out : Li
   pub some-consumed : maxAnswer ≤ length out → 0 < length input → 0 < r .consumed
   -- the bytes after the output keep their values
   pub rest-kept : drop (r .written) out′ ≡ drop (r .written) out
-  -- the machine takes what was consumed, and puts out what was written
-  pub follows : (m : Machine) → Follows l s buffer fill m → Follows (r .ledger) s′ buffer′ (r .fill) (feed m (take (r .consumed) input))
-  pub puts-out : (m : Machine) → Follows l s buffer fill m → feed m (take (r .consumed) input) .out ≡ m .out ++ take (r .written) out′
+  -- what was consumed is answered, and the answers are what was written
+  pub moves : Moves l s buffer fill (take (r .consumed) input) (take (r .written) out′) (r .ledger) s′ buffer′ (r .fill)
 
--- A report after the first bytes of the output buffer.
-pub record Reports (l : Book) (s : List ℕ) (at : ℕ) (out : List ℕ) (end : ℕ) (out′ : List ℕ) : Type 0 where
-  pub within : end ≤ length out
-  pub text : (us : List Update) → Stands l s us → take end out′ ≡ take at out ++ reportOf ident us
+-- What the function `feed` promises: a line buffer that has not maxLine bytes is refused, and nothing changes; with any other the piece is fed.
+pub data Feeding (l : Ledger) (s buffer : List ℕ) (fill : ℕ) (input out : List ℕ) : Fed → List ℕ → List ℕ → List ℕ → Type 0 where
+  refused : (length buffer ≡ maxLine → ⊥)
+      → Feeding l s buffer fill input out (record { ledger = l; fill = fill; consumed = 0; written = 0; refused = true }) s buffer out
+  fed : (r : Fed) (s′ buffer′ out′ : List ℕ) → length buffer ≡ maxLine → Feeds l s buffer fill input out r s′ buffer′ out′
+      → Feeding l s buffer fill input out r s′ buffer′ out′
 
--- The end of the input, with the output buffer `out`.
-pub data Finishes (l : Ledger) (s buffer : List ℕ) (fill : ℕ) (out : List ℕ) : Finished → List ℕ → List ℕ → List ℕ → Type 0 where
-  short : length out < maxEnd → Finishes l s buffer fill out Short s buffer out
-  written : (n : ℕ) (s′ buffer′ out′ : List ℕ) → maxEnd ≤ length out → n ≤ length out
-      → ((m : Machine) → Follows l s buffer fill m → m .out ++ take n out′ ≡ finish m)
-      → Finishes l s buffer fill out (Written n) s′ buffer′ out′
+-- A report after the first `at` bytes of the output buffer: what the entry `report` ensures, of the rest of the buffer.
+pub data ReportsAt (l : Book) (s : List ℕ) (at : ℕ) (out : List ℕ) : Finished → List ℕ → Type 0 where
+  reported : (n : ℕ) (o : List ℕ) → Reporting l s (drop at out) (ReportWritten n) o → ReportsAt l s at out (Written (at + n)) (take at out ++ o)
+  unreported : (e : Refusal) (o : List ℕ) → Reporting l s (drop at out) (Refused e) o → ReportsAt l s at out (Unreported at e) (take at out ++ o)
+
+-- The last line, if one is begun, is answered; and what that puts out.
+pub record LastLine (l : Ledger) (s buffer : List ℕ) (fill : ℕ) (l′ : Ledger) (s′ put : List ℕ) : Type 0 where
+  pub short : length put ≤ maxAnswer
+  pub answers : (line : List ℕ) → Keeps buffer fill line → AnswersLines l s (lastOf line) l′ s′ put
+
+-- The end of the input, with the output buffer `out`: a line buffer that has not maxLine bytes is refused, and so is an output buffer with no room for the longest end;
+-- nothing changes then. With others, the last line is answered, and then comes what the entry `report` ensures: the report, or else the number of its refusal beside
+-- the answer.
+pub data Finishes (l : Ledger) (s buffer : List ℕ) (fill : ℕ) (out : List ℕ) : Finished → List ℕ → List ℕ → Type 0 where
+  unfit-line : (length buffer ≡ maxLine → ⊥) → Finishes l s buffer fill out UnfitLine s out
+  short : length buffer ≡ maxLine → length out < maxEnd → Finishes l s buffer fill out Short s out
+  ended : (r : Finished) (l′ : Ledger) (s′ put out′ : List ℕ) → length buffer ≡ maxLine → maxEnd ≤ length out
+      → LastLine l s buffer fill l′ s′ put → ReportsAt (bookOf l′) s′ (length put) (put ++ drop (length put) out) r out′
+      → Finishes l s buffer fill out r s′ out′

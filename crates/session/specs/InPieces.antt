@@ -1,7 +1,7 @@
 -- However the input is cut, the outputs of the pieces and of the end, put together, are the output of the whole.
 -- Assumes nothing.
 use mathlib.Core.Path.{_≡_, refl, sym, ap, _∙_}
-use Prim.Native.Nat.{ℕ}
+use Prim.Native.Nat.{ℕ, _≤_}
 use mathlib.Core.List.{List, [], _++_}
 use lib.ListN.{length, take}
 use Rattle.state.specs.declared.Ledger.{Ledger}
@@ -11,10 +11,12 @@ use Rattle.state.specs.TakeLaws.{fresh-stands}
 use Rattle.reading.specs.Reading.{maxLine}
 use Rattle.input.specs.KeepLaws.{keeps-none}
 use Rattle.session.specs.declared.Fed.{Fed}
+use Rattle.session.specs.declared.Finished.{Finished}
 use Rattle.session.specs.declared.Finished.the-variants.{Written}
 use Rattle.session.specs.Session.{begin, feed, maxInput, outputOf}
-use Rattle.session.specs.Feeding.{Follows, Feeds, Finishes, written}
-use Rattle.session.specs.FeedLaws.{Moves, moves-none, moves-then}
+use Rattle.session.specs.Feeding.{maxEnd, Moves, Feeds, Finishes}
+use Rattle.session.specs.FeedLaws.{moves-none, moves-then, Follows, moves-follows, moves-out}
+use Rattle.session.specs.FinishLaws.{finish-output, finishes-output}
 
 -- Pieces fed one after the other, each with what the function `feed` ensures: each call is handed the ledger, store, line buffer and length that the one before
 -- left. The bytes consumed, and the bytes put out, of all the calls together.
@@ -25,11 +27,11 @@ pub data Pieces : Ledger → List ℕ → List ℕ → ℕ → List ℕ → List
       → Pieces (r .ledger) s₁ buffer₁ (r .fill) xs ys l′ s′ buffer′ fill′
       → Pieces l s buffer fill (take (r .consumed) input ++ xs) (take (r .written) out′ ++ ys) l′ s′ buffer′ fill′
 
--- what each piece does to a followed machine, one after the other
+-- what the pieces do, one after the other
 pub pieces-move : {l l′ : Ledger} {s s′ buffer buffer′ xs ys : List ℕ} {fill fill′ : ℕ}
     → Pieces l s buffer fill xs ys l′ s′ buffer′ fill′ → Moves l s buffer fill xs ys l′ s′ buffer′ fill′
 pieces-move done = moves-none
-pieces-move (piece r p) = moves-then (record { follows = r .follows; puts-out = r .puts-out }) (pieces-move p)
+pieces-move (piece r p) = moves-then (r .moves) (pieces-move p)
 
 -- a fresh ledger, with any store and line buffer of their lengths, is where the machine begins
 fresh-follows : (s buffer : List ℕ) → length s ≡ storeLength → length buffer ≡ maxLine → Follows freshLedger s buffer 0 begin
@@ -38,14 +40,26 @@ fresh-follows s buffer h k = record { stands = fresh-stands (bookOf freshLedger)
 
 -- For every input, and a store and a line buffer of their lengths: if the pieces consumed are the input's bytes up to the limit, then what they and the end put out is
 -- the output of the whole input.
-pub in-pieces : (input : List ℕ) {l′ : Ledger} {s s′ s″ buffer buffer′ buffer″ ys out out′ : List ℕ} {fill′ n : ℕ}
+pub in-pieces : (input : List ℕ) {l′ : Ledger} {s s′ s″ buffer buffer′ ys out out′ : List ℕ} {fill′ n : ℕ}
     → length s ≡ storeLength
     → length buffer ≡ maxLine
     → Pieces freshLedger s buffer 0 (take maxInput input) ys l′ s′ buffer′ fill′
-    → Finishes l′ s′ buffer′ fill′ out (Written n) s″ buffer″ out′
+    → Finishes l′ s′ buffer′ fill′ out (Written n) s″ out′
     → ys ++ take n out′ ≡ outputOf input
 unfolding outputOf
-in-pieces input {s = s} {buffer = buffer} h k c (written n s″ buffer″ out′ room within ends) =
-    let m = pieces-move c in
+in-pieces input {s = s} {buffer = buffer} {out′ = out′} {n = n} h k c e =
     let f = fresh-follows s buffer h k in
-    ap (λ (o : List ℕ). o ++ take n out′) (sym (m .puts-out begin f)) ∙ ends (feed begin (take maxInput input)) (m .follows begin f)
+    let m = pieces-move c in
+    ap (λ (o : List ℕ). o ++ take n out′) (sym (moves-out begin f m)) ∙ finish-output (feed begin (take maxInput input)) (moves-follows begin f m) e
+
+-- .. and with room for the longest end there is a report
+pub pieces-reported : (input : List ℕ) {l′ : Ledger} {s s′ s″ buffer buffer′ ys out out′ : List ℕ} {fill′ : ℕ} {r : Finished}
+    → length s ≡ storeLength
+    → length buffer ≡ maxLine
+    → Pieces freshLedger s buffer 0 input ys l′ s′ buffer′ fill′
+    → maxEnd ≤ length out
+    → Finishes l′ s′ buffer′ fill′ out r s″ out′
+    → (n : ℕ) × (r ≡ Written n)
+pieces-reported input {s = s} {buffer = buffer} h k c room e =
+    let o = finishes-output (feed begin input) (moves-follows begin (fresh-follows s buffer h k) (pieces-move c)) room e in
+    (o .count, o .answer)

@@ -1,5 +1,8 @@
 pub mod Session
-pub mod Examples
+pub mod Answering
+pub mod AnsweringLaws
 pub mod Feeding
 pub mod FeedLaws
+pub mod FinishLaws
 pub mod InPieces
+pub mod Examples

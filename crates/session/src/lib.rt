@@ -1,14 +1,19 @@
 // The command's work on slices: input bytes to lines, lines to answers, and the report at the end. The input may come in pieces of any length.
+ghost use mathlib.Core.Path.{_≡_};
 ghost use Prim.Native.Nat.{_+_, _≤_};
 ghost use lib.ListN.{length};
 ghost use Rattle.state.specs.View.{bookOf};
-ghost use Rattle.session.specs.Feeding.{Feeds, Reports, Finishes};
+ghost use Rattle.answers.specs.Answers.{maxAnswer};
+ghost use Rattle.session.specs.Answering.{Answers};
+ghost use Rattle.session.specs.Feeding.{putOut, Feeding, ReportsAt, Finishes};
 use answers::Begun;
 use answers::begin_answer;
 use answers::print_answer;
 use input::take_line;
 use ledger::Ledger;
+use ledger::Refusal;
 use ledger::Reported;
+use reading::MAX_LINE;
 use reading::MAX_OFFERED;
 
 // The longest answer is `(taken waiting 64 64)` and its newline.
@@ -17,19 +22,77 @@ pub const MAX_ANSWER: usize = 22;
 // The longest end of an output: an answer and a report.
 pub const MAX_END: usize = 12022;
 
-// What a piece of input comes to: the ledger; how long the line so far is, as `input::take_line` counts; how many bytes of the piece were consumed; and how many
-// bytes of output were put at the start of the output buffer.
+// What a piece of input comes to: the ledger; how long the line so far is, as `input::take_line` counts; how many bytes of the piece were consumed; how many bytes of
+// output were put at the start of the output buffer; and whether the line buffer was refused.
 pub struct Fed {
     pub ledger: Ledger,
     pub fill: usize,
     pub consumed: usize,
     pub written: usize,
+    pub refused: bool,
 }
 
-// What the end of the input comes to: how many bytes of output; or the output buffer is shorter than the longest end.
+// What the end of the input comes to.
 pub enum Finished {
+    // So many bytes of output: the answer to the last line, if one was begun, and the report.
     Written(usize),
+    // So many bytes of output: that answer alone, since the report is refused.
+    Unreported(usize, Refusal),
+    // The output buffer is shorter than the longest end.
     Short,
+    // The line buffer has not MAX_LINE bytes.
+    UnfitLine,
+}
+
+impl Finished {
+    // How many bytes of output.
+    pub fn written(self) -> usize
+        ensures { λ r. ⌜ r ≡ putOut self ⌝ }
+    {
+        match self {
+            Finished::Written(n) => n,
+            Finished::Unreported(n, _) => n,
+            Finished::Short => 0,
+            Finished::UnfitLine => 0,
+        }
+    }
+}
+
+// What the answer to a line comes to: the ledger, and where the output ends.
+struct Answered {
+    ledger: Ledger,
+    written: usize,
+}
+
+// Answers a line of so many bytes, and puts the answer after the first `at` bytes of the output buffer.
+fn answer_line(
+    ledger: Ledger,
+    store: &mut [u8],
+    line: &[u8],
+    fill: usize,
+    update: &mut [u8],
+    out: &mut [u8],
+    at: usize,
+) -> Answered
+    requires { ⌜ (996 ≤ length (now update)) × (at + maxAnswer ≤ length (now out)) ⌝ }
+    ensures { λ r. ⌜ Answers ledger (now (store .entry)) (now (line .entry)) fill (now (out .entry)) at r (now (store .exit)) (now (out .exit)) ⌝ }
+{
+    match begin_answer(line, fill, update, &mut out[at..]) {
+        Begun::Unread(n) => Answered {
+            ledger: ledger,
+            written: at + n,
+        },
+        Begun::Offers(n) => {
+            let o = ledger::offer(ledger, store, &update[..n]);
+            let next = o.ledger;
+            let answer = o.answer;
+            let n = print_answer(&mut out[at..], answer);
+            Answered {
+                ledger: next,
+                written: at + n,
+            }
+        }
+    }
 }
 
 // Takes a piece of the input, up to its end or to where the output buffer has no room for another answer.
@@ -41,8 +104,17 @@ pub fn feed(
     input: &[u8],
     out: &mut [u8],
 ) -> Fed
-    ensures { λ r. ⌜ Feeds ledger (now (store .entry)) (now (line .entry)) fill (now (input .entry)) (now (out .entry)) r (now (store .exit)) (now (line .exit)) (now (out .exit)) ⌝ }
+    ensures { λ r. ⌜ Feeding ledger (now (store .entry)) (now (line .entry)) fill (now (input .entry)) (now (out .entry)) r (now (store .exit)) (now (line .exit)) (now (out .exit)) ⌝ }
 {
+    if line.len() != MAX_LINE {
+        return Fed {
+            ledger: ledger,
+            fill: fill,
+            consumed: 0,
+            written: 0,
+            refused: true,
+        };
+    }
     let mut update = [0u8; MAX_OFFERED];
     let mut length = fill;
     let mut consumed: usize = 0;
@@ -52,18 +124,10 @@ pub fn feed(
         consumed += t.consumed;
         length = t.fill;
         if t.ended {
-            match begin_answer(line, length, &mut update, &mut out[written..]) {
-                Begun::Unread(n) => {
-                    written += n;
-                }
-                Begun::Offers(n) => {
-                    let o = ledger::offer(ledger, store, &update[..n]);
-                    let next = o.ledger;
-                    ledger = next;
-                    let answer = o.answer;
-                    written += print_answer(&mut out[written..], answer);
-                }
-            }
+            let a = answer_line(ledger, store, line, length, &mut update, out, written);
+            let next = a.ledger;
+            ledger = next;
+            written = a.written;
             length = 0;
         }
     }
@@ -72,17 +136,18 @@ pub fn feed(
         fill: length,
         consumed: consumed,
         written: written,
+        refused: false,
     }
 }
 
-// Puts the report after the first `at` bytes of the output buffer, and gives where it ends.
-fn report_at(ledger: Ledger, store: &[u8], out: &mut [u8], at: usize) -> usize
-    requires { ⌜ at + 12000 ≤ length (now out) ⌝ }
-    ensures { λ r. ⌜ Reports (bookOf ledger) (now (store .entry)) at (now (out .entry)) r (now (out .exit)) ⌝ }
+// Puts the report after the first `at` bytes of the output buffer.
+fn report_at(ledger: Ledger, store: &[u8], out: &mut [u8], at: usize) -> Finished
+    requires { ⌜ at ≤ length (now out) ⌝ }
+    ensures { λ r. ⌜ ReportsAt (bookOf ledger) (now (store .entry)) at (now (out .entry)) r (now (out .exit)) ⌝ }
 {
     match ledger::report(ledger, store, &mut out[at..]) {
-        Reported::Written(n) => at + n,
-        Reported::Refused(_) => at,
+        Reported::Written(n) => Finished::Written(at + n),
+        Reported::Refused(refusal) => Finished::Unreported(at, refusal),
     }
 }
 
@@ -90,19 +155,24 @@ fn report_at(ledger: Ledger, store: &[u8], out: &mut [u8], at: usize) -> usize
 pub fn finish(
     ledger: Ledger,
     store: &mut [u8],
-    line: &mut [u8],
+    line: &[u8],
     fill: usize,
     out: &mut [u8],
 ) -> Finished
-    ensures { λ r. ⌜ Finishes ledger (now (store .entry)) (now (line .entry)) fill (now (out .entry)) r (now (store .exit)) (now (line .exit)) (now (out .exit)) ⌝ }
+    ensures { λ r. ⌜ Finishes ledger (now (store .entry)) (now (line .entry)) fill (now (out .entry)) r (now (store .exit)) (now (out .exit)) ⌝ }
 {
+    let size = line.len();
+    if size != MAX_LINE {
+        return Finished::UnfitLine;
+    }
     if out.len() < MAX_END {
         return Finished::Short;
     }
     if fill == 0 {
-        return Finished::Written(report_at(ledger, store, out, 0));
+        return report_at(ledger, store, out, 0);
     }
-    let f = feed(ledger, store, line, fill, b"\n", &mut out[..MAX_ANSWER]);
-    let last = f.ledger;
-    Finished::Written(report_at(last, store, out, f.written))
+    let mut update = [0u8; MAX_OFFERED];
+    let a = answer_line(ledger, store, line, fill, &mut update, out, 0);
+    let last = a.ledger;
+    report_at(last, store, out, a.written)
 }

@@ -1,13 +1,14 @@
 // The command: offers from standard input, answers and the report to standard output. Everything but reading and writing is `session`.
+ghost use mathlib.Core.Path.{_≡_};
 ghost use Prim.Native.Nat.{_≤_};
 ghost use lib.ListN.{length};
+ghost use Rattle.reading.specs.Reading.{maxLine};
 ghost use Rattle.answers.specs.Answers.{maxAnswer};
 ghost use Rattle.session.specs.Feeding.{maxEnd};
 use ledger::Ledger;
 use libc::STDIN_FILENO;
 use libc::STDOUT_FILENO;
 use reading::MAX_LINE;
-use session::Finished;
 use state::STORE_LENGTH;
 
 // Document 01: "The command reads at most 4,294,967,296 bytes".
@@ -32,7 +33,7 @@ fn pass_on(
     chunk: &[u8],
     out: &mut [u8],
 ) -> Passed
-    requires { ⌜ maxAnswer ≤ length (now out) ⌝ }
+    requires { ⌜ (length (now line) ≡ maxLine) × (maxAnswer ≤ length (now out)) ⌝ }
 {
     let mut current = ledger;
     let mut length = fill;
@@ -73,21 +74,18 @@ fn read_some(most: usize, buffer: &mut [u8]) -> usize
     io::count(got, buffer)
 }
 
-// The end of the input. With room for the longest end, there always is a report.
-fn end(ledger: Ledger, store: &mut [u8], line: &mut [u8], fill: usize, out: &mut [u8])
+// The end of the input. With room for the longest end, there always is a report (`pieces-reported`, session/specs/InPieces).
+fn end(ledger: Ledger, store: &mut [u8], line: &[u8], fill: usize, out: &mut [u8])
     requires { ⌜ maxEnd ≤ length (now out) ⌝ }
 {
-    match session::finish(ledger, store, line, fill, out) {
-        Finished::Written(n) => {
-            io::write_all(STDOUT_FILENO, &out[..n]);
-        }
-        Finished::Short => {}
-    }
+    let finished = session::finish(ledger, store, line, fill, out);
+    let n = finished.written();
+    io::write_all(STDOUT_FILENO, &out[..n]);
 }
 
 // Reads, feeds and writes, up to the limit.
 fn run(store: &mut [u8], line: &mut [u8], chunk: &mut [u8], out: &mut [u8])
-    requires { ⌜ maxEnd ≤ length (now out) ⌝ }
+    requires { ⌜ (length (now line) ≡ maxLine) × (maxEnd ≤ length (now out)) ⌝ }
 {
     let mut ledger = ledger::fresh();
     let mut fill: usize = 0;

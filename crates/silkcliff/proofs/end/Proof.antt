@@ -1,8 +1,9 @@
 -- `silkcliff::end` is safe: what `finish` puts out lies within the buffer.
 -- Assumes nothing.
 use mathlib.Core.Path.{sym}
+use native.Mathlib.Omega.{arith}
 use lib.Seq.{length-take-le}
-use Rattle.silkcliff.proofs.PieceLaws.{finish-inside}
+use Rattle.session.specs.FinishLaws.{finishes-within}
 use borrow.Author.Needs.{needs}
 use Rattle.silkcliff.proofs.end.Statement.{statement}
 use Rattle.silkcliff.proofs.end.Tie as tie
@@ -10,13 +11,13 @@ use Rattle.silkcliff.proofs.end.Tie as tie
 finish-requires : tie.Need-finish-requires
 finish-requires c κs = search needs
 
-enum-known-n : tie.Need-enum-known-n
-enum-known-n c = search needs
+written-requires : tie.Need-written-requires
+written-requires c κs = search needs
 
 slice-reshare-prefix-write-all : tie.Need-slice-reshare-prefix-write-all
 slice-reshare-prefix-write-all c =
-    let f = c .before .before .before .before .before .before .before .before .before .finish in
-    finish-inside (f .ensures) (c .before .n .given .1) (f .kept .1 .1 .1 .1 .0)
+    let f = c .before .before .before .before .before .finish in
+    omega (arith, c .written .ensures, finishes-within (f .ensures), f .kept .1 .1 .1 .1 .0)
 
 slice-aggregate-write-all : tie.Need-slice-aggregate-write-all
 slice-aggregate-write-all c = sym (length-take-le _ _ (slice-reshare-prefix-write-all (c .before)))
@@ -24,48 +25,15 @@ slice-aggregate-write-all c = sym (length-take-le _ _ (slice-reshare-prefix-writ
 write-all-requires : tie.Need-write-all-requires
 write-all-requires c κs = search needs
 
-enum-told : tie.Need-enum-told
-enum-told c = search needs
-
 same-length : tie.Need-same-length
 same-length c = search needs
 
 same-length-2 : tie.Need-same-length-2
 same-length-2 c = search needs
 
-same-length-3 : tie.Need-same-length-3
-same-length-3 c = search needs
-
 returns : tie.Need-returns
 returns c = search needs
 
-same-length-4 : tie.Need-same-length-4
-same-length-4 c = search needs
-
-same-length-5 : tie.Need-same-length-5
-same-length-5 c = search needs
-
-same-length-6 : tie.Need-same-length-6
-same-length-6 c = search needs
-
-returns-2 : tie.Need-returns-2
-returns-2 c = search needs
-
 pub end-spec : {M : Type 1} → statement M
 end-spec =
-    tie.close
-    (tie.spec
-    finish-requires
-    enum-known-n
-    slice-reshare-prefix-write-all
-    slice-aggregate-write-all
-    write-all-requires
-    enum-told
-    same-length
-    same-length-2
-    same-length-3
-    returns
-    same-length-4
-    same-length-5
-    same-length-6
-    returns-2)
+    tie.close (tie.spec finish-requires written-requires slice-reshare-prefix-write-all slice-aggregate-write-all write-all-requires same-length same-length-2 returns)

@@ -1,10 +1,12 @@
 -- `silkcliff::pass_on` is safe and ends. The measure is what is left of the chunk: `feed` has room for an answer, and so consumes some of it.
 -- Assumes nothing.
-use mathlib.Core.Path.{_≡_, sym}
-use Prim.Native.Nat.{_-_, _≤_}
+use mathlib.Core.Path.{_≡_, sym, _∙_}
+use Prim.Native.Nat.{_+_, _-_, _≤_}
 use native.Mathlib.Omega.{arith}
-use lib.ListN.{length}
+use lib.ListN.{length, drop, length-drop}
 use lib.Seq.{length-take-le}
+use Rattle.reading.specs.Reading.{maxLine}
+use Rattle.session.specs.FeedLaws.{feeding-feeds}
 use Rattle.silkcliff.proofs.PieceLaws.{rest-some}
 use borrow.Author.Needs.{needs}
 use Rattle.silkcliff.proofs.pass_on.Statement.{statement}
@@ -15,6 +17,16 @@ Inv-loop store₀ line₀ fill chunk out₀ current₀ n₀ at₀ store line out
 
 abbrev μ-loop : tie.MeasureT-loop
 μ-loop store₀ line₀ fill chunk out₀ current₀ n₀ at₀ store line out current n at = length chunk - at
+
+-- the line buffer has its length, so that the piece is fed
+abbrev at-loop : tie.After-feed Inv-loop μ-loop → tie.At-loop Inv-loop μ-loop
+at-loop c = c .before .before .before .before .before .before
+
+abbrev at-start : tie.At-loop Inv-loop μ-loop → tie.Start Inv-loop μ-loop
+at-start c = c .before .before .before .before .before
+
+sized : (c : tie.After-feed Inv-loop μ-loop) → length (at-loop c .loop .line) ≡ maxLine
+sized c = at-loop c .loop .inv .2 ∙ at-start (at-loop c) .pre .0
 
 loop-holds : tie.Need-loop-holds Inv-loop μ-loop
 loop-holds c = search needs
@@ -33,8 +45,8 @@ feed-requires c κs = search needs
 
 slice-reshare-prefix-write-all : tie.Need-slice-reshare-prefix-write-all Inv-loop μ-loop
 slice-reshare-prefix-write-all c =
-    let f = c .before .before .before .before .before .before .before .feed in
-    omega (arith, f .ensures .within-out, f .kept .1 .1 .1 .1 .1 .0)
+    let f = c .before .before .before .before .before .before .before in
+    omega (arith, feeding-feeds (f .feed .ensures) (sized f) .within-out, f .feed .kept .1 .1 .1 .1 .1 .0)
 
 slice-aggregate-write-all : tie.Need-slice-aggregate-write-all Inv-loop μ-loop
 slice-aggregate-write-all c = sym (length-take-le _ _ (slice-reshare-prefix-write-all (c .before)))
@@ -54,17 +66,26 @@ same-length-3 c = search needs
 returns : tie.Need-returns Inv-loop μ-loop
 returns c = tt
 
+-- what the piece consumes is within the chunk
+within : (c : tie.After-feed Inv-loop μ-loop) → at-loop c .loop .at + c .feed .result .consumed ≤ length (at-start (at-loop c) .args .chunk .now)
+within c =
+    let l = at-loop c in
+    let chunk = at-start l .args .chunk .now in
+    omega (arith, feeding-feeds (c .feed .ensures) (sized c) .within-input, length-take-le (length chunk - l .loop .at) (drop (l .loop .at) chunk) (omega (arith, length-drop (l .loop .at) chunk)), length-drop (l .loop .at) chunk, l .loop .inv .0)
+
 add-at : tie.Need-add-at Inv-loop μ-loop
-add-at c = search needs
+add-at c = let f = c .before .before .before .before .before .before .before .before .before .before in omega (arith, within f, at-start (at-loop f) .good)
 
 loop-less : tie.Need-loop-less Inv-loop μ-loop
 loop-less c =
-    let f = c .before .before .before .before .before .before .before .before .before .before .feed in
-    let t = c .before .before .before .before .before .before .before .before .before .before .before .before .before .before .before in
-    omega (arith, f .ensures .some-consumed (search needs) (rest-some _ (t .before .before .before .before .before .before .args .chunk .now) (t .loop-test .taken)), t .loop-test .taken)
+    let f = c .before .before .before .before .before .before .before .before .before .before in
+    let t = f .before .before .before .before .before in
+    omega (arith, feeding-feeds (f .feed .ensures) (sized f) .some-consumed (search needs) (rest-some _ (at-start (at-loop f) .args .chunk .now) (t .loop-test .taken)), t .loop-test .taken)
 
 loop-again : tie.Need-loop-again Inv-loop μ-loop
-loop-again c = search needs
+loop-again c =
+    let f = c .before .before .before .before .before .before .before .before .before .before in
+    (within f, search needs, search needs, search needs)
 
 same-length-4 : tie.Need-same-length-4 Inv-loop μ-loop
 same-length-4 c = search needs

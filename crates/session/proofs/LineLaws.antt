@@ -1,0 +1,74 @@
+-- Answering one line: that it is not read is printed, or else the answer to its offer, which is printable.
+-- Assumes nothing.
+use mathlib.Core.Path.{_≡_, sym, ap, subst, _∙_}
+use Prim.Native.Nat.{ℕ, _+_, _≤_}
+use native.Mathlib.Nat.{zero-add}
+use native.Mathlib.Omega.{arith}
+use mathlib.Core.List.{List}
+use mathlib.Core.Option.{Option}
+use mathlib.Core.Bool.{Bool}
+use lib.ListN.{length, take}
+use Rattle.bits.specs.BelowLaws.{countBelow-le}
+use Rattle.rules.specs.Report.{ascii}
+use Rattle.state.specs.declared.Ledger.{Ledger}
+use Rattle.state.specs.declared.Standing.{Standing}
+use Rattle.state.specs.State.{Book, placeAt, isHeld, isVoid, countOf}
+use Rattle.state.specs.View.{bookOf}
+use Rattle.printing.specs.Page.{Prints}
+use Rattle.offering.specs.Values.{OfferValues}
+use Rattle.offering.specs.Offer.{OfferRow, unfit, malformed, known, full, taken}
+use Rattle.offering.specs.Words.{valuesText}
+use Rattle.reading.specs.Line.{lineIn}
+use Rattle.answers.specs.declared.Begun.{Begun}
+use Rattle.answers.specs.declared.Begun.the-variants.{Unread, Offers}
+use Rattle.answers.specs.Answers.{maxAnswer, Printable, Begins}
+use Rattle.answers.proofs.AnswerLaws.{unread-past}
+use Rattle.answers.proofs.BeginLaws.{begun-unread, begun-offer}
+use Rattle.session.specs.Answering.{AnswersLine, unread, offered, Answers}
+use Rattle.session.proofs.OutLaws.{partFrom, withPart, with-same, prints}
+
+-- a count over the places is at most 64
+count-few : (p : Standing → Bool) (l : Book) → countOf p l ≤ l .used
+unfolding countOf
+count-few p l = countBelow-le (l .used) (λ (k : ℕ). p (placeAt l k .standing))
+
+pub offering-printable : {l r : Ledger} {s b s′ : List ℕ} {v : OfferValues} → OfferRow l s b v r s′ → Printable v
+offering-printable (unfit e) = tt
+offering-printable (malformed n e d) = tt
+offering-printable (known u k e d f) = tt
+offering-printable (full u e d f n) = tt
+offering-printable (taken u r e d f n t) = (omega (arith, count-few isHeld (bookOf r), t .used-next), omega (arith, count-few isVoid (bookOf r), t .used-next))
+
+module _ (out : List ℕ) (at : ℕ) (room : at + maxAnswer ≤ length out) {buffer : List ℕ} {fill : ℕ} where
+  -- the answer is printed whole
+  printed : {l l′ : Ledger} {s s′ o : List ℕ} {n : ℕ} (t : List ℕ) → AnswersLine l s (lineIn buffer fill) l′ s′ t → Prints (partFrom out at) 0 t o n
+      → n ≤ maxAnswer → Answers l s buffer fill out at (record { ledger = l′; written = at + n }) s′ (withPart out at o)
+  printed t a p few =
+      record {
+        text = t;
+        answers = a;
+        short = omega (arith, p .past);
+        past = ap (λ (k : ℕ). at + k) (p .past ∙ zero-add (length t));
+        put = prints out at (omega arith) p (omega arith);
+      }
+
+  module _ (n : ℕ) {r : Begun} {update o : List ℕ} (b : Begins buffer fill (partFrom out at) r update o) where
+    -- the line is not read
+    pub line-unread : {l : Ledger} {s : List ℕ} → r ≡ Unread n → Answers l s buffer fill out at (record { ledger = l; written = at + n }) s (withPart out at o)
+    line-unread {l} {s} q =
+        let u = begun-unread n b q in
+        printed (ascii "(unread)\n") (subst (λ (x : Option (List ℕ)). AnswersLine l s x l s (ascii "(unread)\n")) (sym (u .0)) unread) (u .1)
+        (omega (arith, unread-past (u .1)))
+
+    -- its bytes are offered: until the answer is printed, the buffer is as it was
+    line-kept : r ≡ Offers n → withPart out at o ≡ out
+    line-kept q = ap (withPart out at) (begun-offer n b q .2) ∙ with-same out at (omega arith)
+
+    pub line-offered : {l l′ : Ledger} {s s′ o′ : List ℕ} {v : OfferValues} {k : ℕ} → r ≡ Offers n → OfferRow l s (take n update) v l′ s′
+        → Prints (partFrom (withPart out at o) at) 0 (valuesText v) o′ k → k ≤ maxAnswer
+        → Answers l s buffer fill out at (record { ledger = l′; written = at + k }) s′ (withPart (withPart out at o) at o′)
+    line-offered {l} {l′} {s} {s′} {o′} {v} {k} q x p few =
+        let t = valuesText v in
+        let p₁ : Prints (partFrom out at) 0 t o′ k = subst (λ (y : List ℕ). Prints (partFrom y at) 0 t o′ k) (line-kept q) p in
+        subst (λ (y : List ℕ). Answers l s buffer fill out at (record { ledger = l′; written = at + k }) s′ (withPart y at o′)) (sym (line-kept q))
+        (printed t (subst (λ (z : Option (List ℕ)). AnswersLine l s z l′ s′ t) (sym (begun-offer n b q .0)) (offered x)) p₁ few)
