@@ -3,3 +3,4 @@ pub mod Examples
 pub mod Feeding
 pub mod FeedLaws
 pub mod InPieces
+pub mod PieceLaws

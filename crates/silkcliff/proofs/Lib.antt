@@ -1,1 +1,3 @@
-pub mod PieceLaws
+pub mod PassLaws
+pub mod EndLaws
+pub mod RunLaws

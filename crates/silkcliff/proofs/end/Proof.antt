@@ -1,11 +1,19 @@
--- `silkcliff::end` is safe: what `finish` puts out lies within the buffer.
+-- `silkcliff::end` meets its contract: what `finish` puts out lies within the buffer, and as many bytes are handed to `write`.
 -- Assumes nothing.
 use mathlib.Core.Path.{sym}
 use lib.Seq.{length-take-le}
-use Rattle.silkcliff.proofs.PieceLaws.{finish-inside}
+use Rattle.silkcliff.proofs.PassLaws.{writes-all}
+use Rattle.silkcliff.proofs.EndLaws.{finish-inside, finish-room, ends}
 use borrow.Author.Needs.{needs}
 use Rattle.silkcliff.proofs.end.Statement.{statement}
 use Rattle.silkcliff.proofs.end.Tie as tie
+
+-- the place of the call of `finish`
+abbrev at-finish : tie.After-slice-known6 → tie.After-finish
+at-finish c = c .before .before .before .before .before .before
+
+abbrev at-start : tie.After-finish → tie.Start
+at-start c = c .before .before .before .before .before .before .before
 
 finish-requires : tie.Need-finish-requires
 finish-requires c κs = search needs
@@ -15,7 +23,7 @@ enum-known-n c = search needs
 
 slice-reshare-prefix-write-all : tie.Need-slice-reshare-prefix-write-all
 slice-reshare-prefix-write-all c =
-    let f = c .before .before .before .before .before .before .before .before .before .finish in
+    let f = at-finish (c .before .before .before) .finish in
     finish-inside (f .ensures) (c .before .n .given .1) (f .kept .1 .1 .1 .1 .0)
 
 slice-aggregate-write-all : tie.Need-slice-aggregate-write-all
@@ -37,7 +45,9 @@ same-length-3 : tie.Need-same-length-3
 same-length-3 c = search needs
 
 returns : tie.Need-returns
-returns c = search needs
+returns c =
+    let n = c .before .before .before in
+    ends (at-finish (n .before .before) .finish .ensures) (n .n .given .1) (writes-all (slice-aggregate-write-all (c .before)) (c .write-all .ensures))
 
 same-length-4 : tie.Need-same-length-4
 same-length-4 c = search needs
@@ -49,7 +59,7 @@ same-length-6 : tie.Need-same-length-6
 same-length-6 c = search needs
 
 returns-2 : tie.Need-returns-2
-returns-2 c = search needs
+returns-2 c = absurd (finish-room (at-finish (c .before .before) .finish .ensures) (c .enum-told .given .1) (at-start (at-finish (c .before .before)) .pre))
 
 pub end-spec : {M : Type 1} → statement M
 end-spec =

@@ -1,46 +1,46 @@
--- `silkcliff::pass_on` is safe and ends. The measure is what is left of the chunk: `feed` has room for an answer, and so consumes some of it.
+-- `silkcliff::pass_on` meets its contract. The loop's invariant: the first `at` bytes of the chunk were fed, in pieces. The measure is what is left of the chunk: with room
+-- for an answer, `feed` consumes some of it.
 -- Assumes nothing.
-use mathlib.Core.Path.{_≡_, sym}
-use Prim.Native.Nat.{_-_, _≤_}
+use mathlib.Core.Path.{_≡_}
+use Prim.Native.Nat.{_+_, _-_}
 use native.Mathlib.Omega.{arith}
 use lib.ListN.{length}
-use lib.Seq.{length-take-le}
-use Rattle.silkcliff.proofs.PieceLaws.{rest-some}
+use Rattle.silkcliff.specs.Command.{Consumes}
+use Rattle.silkcliff.proofs.PassLaws.{consumes-none, consumes-more, consumes-less, passes-all, passes-part}
 use borrow.Author.Needs.{needs}
 use Rattle.silkcliff.proofs.pass_on.Statement.{statement}
 use Rattle.silkcliff.proofs.pass_on.Tie as tie
 
 abbrev Inv-loop : tie.InvT-loop
-Inv-loop store₀ line₀ fill chunk out₀ current₀ n₀ at₀ store line out current n at = (at ≤ length chunk) × (length store ≡ length store₀) × (length line ≡ length line₀) × (length out ≡ length out₀)
+Inv-loop store₀ line₀ fill chunk out₀ current₀ n₀ at₀ store line out current n at =
+    Consumes current₀ store₀ line₀ n₀ chunk at current store line n
+    × (length store ≡ length store₀) × (length line ≡ length line₀) × (length out ≡ length out₀)
 
 abbrev μ-loop : tie.MeasureT-loop
 μ-loop store₀ line₀ fill chunk out₀ current₀ n₀ at₀ store line out current n at = length chunk - at
 
 loop-holds : tie.Need-loop-holds Inv-loop μ-loop
-loop-holds c = search needs
+loop-holds c = (consumes-none, search needs, search needs, search needs)
 
-sub-feed : tie.Need-sub-feed Inv-loop μ-loop
-sub-feed c = search needs
+hand-on-requires : tie.Need-hand-on-requires Inv-loop μ-loop
+hand-on-requires c κs = search needs
 
-part-feed-start : tie.Need-part-feed-start Inv-loop μ-loop
-part-feed-start c = search needs
+-- the places of a turn, of its call of `hand_on` and of the function's entry
+abbrev at-hand-on : tie.After-struct-known Inv-loop μ-loop → tie.After-hand-on Inv-loop μ-loop
+at-hand-on c = c .before .before .before .before .before .before .before .before .before
 
-part-feed-end : tie.Need-part-feed-end Inv-loop μ-loop
-part-feed-end c = search needs
+abbrev at-turn : tie.After-struct-known Inv-loop μ-loop → tie.In-loop Inv-loop μ-loop
+at-turn c = at-hand-on c .before .before .before .before
 
-feed-requires : tie.Need-feed-requires Inv-loop μ-loop
-feed-requires c κs = search needs
+abbrev at-start : tie.At-loop Inv-loop μ-loop → tie.Start Inv-loop μ-loop
+at-start c = c .before .before .before .before .before
 
-slice-reshare-prefix-write-all : tie.Need-slice-reshare-prefix-write-all Inv-loop μ-loop
-slice-reshare-prefix-write-all c =
-    let f = c .before .before .before .before .before .before .before .feed in
-    omega (arith, f .ensures .within-out, f .kept .1 .1 .1 .1 .1 .0)
-
-slice-aggregate-write-all : tie.Need-slice-aggregate-write-all Inv-loop μ-loop
-slice-aggregate-write-all c = sym (length-take-le _ _ (slice-reshare-prefix-write-all (c .before)))
-
-write-all-requires : tie.Need-write-all-requires Inv-loop μ-loop
-write-all-requires c κs = search needs
+-- the chunk is consumed as far as the piece went
+consumed : (c : tie.After-struct-known Inv-loop μ-loop)
+    → Consumes (at-start (at-turn c .before) .args .ledger) (at-start (at-turn c .before) .args .store .now) (at-start (at-turn c .before) .args .line .now) (at-start (at-turn c .before) .args .fill)
+    (at-start (at-turn c .before) .args .chunk .now) (at-turn c .before .loop .at + at-hand-on c .hand-on .result .fed .consumed)
+    (at-hand-on c .hand-on .result .fed .ledger) (at-hand-on c .hand-on .last .1 .0) (at-hand-on c .hand-on .last .1 .1 .0) (at-hand-on c .hand-on .result .fed .fill)
+consumed c = consumes-more (at-turn c .before .loop .inv .0) (at-hand-on c .hand-on .ensures)
 
 same-length : tie.Need-same-length Inv-loop μ-loop
 same-length c = search needs
@@ -52,19 +52,19 @@ same-length-3 : tie.Need-same-length-3 Inv-loop μ-loop
 same-length-3 c = search needs
 
 returns : tie.Need-returns Inv-loop μ-loop
-returns c = tt
+returns c = passes-part (consumed (c .before)) _ (c .if1 .taken)
 
 add-at : tie.Need-add-at Inv-loop μ-loop
-add-at c = search needs
+add-at c = omega (arith, consumed (c .before .before) .within, at-start (at-turn (c .before .before) .before) .good)
 
 loop-less : tie.Need-loop-less Inv-loop μ-loop
 loop-less c =
-    let f = c .before .before .before .before .before .before .before .before .before .before .feed in
-    let t = c .before .before .before .before .before .before .before .before .before .before .before .before .before .before .before in
-    omega (arith, f .ensures .some-consumed (search needs) (rest-some _ (t .before .before .before .before .before .before .args .chunk .now) (t .loop-test .taken)), t .loop-test .taken)
+    let h = at-hand-on (c .before .before) in
+    let t = at-turn (c .before .before) in
+    consumes-less (t .before .loop .inv .0) (h .hand-on .ensures) (omega (arith, at-start (t .before) .pre, t .before .loop .inv)) (t .loop-test .taken)
 
 loop-again : tie.Need-loop-again Inv-loop μ-loop
-loop-again c = search needs
+loop-again c = (consumed (c .before .before), search needs, search needs, search needs)
 
 same-length-4 : tie.Need-same-length-4 Inv-loop μ-loop
 same-length-4 c = search needs
@@ -76,7 +76,7 @@ same-length-6 : tie.Need-same-length-6 Inv-loop μ-loop
 same-length-6 c = search needs
 
 returns-2 : tie.Need-returns-2 Inv-loop μ-loop
-returns-2 c = tt
+returns-2 c = passes-all (c .before .loop .inv .0) (c .loop-test .left)
 
 pub pass-on-spec : {M : Type 1} → statement M
 pass-on-spec =
@@ -85,13 +85,7 @@ pass-on-spec =
     Inv-loop
     μ-loop
     loop-holds
-    sub-feed
-    part-feed-start
-    part-feed-end
-    feed-requires
-    slice-reshare-prefix-write-all
-    slice-aggregate-write-all
-    write-all-requires
+    hand-on-requires
     same-length
     same-length-2
     same-length-3

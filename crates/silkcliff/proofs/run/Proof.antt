@@ -1,39 +1,52 @@
--- `silkcliff::run` is safe and ends. The measure is what the limit leaves to be read; the bytes that were got last are within it, and within the chunk.
+-- `silkcliff::run` meets its contract. The loop's invariant: what was fed so far, what was read last and what is left make up the limit. The measure is what is left, with
+-- what was read last.
 -- Assumes nothing.
-use mathlib.Core.Path.{_≡_, sym}
-use Prim.Native.Nat.{_≤_}
+use mathlib.Core.Path.{_≡_, refl}
+use Prim.Native.Nat.{_+_}
 use native.Mathlib.Omega.{arith}
 use lib.ListN.{length}
-use lib.Seq.{length-take-le}
+use Rattle.silkcliff.specs.Command.{stopped, ended}
+use Rattle.silkcliff.proofs.RunLaws.{Running, above-zero, running-begun, running-less, running-step}
 use borrow.Author.Needs.{needs}
 use Rattle.silkcliff.proofs.run.Statement.{statement}
 use Rattle.silkcliff.proofs.run.Tie as tie
 
 abbrev Inv-loop : tie.InvT-loop
-Inv-loop store₀ line₀ chunk₀ out₀ ledger₀ fill₀ left₀ got₀ store line chunk out ledger fill left got =
-    (got ≤ left) × (got ≤ length chunk) × (length store ≡ length store₀) × (length line ≡ length line₀) × (length chunk ≡ length chunk₀)
-    × (length out ≡ length out₀)
+Inv-loop store₀ line₀ chunk₀ out₀ state₀ store line chunk out state =
+    Running store₀ line₀ state store line chunk
+    × (length store ≡ length store₀) × (length line ≡ length line₀) × (length chunk ≡ length chunk₀) × (length out ≡ length out₀)
 
 abbrev μ-loop : tie.MeasureT-loop
-μ-loop store₀ line₀ chunk₀ out₀ ledger₀ fill₀ left₀ got₀ store line chunk out ledger fill left got = left
+μ-loop store₀ line₀ chunk₀ out₀ state₀ store line chunk out state = state .got + state .left
 
-fresh-requires : tie.Need-fresh-requires Inv-loop μ-loop
-fresh-requires c κs = search needs
-
-read-some-requires : tie.Need-read-some-requires Inv-loop μ-loop
-read-some-requires c κs = search needs
+begin-requires : tie.Need-begin-requires Inv-loop μ-loop
+begin-requires c κs = search needs
 
 loop-holds : tie.Need-loop-holds Inv-loop μ-loop
-loop-holds c = search needs
+loop-holds c = (running-begun (c .before .before .begin .ensures), search needs, search needs, search needs, search needs)
 
-slice-reshare-prefix-pass-on : tie.Need-slice-reshare-prefix-pass-on Inv-loop μ-loop
-slice-reshare-prefix-pass-on c = search needs
+-- the places of the loop's head and of the function's entry
+abbrev at-start : tie.At-loop Inv-loop μ-loop → tie.Start Inv-loop μ-loop
+at-start c = c .before .before .before .before .before .before .before .before .before
 
-slice-aggregate-pass-on : tie.Need-slice-aggregate-pass-on Inv-loop μ-loop
-slice-aggregate-pass-on c = sym (length-take-le _ _ (slice-reshare-prefix-pass-on (c .before)))
+step-requires : tie.Need-step-requires Inv-loop μ-loop
+step-requires c κs =
+    let l = c .before .before .before .before .before .before in
+    record { within = l .loop .inv .0 .within; room = omega (arith, at-start l .pre, l .loop .inv .4) }
 
-pass-on-requires : tie.Need-pass-on-requires Inv-loop μ-loop
-pass-on-requires c κs = search needs
+-- the places of a turn's call of `step` and of the turn
+abbrev at-step : tie.After-slice-known9 Inv-loop μ-loop → tie.After-step Inv-loop μ-loop
+at-step c = c .before .before .before .before .before .before .before .before
+
+abbrev at-turn : tie.After-slice-known9 Inv-loop μ-loop → tie.Then1 Inv-loop μ-loop
+at-turn c = at-step c .before .before .before .before .before
+
+loop-less : tie.Need-loop-less Inv-loop μ-loop
+loop-less c = running-less (at-turn c .before .before .loop .inv .0) (at-turn c .if1 .taken) (at-step c .step .ensures)
+
+loop-again : tie.Need-loop-again Inv-loop μ-loop
+loop-again c =
+    (running-step (at-turn c .before .before .loop .inv .0) (at-turn c .if1 .taken) (at-step c .step .ensures), search needs, search needs, search needs, search needs)
 
 same-length : tie.Need-same-length Inv-loop μ-loop
 same-length c = search needs
@@ -48,19 +61,9 @@ same-length-4 : tie.Need-same-length-4 Inv-loop μ-loop
 same-length-4 c = search needs
 
 returns : tie.Need-returns Inv-loop μ-loop
-returns c = tt
-
-sub-left : tie.Need-sub-left Inv-loop μ-loop
-sub-left c = omega arith
-
-read-some-requires-2 : tie.Need-read-some-requires-2 Inv-loop μ-loop
-read-some-requires-2 c κs = search needs
-
-loop-less : tie.Need-loop-less Inv-loop μ-loop
-loop-less c = omega arith
-
-loop-again : tie.Need-loop-again Inv-loop μ-loop
-loop-again c = search needs
+returns c =
+    let l = c .before .before .before .before in
+    stopped (l .loop .state) (l .loop .inv .0 .ran) (above-zero (c .if2 .taken)) refl
 
 end-requires : tie.Need-end-requires Inv-loop μ-loop
 end-requires c κs = search needs
@@ -78,7 +81,11 @@ same-length-8 : tie.Need-same-length-8 Inv-loop μ-loop
 same-length-8 c = search needs
 
 returns-2 : tie.Need-returns-2 Inv-loop μ-loop
-returns-2 c = tt
+returns-2 c =
+    let e = c .before .before .before .before .before .before in
+    let k = e .before .before .before .before .before in
+    let l = k .before .before .before .before in
+    ended (l .loop .state) (l .loop .store) (l .loop .line) (l .loop .out) (l .loop .inv .0 .ran) (omega (arith, k .before .before .if1 .left)) (k .if2 .left) refl (e .end .ensures)
 
 pub run-spec : {M : Type 1} → statement M
 run-spec =
@@ -86,21 +93,16 @@ run-spec =
     (tie.spec
     Inv-loop
     μ-loop
-    fresh-requires
-    read-some-requires
+    begin-requires
     loop-holds
-    slice-reshare-prefix-pass-on
-    slice-aggregate-pass-on
-    pass-on-requires
+    step-requires
+    loop-less
+    loop-again
     same-length
     same-length-2
     same-length-3
     same-length-4
     returns
-    sub-left
-    read-some-requires-2
-    loop-less
-    loop-again
     end-requires
     same-length-5
     same-length-6

@@ -1,0 +1,75 @@
+-- The command's loop, in the terms of `in-pieces` (session/specs/InPieces): what is fed is what was read, in order, once, and what is handed to `write` is what the pieces
+-- put out. That the bytes of a chunk are those of the input, and that those handed to `write` arrive, no contract can say.
+-- Assumes nothing.
+use mathlib.Core.Path.{_≡_}
+use Prim.Native.Nat.{ℕ, _+_, _≤_, _<_}
+use mathlib.Core.List.{List}
+use lib.ListN.{length, take, drop}
+use Rattle.state.specs.declared.Ledger.{Ledger}
+use Rattle.state.specs.State.{freshLedger}
+use Rattle.answers.specs.Answers.{maxAnswer}
+use Rattle.session.specs.declared.Finished.the-variants.{Written}
+use Rattle.session.specs.Session.{maxInput}
+use Rattle.session.specs.Feeding.{maxEnd, Feeds, Finishes}
+use Rattle.session.specs.InPieces.{Pieces}
+use Rattle.streams.specs.Streams.{Reads, Writes}
+use Rattle.silkcliff.specs.declared.Handed.{Handed}
+use Rattle.silkcliff.specs.declared.Passed.{Passed}
+use Rattle.silkcliff.specs.declared.State.{State}
+use Rattle.silkcliff.specs.declared.Ended.{Ended}
+
+-- A piece: the chunk from byte `at` on is fed, and what that puts out is handed to `write`.
+pub record HandsOn (l : Ledger) (s buffer : List ℕ) (fill : ℕ) (chunk : List ℕ) (at : ℕ) (out : List ℕ) (r : Handed) (s′ buffer′ out′ : List ℕ) : Type 0 where
+  pub feeds : Feeds l s buffer fill (drop at chunk) out (r .fed) s′ buffer′ out′
+  pub writes : Writes (r .fed .written) (r .handed) (r .error)
+
+-- The first `taken` bytes of the chunk are fed, in pieces.
+pub record Consumes (l : Ledger) (s buffer : List ℕ) (fill : ℕ) (chunk : List ℕ) (taken : ℕ) (l′ : Ledger) (s′ buffer′ : List ℕ) (fill′ : ℕ) : Type 0 where
+  pub within : taken ≤ length chunk
+  pub put : List ℕ
+  pub pieces : Pieces l s buffer fill (take taken chunk) put l′ s′ buffer′ fill′
+
+-- A chunk: all of it is fed, unless a write failed.
+pub record Passes (l : Ledger) (s buffer : List ℕ) (fill : ℕ) (chunk : List ℕ) (r : Passed) (s′ buffer′ : List ℕ) : Type 0 where
+  pub taken : ℕ
+  pub consumes : Consumes l s buffer fill chunk taken (r .ledger) s′ buffer′ (r .fill)
+  pub all : r .error ≡ 0 → taken ≡ length chunk
+
+-- The beginning: a fresh ledger and no line; what is left of the limit falls by what was read.
+pub record Begins (r : State) (chunk : List ℕ) : Type 0 where
+  pub fresh : r .ledger ≡ freshLedger
+  pub no-line : r .fill ≡ 0
+  pub reads : Reads maxInput (length chunk) (r .got) (r .left) (r .reading)
+  pub unfailed : r .writing ≡ 0
+
+-- what a step needs: the bytes that were read are in the chunk, and there is room for an answer
+pub record Ready (t : State) (chunk out : List ℕ) : Type 0 where
+  pub within : t .got ≤ length chunk
+  pub room : maxAnswer ≤ length out
+
+-- A step: the bytes that were read are fed, and the next ones are read; what is left of the limit falls by these.
+pub record Steps (t : State) (s buffer chunk : List ℕ) (r : State) (s′ buffer′ chunk′ : List ℕ) : Type 0 where
+  pub passes : Passes (t .ledger) s buffer (t .fill) (take (t .got) chunk) (record { ledger = r .ledger; fill = r .fill; error = r .writing }) s′ buffer′
+  pub reads : r .writing ≡ 0 → Reads (t .left) (length chunk′) (r .got) (r .left) (r .reading)
+  pub stops : 0 < r .writing → (r .got ≡ 0) × (r .left ≡ t .left)
+
+-- Steps from the beginning: what was fed so far, what was read last and what is left make up the limit.
+pub record Ran (s buffer : List ℕ) (t : State) (s′ buffer′ : List ℕ) : Type 0 where
+  pub fed : List ℕ
+  pub put : List ℕ
+  pub pieces : Pieces freshLedger s buffer 0 fed put (t .ledger) s′ buffer′ (t .fill)
+  pub within : length fed + (t .got + t .left) ≤ maxInput
+  pub all : t .writing ≡ 0 → length fed + (t .got + t .left) ≡ maxInput
+
+-- The end: the last answer and the report are handed to `write`.
+pub record Ends (l : Ledger) (s buffer : List ℕ) (fill : ℕ) (out : List ℕ) (handed error : ℕ) (s′ buffer′ out′ : List ℕ) : Type 0 where
+  pub length-written : ℕ
+  pub finishes : Finishes l s buffer fill out (Written length-written) s′ buffer′ out′
+  pub writes : Writes length-written handed error
+
+-- The command: it stops where a write of answers fails; else all that was read is fed, and the end comes.
+pub data Runs (s buffer : List ℕ) (r : Ended) (s″ buffer″ out″ : List ℕ) : Type 0 where
+  stopped : (t : State) → Ran s buffer t s″ buffer″ → 0 < t .writing → r .writing ≡ t .writing → Runs s buffer r s″ buffer″ out″
+  ended : (t : State) (s′ buffer′ out : List ℕ) → Ran s buffer t s′ buffer′ → t .got ≡ 0 → t .writing ≡ 0 → r .left ≡ t .left
+      → Ends (t .ledger) s′ buffer′ (t .fill) out (r .handed) (r .writing) s″ buffer″ out″
+      → Runs s buffer r s″ buffer″ out″
