@@ -6,7 +6,8 @@ use Prim.Native.Nat.{ℕ, _+_, _≤_, _<_}
 use mathlib.Core.List.{List}
 use lib.ListN.{length, take, drop}
 use Rattle.state.specs.declared.Ledger.{Ledger}
-use Rattle.state.specs.State.{freshLedger}
+use Rattle.state.specs.State.{storeLength, freshLedger}
+use Rattle.reading.specs.Reading.{maxLine}
 use Rattle.answers.specs.Answers.{maxAnswer}
 use Rattle.session.specs.declared.Finished.the-variants.{Written}
 use Rattle.session.specs.Session.{maxInput}
@@ -52,6 +53,12 @@ pub record Steps (t : State) (s buffer chunk : List ℕ) (r : State) (s′ buffe
   pub passes : Passes (t .ledger) s buffer (t .fill) (take (t .got) chunk) (record { ledger = r .ledger; fill = r .fill; error = r .writing }) s′ buffer′
   pub reads : r .writing ≡ 0 → Reads (t .left) (length chunk′) (r .got) (r .left) (r .reading)
   pub stops : 0 < r .writing → (r .got ≡ 0) × (r .left ≡ t .left)
+
+-- what the command is lent: a store and a line buffer of their lengths, and room for the longest end
+pub record Lent (s buffer out : List ℕ) : Type 0 where
+  pub store-long : length s ≡ storeLength
+  pub line-long : length buffer ≡ maxLine
+  pub room : maxEnd ≤ length out
 
 -- Steps from the beginning: what was fed so far, what was read last and what is left make up the limit.
 pub record Ran (s buffer : List ℕ) (t : State) (s′ buffer′ : List ℕ) : Type 0 where

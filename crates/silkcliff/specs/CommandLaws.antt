@@ -6,13 +6,12 @@ use native.Mathlib.Omega.{arith}
 use mathlib.Core.List.{List, _++_}
 use lib.ListN.{length, take}
 use lib.Seq.{take-all}
-use Rattle.state.specs.State.{storeLength, freshLedger}
-use Rattle.reading.specs.Reading.{maxLine}
+use Rattle.state.specs.State.{freshLedger}
 use Rattle.session.specs.Session.{maxInput, outputOf}
 use Rattle.session.specs.InPieces.{Pieces, in-pieces}
 use Rattle.silkcliff.specs.declared.State.{State}
 use Rattle.silkcliff.specs.declared.Ended.{Ended}
-use Rattle.silkcliff.specs.Command.{Ran, Ends, Runs, stopped, ended}
+use Rattle.silkcliff.specs.Command.{Lent, Runs, stopped, ended}
 
 -- The bytes fed are as many as the limit lost; those that were handed to `write`, before the end and at the end, are the output of these.
 pub record Outputs (r : Ended) (out : List ℕ) : Type 0 where
@@ -21,10 +20,9 @@ pub record Outputs (r : Ended) (out : List ℕ) : Type 0 where
   pub counted : length fed + r .left ≡ maxInput
   pub output : put ++ take (r .handed) out ≡ outputOf fed
 
-pub runs-output : {s buffer s″ buffer″ out″ : List ℕ} {r : Ended} → length s ≡ storeLength → length buffer ≡ maxLine
-    → Runs s buffer r s″ buffer″ out″ → r .writing ≡ 0 → Outputs r out″
-runs-output h k (stopped t ran failed same) good = absurd (omega arith)
-runs-output {s = s} {buffer = buffer} {out″ = out″} h k (ended t s′ buffer′ out ran none good left ends) written =
+pub runs-output : {s buffer out s″ buffer″ out″ : List ℕ} {r : Ended} → Lent s buffer out → Runs s buffer r s″ buffer″ out″ → r .writing ≡ 0 → Outputs r out″
+runs-output lent (stopped t ran failed same) good = absurd (omega arith)
+runs-output {s = s} {buffer = buffer} {out″ = out″} lent (ended t s′ buffer′ out ran none good left ends) written =
     let counted : length (ran .fed) + (t .got + t .left) ≡ maxInput = ran .all good in
     let whole : take maxInput (ran .fed) ≡ ran .fed = take-all maxInput (ran .fed) (omega arith) in
     let pieces : Pieces freshLedger s buffer 0 (take maxInput (ran .fed)) (ran .put) (t .ledger) s′ buffer′ (t .fill) =
@@ -33,5 +31,5 @@ runs-output {s = s} {buffer = buffer} {out″ = out″} h k (ended t s′ buffer
       fed = ran .fed;
       put = ran .put;
       counted = omega arith;
-      output = ap (λ (n : ℕ). ran .put ++ take n out″) (ends .writes .all written) ∙ in-pieces (ran .fed) h k pieces (ends .finishes);
+      output = ap (λ (n : ℕ). ran .put ++ take n out″) (ends .writes .all written) ∙ in-pieces (ran .fed) (lent .store-long) (lent .line-long) pieces (ends .finishes);
     }

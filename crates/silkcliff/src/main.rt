@@ -5,7 +5,7 @@ ghost use lib.ListN.{length};
 ghost use Rattle.answers.specs.Answers.{maxAnswer};
 ghost use Rattle.session.specs.Session.{maxInput};
 ghost use Rattle.session.specs.Feeding.{maxEnd};
-ghost use Rattle.silkcliff.specs.Command.{HandsOn, Passes, Begins, Ready, Steps, Ends, Runs};
+ghost use Rattle.silkcliff.specs.Command.{HandsOn, Passes, Begins, Ready, Steps, Ends, Lent, Runs};
 use ledger::Ledger;
 use reading::MAX_LINE;
 use session::Fed;
@@ -142,10 +142,11 @@ fn step(state: State, store: &mut [u8], line: &mut [u8], chunk: &mut [u8], out: 
     let got = state.got;
     let p = pass_on(ledger, store, line, state.fill, &chunk[..got], out);
     let next = p.ledger;
+    let fill = p.fill;
     if p.error != 0 {
         return State {
             ledger: next,
-            fill: p.fill,
+            fill: fill,
             got: 0,
             left: state.left,
             reading: 0,
@@ -155,7 +156,7 @@ fn step(state: State, store: &mut [u8], line: &mut [u8], chunk: &mut [u8], out: 
     let i = streams::read_some(state.left, chunk);
     State {
         ledger: next,
-        fill: p.fill,
+        fill: fill,
         got: i.got,
         left: i.left,
         reading: i.error,
@@ -176,7 +177,7 @@ fn end(ledger: Ledger, store: &mut [u8], line: &mut [u8], fill: usize, out: &mut
 
 // Reads, feeds and writes, up to the limit.
 fn run(store: &mut [u8], line: &mut [u8], chunk: &mut [u8], out: &mut [u8]) -> Ended
-    requires { ⌜ maxEnd ≤ length (now out) ⌝ }
+    requires { ⌜ Lent (now store) (now line) (now out) ⌝ }
     ensures { λ r. ⌜ Runs (now (store .entry)) (now (line .entry)) r (now (store .exit)) (now (line .exit)) (now (out .exit)) ⌝ }
 {
     let mut state = begin(chunk);

@@ -85,12 +85,12 @@ pub fn read_some(left: usize, buffer: &mut [u8]) -> Input
     ensures { λ r. ⌜ Reads left (length (now (buffer .exit))) (r .got) (r .left) (r .error) ⌝ }
 {
     let most = least(left, buffer.len());
-    let m = read_again(&mut buffer[..most]);
-    let rest = left - m.count;
+    let moved = read_again(&mut buffer[..most]);
+    let rest = left - moved.count;
     Input {
-        got: m.count,
+        got: moved.count,
         left: rest,
-        error: m.error,
+        error: moved.error,
     }
 }
 

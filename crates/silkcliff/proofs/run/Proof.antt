@@ -32,7 +32,7 @@ at-start c = c .before .before .before .before .before .before .before .before .
 step-requires : tie.Need-step-requires Inv-loop μ-loop
 step-requires c κs =
     let l = c .before .before .before .before .before .before in
-    record { within = l .loop .inv .0 .within; room = omega (arith, at-start l .pre, l .loop .inv .4) }
+    record { within = l .loop .inv .0 .within; room = omega (arith, at-start l .pre .room, l .loop .inv .4) }
 
 -- the places of a turn's call of `step` and of the turn
 abbrev at-step : tie.After-slice-known9 Inv-loop μ-loop → tie.After-step Inv-loop μ-loop
