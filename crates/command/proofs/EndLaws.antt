@@ -10,7 +10,7 @@ use Rattle.session.specs.declared.Finished.{Finished}
 use Rattle.session.specs.declared.Finished.the-variants.{Written, Short}
 use Rattle.session.specs.Feeding.{maxEnd, Finishes, short, written}
 use Rattle.streams.specs.Streams.{Writes}
-use Rattle.silkcliff.specs.Command.{Ends}
+use Rattle.command.specs.Command.{Ends}
 
 -- it lies in a buffer as long as the one that was given
 pub finish-inside : {l : Ledger} {s buffer out s′ buffer′ out′ : List ℕ} {fill n : ℕ} {r : Finished} → Finishes l s buffer fill out r s′ buffer′ out′

@@ -1,15 +1,15 @@
--- `silkcliff::pass_on` meets its contract. The loop's invariant: the first `at` bytes of the chunk were fed, in pieces. The measure is what is left of the chunk: with room
+-- `command::pass_on` meets its contract. The loop's invariant: the first `at` bytes of the chunk were fed, in pieces. The measure is what is left of the chunk: with room
 -- for an answer, `feed` consumes some of it.
 -- Assumes nothing.
-use mathlib.Core.Path.{_≡_}
-use Prim.Native.Nat.{_+_, _-_}
+use mathlib.Core.Path.{_≡_, refl, sym, subst, _∙_}
+use Prim.Native.Nat.{ℕ, _+_, _-_, _≤_}
 use native.Mathlib.Omega.{arith}
 use lib.ListN.{length}
-use Rattle.silkcliff.specs.Command.{Consumes}
-use Rattle.silkcliff.proofs.PassLaws.{consumes-none, consumes-more, consumes-less, passes-all, passes-part}
-use borrow.Author.Needs.{needs}
-use Rattle.silkcliff.proofs.pass_on.Statement.{statement}
-use Rattle.silkcliff.proofs.pass_on.Tie as tie
+use Rattle.answers.specs.Answers.{maxAnswer}
+use Rattle.command.specs.Command.{Consumes}
+use Rattle.command.proofs.PassLaws.{consumes-none, consumes-more, consumes-less, passes-all, passes-part}
+use Rattle.command.proofs.pass_on.Statement.{statement}
+use Rattle.command.proofs.pass_on.Tie as tie
 
 abbrev Inv-loop : tie.InvT-loop
 Inv-loop store₀ line₀ fill chunk out₀ current₀ n₀ at₀ store line out current n at =
@@ -20,10 +20,10 @@ abbrev μ-loop : tie.MeasureT-loop
 μ-loop store₀ line₀ fill chunk out₀ current₀ n₀ at₀ store line out current n at = length chunk - at
 
 loop-holds : tie.Need-loop-holds Inv-loop μ-loop
-loop-holds c = (consumes-none, search needs, search needs, search needs)
+loop-holds c = (consumes-none, refl, refl, refl)
 
 hand-on-requires : tie.Need-hand-on-requires Inv-loop μ-loop
-hand-on-requires c κs = search needs
+hand-on-requires c κs = c .before .before .before .before .loop .inv .0 .within
 
 -- the places of a turn, of its call of `hand_on` and of the function's entry
 abbrev at-hand-on : tie.After-struct-known Inv-loop μ-loop → tie.After-hand-on Inv-loop μ-loop
@@ -42,14 +42,24 @@ consumed : (c : tie.After-struct-known Inv-loop μ-loop)
     (at-hand-on c .hand-on .result .fed .ledger) (at-hand-on c .hand-on .last .1 .0) (at-hand-on c .hand-on .last .1 .1 .0) (at-hand-on c .hand-on .result .fed .fill)
 consumed c = consumes-more (at-turn c .before .loop .inv .0) (at-hand-on c .hand-on .ensures)
 
+-- a piece keeps the lengths of the store, the line buffer and the output buffer
+store-kept : (c : tie.After-struct-known Inv-loop μ-loop) → length (at-hand-on c .hand-on .last .1 .0) ≡ length (at-start (at-turn c .before) .args .store .now)
+store-kept c = at-hand-on c .hand-on .kept .1 .0 ∙ at-turn c .before .loop .inv .1
+
+line-kept : (c : tie.After-struct-known Inv-loop μ-loop) → length (at-hand-on c .hand-on .last .1 .1 .0) ≡ length (at-start (at-turn c .before) .args .line .now)
+line-kept c = at-hand-on c .hand-on .kept .1 .1 .0 ∙ at-turn c .before .loop .inv .2
+
+out-kept : (c : tie.After-struct-known Inv-loop μ-loop) → length (at-hand-on c .hand-on .last .1 .1 .1 .1 .1 .1 .0) ≡ length (at-start (at-turn c .before) .args .out .now)
+out-kept c = at-hand-on c .hand-on .kept .1 .1 .1 .1 .1 .1 .0 ∙ at-turn c .before .loop .inv .3
+
 same-length : tie.Need-same-length Inv-loop μ-loop
-same-length c = search needs
+same-length c = store-kept (c .before)
 
 same-length-2 : tie.Need-same-length-2 Inv-loop μ-loop
-same-length-2 c = search needs
+same-length-2 c = line-kept (c .before)
 
 same-length-3 : tie.Need-same-length-3 Inv-loop μ-loop
-same-length-3 c = search needs
+same-length-3 c = out-kept (c .before)
 
 returns : tie.Need-returns Inv-loop μ-loop
 returns c = passes-part (consumed (c .before)) _ (c .if1 .taken)
@@ -61,19 +71,19 @@ loop-less : tie.Need-loop-less Inv-loop μ-loop
 loop-less c =
     let h = at-hand-on (c .before .before) in
     let t = at-turn (c .before .before) in
-    consumes-less (t .before .loop .inv .0) (h .hand-on .ensures) (omega (arith, at-start (t .before) .pre, t .before .loop .inv)) (t .loop-test .taken)
+    consumes-less (t .before .loop .inv .0) (h .hand-on .ensures) (subst (λ (n : ℕ). maxAnswer ≤ n) (sym (t .before .loop .inv .3)) (at-start (t .before) .pre)) (t .loop-test .taken)
 
 loop-again : tie.Need-loop-again Inv-loop μ-loop
-loop-again c = (consumed (c .before .before), search needs, search needs, search needs)
+loop-again c = (consumed (c .before .before), store-kept (c .before .before), line-kept (c .before .before), out-kept (c .before .before))
 
 same-length-4 : tie.Need-same-length-4 Inv-loop μ-loop
-same-length-4 c = search needs
+same-length-4 c = c .before .loop .inv .1
 
 same-length-5 : tie.Need-same-length-5 Inv-loop μ-loop
-same-length-5 c = search needs
+same-length-5 c = c .before .loop .inv .2
 
 same-length-6 : tie.Need-same-length-6 Inv-loop μ-loop
-same-length-6 c = search needs
+same-length-6 c = c .before .loop .inv .3
 
 returns-2 : tie.Need-returns-2 Inv-loop μ-loop
 returns-2 c = passes-all (c .before .loop .inv .0) (c .loop-test .left)

@@ -12,8 +12,8 @@ use Rattle.state.specs.State.{freshLedger}
 use Rattle.session.specs.Session.{maxInput}
 use Rattle.session.specs.InPieces.{Pieces, done}
 use Rattle.session.specs.PieceLaws.{pieces-then}
-use Rattle.silkcliff.specs.declared.State.{State}
-use Rattle.silkcliff.specs.Command.{Begins, Steps, Ran}
+use Rattle.command.specs.declared.State.{State}
+use Rattle.command.specs.Command.{Begins, Steps, Ran}
 
 -- what holds before each step: what was done so far; what was read last is in the chunk; and none was, where a write failed
 pub record Running (s buffer : List ℕ) (t : State) (s′ buffer′ chunk : List ℕ) : Type 0 where

@@ -13,9 +13,9 @@ use Rattle.session.specs.Feeding.{Feeds}
 use Rattle.session.specs.InPieces.{Pieces, done}
 use Rattle.session.specs.PieceLaws.{pieces-more}
 use Rattle.streams.specs.Streams.{Writes}
-use Rattle.silkcliff.specs.declared.Handed.{Handed}
-use Rattle.silkcliff.specs.declared.Passed.{Passed}
-use Rattle.silkcliff.specs.Command.{HandsOn, Consumes, Passes}
+use Rattle.command.specs.declared.Handed.{Handed}
+use Rattle.command.specs.declared.Passed.{Passed}
+use Rattle.command.specs.Command.{HandsOn, Consumes, Passes}
 
 -- the chunk from `at` on, as the part that is lent
 pub rest-is : (at : ℕ) (chunk : List ℕ) → take (length chunk - at) (drop at chunk) ≡ drop at chunk

@@ -14,10 +14,10 @@ use Rattle.session.specs.Session.{maxInput}
 use Rattle.session.specs.Feeding.{maxEnd, Feeds, Finishes}
 use Rattle.session.specs.InPieces.{Pieces}
 use Rattle.streams.specs.Streams.{Reads, Writes}
-use Rattle.silkcliff.specs.declared.Handed.{Handed}
-use Rattle.silkcliff.specs.declared.Passed.{Passed}
-use Rattle.silkcliff.specs.declared.State.{State}
-use Rattle.silkcliff.specs.declared.Ended.{Ended}
+use Rattle.command.specs.declared.Handed.{Handed}
+use Rattle.command.specs.declared.Passed.{Passed}
+use Rattle.command.specs.declared.State.{State}
+use Rattle.command.specs.declared.Ended.{Ended}
 
 -- A piece: the chunk from byte `at` on is fed, and what that puts out is handed to `write`.
 pub record HandsOn (l : Ledger) (s buffer : List ℕ) (fill : ℕ) (chunk : List ℕ) (at : ℕ) (out : List ℕ) (r : Handed) (s′ buffer′ out′ : List ℕ) : Type 0 where
@@ -74,9 +74,20 @@ pub record Ends (l : Ledger) (s buffer : List ℕ) (fill : ℕ) (out : List ℕ)
   pub finishes : Finishes l s buffer fill out (Written length-written) s′ buffer′ out′
   pub writes : Writes length-written handed error
 
--- The command: it stops where a write of answers fails; else all that was read is fed, and the end comes.
+-- The loop: it stops where a write of answers fails; else all that was read is fed, and the end comes.
 pub data Runs (s buffer : List ℕ) (r : Ended) (s″ buffer″ out″ : List ℕ) : Type 0 where
   stopped : (t : State) → Ran s buffer t s″ buffer″ → 0 < t .writing → r .writing ≡ t .writing → Runs s buffer r s″ buffer″ out″
   ended : (t : State) (s′ buffer′ out : List ℕ) → Ran s buffer t s′ buffer′ → t .got ≡ 0 → t .writing ≡ 0 → r .left ≡ t .left
       → Ends (t .ledger) s′ buffer′ (t .fill) out (r .handed) (r .writing) s″ buffer″ out″
       → Runs s buffer r s″ buffer″ out″
+
+-- The command: the loop, with what it is lent.
+pub record Commands (r : Ended) : Type 0 where
+  pub store : List ℕ
+  pub line : List ℕ
+  pub out : List ℕ
+  pub lent : Lent store line out
+  pub last-store : List ℕ
+  pub last-line : List ℕ
+  pub last-out : List ℕ
+  pub runs : Runs store line r last-store last-line last-out
