@@ -5,4 +5,5 @@ pub mod Feeding
 pub mod FeedLaws
 pub mod FinishLaws
 pub mod InPieces
+pub mod PieceLaws
 pub mod Examples

@@ -1,12 +1,13 @@
--- `silkcliff::end` is safe: what `finish` puts out lies within the buffer.
+-- `command::end` meets its contract: what `finish` puts out lies within the buffer, and as many bytes are handed to `write`.
 -- Assumes nothing.
-use mathlib.Core.Path.{sym}
+use mathlib.Core.Path.{sym, _∙_}
 use native.Mathlib.Omega.{arith}
 use lib.Seq.{length-take-le}
 use Rattle.session.specs.FinishLaws.{finishes-within}
+use Rattle.command.proofs.PassLaws.{writes-all}
 use borrow.Author.Needs.{needs}
-use Rattle.silkcliff.proofs.end.Statement.{statement}
-use Rattle.silkcliff.proofs.end.Tie as tie
+use Rattle.command.proofs.end.Statement.{statement}
+use Rattle.command.proofs.end.Tie as tie
 
 finish-requires : tie.Need-finish-requires
 finish-requires c κs = search needs
@@ -32,7 +33,14 @@ same-length-2 : tie.Need-same-length-2
 same-length-2 c = search needs
 
 returns : tie.Need-returns
-returns c = search needs
+returns c =
+    let w = c .before .before in
+    let f = w .before .before .before .before .before .finish in
+    record {
+      finished = f .result;
+      finishes = f .ensures;
+      writes = writes-all (sym (w .written .ensures) ∙ slice-aggregate-write-all (c .before)) (c .write-all .ensures);
+    }
 
 pub end-spec : {M : Type 1} → statement M
 end-spec =
