@@ -10,9 +10,8 @@ use Rattle.state.specs.State.{storeLength}
 use Rattle.state.specs.View.{freshLedger}
 use Rattle.reading.specs.Reading.{maxLine}
 use Rattle.answers.specs.Answers.{maxAnswer}
-use Rattle.session.specs.declared.Finished.{Finished}
 use Rattle.session.specs.Session.{maxInput}
-use Rattle.session.specs.Feeding.{maxEnd, putOut, Feeds, Finishes}
+use Rattle.session.specs.Feeding.{maxEnd, EndValues, putOut, Feeds, FinishRow}
 use Rattle.session.specs.InPieces.{Pieces}
 use Rattle.streams.specs.Streams.{Reads, Writes}
 use Rattle.command.specs.declared.Handed.{Handed}
@@ -81,9 +80,9 @@ pub record Ran (s buffer : List ℕ) (t : State) (s′ buffer′ : List ℕ) : T
 
 -- The end: what `finish` puts out is handed to `write`.
 pub record Ends (l : Ledger) (s buffer : List ℕ) (fill : ℕ) (out : List ℕ) (handed error : ℕ) (s′ out′ : List ℕ) : Type 0 where
-  pub finished : Finished
-  pub finishes : Finishes l s buffer fill out finished s′ out′
-  pub writes : Writes (putOut finished) handed error
+  pub values : EndValues
+  pub finishes : FinishRow l s buffer fill out values s′ out′
+  pub writes : Writes (putOut values) handed error
 
 -- The loop: it stops where a write of answers fails; else all that was read is fed, and the end comes.
 pub data Runs (s buffer : List ℕ) (r : Ended) (s″ buffer″ out″ : List ℕ) : Type 0 where

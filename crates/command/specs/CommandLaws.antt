@@ -7,9 +7,7 @@ use mathlib.Core.List.{List, _++_}
 use lib.ListN.{length, take}
 use lib.Seq.{take-all, take-take}
 use Rattle.state.specs.View.{freshLedger}
-use Rattle.session.specs.declared.Finished.{Finished}
-use Rattle.session.specs.declared.Finished.the-variants.{Written}
-use Rattle.session.specs.Feeding.{putOut, Finishes}
+use Rattle.session.specs.Feeding.{EndValues, withReport, putOut, FinishRow}
 use Rattle.session.specs.Session.{maxInput, outputOf}
 use Rattle.session.specs.InPieces.{Pieces, in-pieces, pieces-reported}
 use Rattle.command.specs.declared.Ended.{Ended}
@@ -32,8 +30,8 @@ runs-output {s = s} {buffer = buffer} {s″ = s″} {buffer″ = buffer″} {out
     let pieces : Pieces freshLedger s buffer 0 (take maxInput (ran .fed)) (ran .put) (t .ledger) s′ buffer″ (t .fill) =
     subst (λ (xs : List ℕ). Pieces freshLedger s buffer 0 xs (ran .put) (t .ledger) s′ buffer″ (t .fill)) (sym whole) (ran .pieces) in
     let report = pieces-reported (ran .fed) (lent .store-long) (lent .line-long) (ran .pieces) room (ends .finishes) in
-    let finishes : Finishes (t .ledger) s′ buffer″ (t .fill) out (Written (report .0)) s″ out″ =
-    subst (λ (x : Finished). Finishes (t .ledger) s′ buffer″ (t .fill) out x s″ out″) (report .1) (ends .finishes) in
+    let finishes : FinishRow (t .ledger) s′ buffer″ (t .fill) out (withReport (report .0)) s″ out″ =
+    subst (λ (v : EndValues). FinishRow (t .ledger) s′ buffer″ (t .fill) out v s″ out″) (report .1) (ends .finishes) in
     record {
       fed = ran .fed;
       put = ran .put;

@@ -15,10 +15,9 @@ use Rattle.reading.specs.Line.{lineIn}
 use Rattle.input.specs.Lines.{Keeps}
 use Rattle.input.specs.KeepLaws.{keeps-read, keeps-unbegun, keeps-begun}
 use Rattle.session.specs.declared.Answered.{Answered}
-use Rattle.session.specs.declared.Finished.{Finished}
 use Rattle.session.specs.Answering.{AnswersLines, done, lastOf, Answers}
 use Rattle.session.specs.AnsweringLaws.{answers-one}
-use Rattle.session.specs.Feeding.{maxEnd, ReportsAt, LastLine, Finishes, ended}
+use Rattle.session.specs.Feeding.{maxEnd, EndValues, ReportsAt, LastLine, FinishRow, ended}
 
 no-last : (line : List ℕ) → length line ≡ 0 → lastOf line ≡ []
 unfolding lastOf
@@ -39,8 +38,8 @@ module _ {l : Ledger} {s buffer : List ℕ} {fill : ℕ} (out : List ℕ) (sized
         answers = λ line k. subst (λ (os : List (Option (List ℕ))). AnswersLines l s os l s []) (sym (no-last line (keeps-unbegun k e))) done;
       }
 
-  pub end-unbegun : fill ≡ 0 → {r : Finished} {out′ : List ℕ} → ReportsAt (bookOf l) s 0 out r out′ → Finishes l s buffer fill out r s out′
-  end-unbegun e {r} {out′} p = ended r l s [] out′ sized room (last-none e) p
+  pub end-unbegun : fill ≡ 0 → {v : EndValues} {out′ : List ℕ} → ReportsAt (bookOf l) s 0 out v out′ → FinishRow l s buffer fill out v s out′
+  end-unbegun e {v} {out′} p = ended v l s [] out′ sized room (last-none e) p
 
   module _ (begun : fill ≡ 0 → ⊥) {a : Answered} {s′ out₁ : List ℕ} (w : Answers l s buffer fill out 0 a s′ out₁) where
     last-some : LastLine l s buffer fill (a .ledger) s′ (w .text)
@@ -63,7 +62,7 @@ module _ {l : Ledger} {s buffer : List ℕ} {fill : ℕ} (out : List ℕ) (sized
     pub end-inside : length out₁ ≡ length out → a .written ≤ length out₁
     end-inside e = omega (arith, end-at, w .short)
 
-    pub end-line : {r : Finished} {out′ : List ℕ} → ReportsAt (bookOf (a .ledger)) s′ (a .written) out₁ r out′ → Finishes l s buffer fill out r s′ out′
-    end-line {r} {out′} p =
-        ended r (a .ledger) s′ (w .text) out′ sized room last-some
-        (subst₂ (λ (n : ℕ) (o : List ℕ). ReportsAt (bookOf (a .ledger)) s′ n o r out′) end-at end-out p)
+    pub end-line : {v : EndValues} {out′ : List ℕ} → ReportsAt (bookOf (a .ledger)) s′ (a .written) out₁ v out′ → FinishRow l s buffer fill out v s′ out′
+    end-line {v} {out′} p =
+        ended v (a .ledger) s′ (w .text) out′ sized room last-some
+        (subst₂ (λ (n : ℕ) (o : List ℕ). ReportsAt (bookOf (a .ledger)) s′ n o v out′) end-at end-out p)

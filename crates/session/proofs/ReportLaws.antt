@@ -1,16 +1,14 @@
 -- A report after the first bytes of the output buffer.
 -- Assumes nothing.
-use mathlib.Core.Path.{_≡_, refl, sym, ap, subst, subst₂, _∙_}
+use mathlib.Core.Path.{_≡_, sym, ap, subst, subst₂}
 use Prim.Native.Nat.{ℕ, _+_, _≤_}
 use native.Mathlib.Omega.{arith}
-use mathlib.Core.List.{List, _++_}
-use lib.ListN.{length, take, drop}
+use mathlib.Core.List.{List}
+use lib.ListN.{length, drop}
 use Rattle.state.specs.State.{Book}
-use Rattle.refusals.specs.declared.Refusal.{Refusal}
-use Rattle.refusals.specs.Numbers.{refusalNumber, Output, putBytes, refusedBy}
+use Rattle.refusals.specs.Numbers.{Output, putBytes, refusedBy}
 use Rattle.ledger.specs.Report.{ReportRow}
-use Rattle.session.specs.declared.Finished.the-variants.{Written, Unreported}
-use Rattle.session.specs.Feeding.{ReportsAt, reported, unreported}
+use Rattle.session.specs.Feeding.{withReport, withoutReport, ReportsAt, reported, unreported}
 use Rattle.session.specs.FinishLaws.{report-within}
 use Rattle.session.proofs.OutLaws.{partFrom, withPart, part-is, part-length, with-is}
 
@@ -21,8 +19,8 @@ module _ {l : Book} {s : List ℕ} (out : List ℕ) (at : ℕ) (inside : at ≤ 
   pub at-within : (n : ℕ) → v ≡ putBytes n → at + n ≤ length out
   at-within n e = omega (arith, report-within (lent (putBytes n) e), ap length (sym (part-is out at inside)), part-length out at inside)
 
-  pub at-reported : (n : ℕ) → v ≡ putBytes n → ReportsAt l s at out (Written (at + n)) (withPart out at o)
-  at-reported n e = subst (ReportsAt l s at out (Written (at + n))) (sym (with-is out at inside o)) (reported n o (lent (putBytes n) e))
+  pub at-reported : (n : ℕ) → v ≡ putBytes n → ReportsAt l s at out (withReport (at + n)) (withPart out at o)
+  at-reported n e = subst (ReportsAt l s at out (withReport (at + n))) (sym (with-is out at inside o)) (reported n o (lent (putBytes n) e))
 
-  pub at-refused : (e : Refusal) → v ≡ refusedBy (refusalNumber e) → ReportsAt l s at out (Unreported at e) (withPart out at o)
-  at-refused e q = subst (ReportsAt l s at out (Unreported at e)) (sym (with-is out at inside o)) (unreported e o (lent (refusedBy (refusalNumber e)) q))
+  pub at-refused : (k : ℕ) → v ≡ refusedBy k → ReportsAt l s at out (withoutReport at k) (withPart out at o)
+  at-refused k e = subst (ReportsAt l s at out (withoutReport at k)) (sym (with-is out at inside o)) (unreported k o (lent (refusedBy k) e))

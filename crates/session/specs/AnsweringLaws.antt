@@ -12,9 +12,10 @@ use Rattle.keys.specs.Member.{any}
 use Rattle.state.specs.declared.Ledger.{Ledger}
 use Rattle.state.specs.View.{bookOf}
 use Rattle.state.specs.Stands.{Stands}
+use Rattle.offering.specs.Values.{OfferValues}
+use Rattle.offering.specs.Words.{valuesText}
 use Rattle.ledger.specs.Calls.{Calls, call, offer-stands}
 use Rattle.ledger.specs.Calls as calls
-use Rattle.offering.specs.Words.{valuesText}
 use Rattle.ledger.specs.Answers.{answer-right}
 use Rattle.reading.specs.Reading.{readLine}
 use Rattle.input.specs.Lines.{broken}
@@ -93,7 +94,7 @@ pub answers-machine : {l l′ : Ledger} {s s′ t : List ℕ} {o : Option (List 
 unfolding answerLine
 answers-machine m h unread = (h, refl)
 answers-machine {l} {s = s} m h (offered {b = b} o) =
-    (offer-stands l s (m .stored) h b o, ap (λ (x : List ℕ). m .out ++ x) (sym (ap valuesText (answer-right l s (m .stored) h b o))))
+    (offer-stands l s (m .stored) h b o, ap (λ (x : OfferValues). m .out ++ valuesText x) (sym (answer-right l s (m .stored) h b o)))
 
 -- no line is begun then
 answer-begins : (m : Machine) (o : Option (List ℕ)) → answerLine m o .line ≡ []

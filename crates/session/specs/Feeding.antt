@@ -9,9 +9,8 @@ use lib.ListN.{length, take, drop}
 use Rattle.state.specs.declared.Ledger.{Ledger}
 use Rattle.state.specs.State.{Book}
 use Rattle.state.specs.View.{bookOf}
-use Rattle.refusals.specs.declared.Refusal.{Refusal}
-use Rattle.ledger.specs.declared.Reported.the-variants.{Written as ReportWritten, Refused}
-use Rattle.ledger.specs.Report.{Reporting}
+use Rattle.refusals.specs.Numbers.{refusalNumber, putBytes, refusedBy}
+use Rattle.ledger.specs.Report.{ReportRow}
 use Rattle.reading.specs.Reading.{maxLine}
 use Rattle.input.specs.Lines.{Keeps}
 use Rattle.answers.specs.Answers.{maxAnswer}
@@ -24,12 +23,26 @@ use Rattle.session.specs.Answering.{AnswersLines, linesOf, lineAfter, la
 abbrev pub maxEnd : ℕ
 maxEnd = maxAnswer + 12000
 
--- how many bytes of output an end comes to
-abbrev pub putOut : Finished → ℕ
-putOut (Written n) = n
-putOut (Unreported n e) = n
-putOut Short = 0
-putOut UnfitLine = 0
+-- The values for each case of the end: how many bytes of output, with the report; how many without it, and document 01's number of its refusal; an output buffer
+-- shorter than the longest end; a line buffer that has not maxLine bytes.
+pub data EndValues : Type 0 where
+  withReport : ℕ → EndValues
+  withoutReport : ℕ → ℕ → EndValues
+  shortOutput : EndValues
+  unfitLine : EndValues
+
+abbrev pub endValues : Finished → EndValues
+endValues (Written n) = withReport n
+endValues (Unreported n r) = withoutReport n (refusalNumber r)
+endValues Short = shortOutput
+endValues UnfitLine = unfitLine
+
+-- how many bytes of output that is
+abbrev pub putOut : EndValues → ℕ
+putOut (withReport n) = n
+putOut (withoutReport n k) = n
+putOut shortOutput = 0
+putOut unfitLine = 0
 
 -- From a ledger, store, line buffer and length to others, by a text: whatever line the buffer keeps, the lines that end in the text are answered one after the
 -- other; what they put out; and the buffer keeps the line that the text leaves begun. (A line buffer of maxLine bytes always keeps one: `keeps-some`.)
@@ -58,9 +71,9 @@ pub data Feeding (l : Ledger) (s buffer : List ℕ) (fill : ℕ) (input out : Li
       → Feeding l s buffer fill input out r s′ buffer′ out′
 
 -- A report after the first `at` bytes of the output buffer: what the entry `report` ensures, of the rest of the buffer.
-pub data ReportsAt (l : Book) (s : List ℕ) (at : ℕ) (out : List ℕ) : Finished → List ℕ → Type 0 where
-  reported : (n : ℕ) (o : List ℕ) → Reporting l s (drop at out) (ReportWritten n) o → ReportsAt l s at out (Written (at + n)) (take at out ++ o)
-  unreported : (e : Refusal) (o : List ℕ) → Reporting l s (drop at out) (Refused e) o → ReportsAt l s at out (Unreported at e) (take at out ++ o)
+pub data ReportsAt (l : Book) (s : List ℕ) (at : ℕ) (out : List ℕ) : EndValues → List ℕ → Type 0 where
+  reported : (n : ℕ) (o : List ℕ) → ReportRow l s (drop at out) (putBytes n) o → ReportsAt l s at out (withReport (at + n)) (take at out ++ o)
+  unreported : (k : ℕ) (o : List ℕ) → ReportRow l s (drop at out) (refusedBy k) o → ReportsAt l s at out (withoutReport at k) (take at out ++ o)
 
 -- The last line, if one is begun, is answered; and what that puts out.
 pub record LastLine (l : Ledger) (s buffer : List ℕ) (fill : ℕ) (l′ : Ledger) (s′ put : List ℕ) : Type 0 where
@@ -70,9 +83,13 @@ pub record LastLine (l : Ledger) (s buffer : List ℕ) (fill : ℕ) (l′ : Ledg
 -- The end of the input, with the output buffer `out`: a line buffer that has not maxLine bytes is refused, and so is an output buffer with no room for the longest end;
 -- nothing changes then. With others, the last line is answered, and then comes what the entry `report` ensures: the report, or else the number of its refusal beside
 -- the answer.
-pub data Finishes (l : Ledger) (s buffer : List ℕ) (fill : ℕ) (out : List ℕ) : Finished → List ℕ → List ℕ → Type 0 where
-  unfit-line : (length buffer ≡ maxLine → ⊥) → Finishes l s buffer fill out UnfitLine s out
-  short : length buffer ≡ maxLine → length out < maxEnd → Finishes l s buffer fill out Short s out
-  ended : (r : Finished) (l′ : Ledger) (s′ put out′ : List ℕ) → length buffer ≡ maxLine → maxEnd ≤ length out
-      → LastLine l s buffer fill l′ s′ put → ReportsAt (bookOf l′) s′ (length put) (put ++ drop (length put) out) r out′
-      → Finishes l s buffer fill out r s′ out′
+pub data FinishRow (l : Ledger) (s buffer : List ℕ) (fill : ℕ) (out : List ℕ) : EndValues → List ℕ → List ℕ → Type 0 where
+  unfit-line : (length buffer ≡ maxLine → ⊥) → FinishRow l s buffer fill out unfitLine s out
+  short : length buffer ≡ maxLine → length out < maxEnd → FinishRow l s buffer fill out shortOutput s out
+  ended : (v : EndValues) (l′ : Ledger) (s′ put out′ : List ℕ) → length buffer ≡ maxLine → maxEnd ≤ length out
+      → LastLine l s buffer fill l′ s′ put → ReportsAt (bookOf l′) s′ (length put) (put ++ drop (length put) out) v out′
+      → FinishRow l s buffer fill out v s′ out′
+
+-- the promise of `finish`
+abbrev pub Finishes : Ledger → List ℕ → List ℕ → ℕ → List ℕ → Finished → List ℕ → List ℕ → Type 0
+Finishes l s buffer fill out r s′ out′ = FinishRow l s buffer fill out (endValues r) s′ out′

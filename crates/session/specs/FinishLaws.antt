@@ -19,11 +19,9 @@ use Rattle.state.specs.FindLaws.{ident-length}
 use Rattle.state.specs.TakeLaws.{stands-sound}
 use Rattle.refusals.specs.Numbers.{Output, putBytes}
 use Rattle.ledger.specs.Report.{ReportRow, unfit, short, written}
-use Rattle.session.specs.declared.Finished.{Finished}
-use Rattle.session.specs.declared.Finished.the-variants.{Written}
 use Rattle.session.specs.Session.{Machine, lastLine, finish}
 use Rattle.session.specs.AnsweringLaws.{last-answers}
-use Rattle.session.specs.Feeding.{maxEnd, putOut, ReportsAt, reported, unreported, LastLine, Finishes, ended}
+use Rattle.session.specs.Feeding.{maxEnd, EndValues, withReport, putOut, ReportsAt, reported, unreported, LastLine, FinishRow, ended}
 use Rattle.session.specs.Feeding as feeding
 use Rattle.session.specs.FeedLaws.{Follows}
 
@@ -45,9 +43,9 @@ module _ {l : Book} {s : List ℕ} {us : List Update} (h : Stands l s us) (out :
       let q = t .of-rules us h in (ap (λ (x : List ℕ). putBytes (length x)) q, ap (λ (x : List ℕ). x ++ drop (length x) out) q)
 
 -- the output of the whole is what the machine had put out, and the first n bytes of the output buffer
-pub record Outputs (m : Machine) (r : Finished) (out′ : List ℕ) : Type 0 where
+pub record Outputs (m : Machine) (v : EndValues) (out′ : List ℕ) : Type 0 where
   pub count : ℕ
-  pub answer : r ≡ Written count
+  pub answer : v ≡ withReport count
   pub output : m .out ++ take count out′ ≡ finish m
 
 module _ {l l′ : Ledger} {s s′ buffer : List ℕ} {fill : ℕ} (m : Machine) (f : Follows l s buffer fill m) (out put : List ℕ) (room : maxEnd ≤ length out)
@@ -74,7 +72,7 @@ module _ {l l′ : Ledger} {s s′ buffer : List ℕ} {fill : ℕ} (m : Machine)
   unfolding finish
   whole = sym (append-assoc (m .out) put text) ∙ ap (λ (x : List ℕ). x ++ text) (sym answered)
 
-  pub reports-output : {r : Finished} {out′ : List ℕ} → ReportsAt (bookOf l′) s′ (length put) page r out′ → Outputs m r out′
+  pub reports-output : {v : EndValues} {out′ : List ℕ} → ReportsAt (bookOf l′) s′ (length put) page v out′ → Outputs m v out′
   reports-output (reported n o p) =
       let q = report-written stands (drop (length put) page) enough p in
       let e : n ≡ length text = cc in
@@ -99,29 +97,29 @@ module _ {l l′ : Ledger} {s s′ buffer : List ℕ} {fill : ℕ} (m : Machine)
       absurd (omega arith)
 
 -- with room for the longest end there is a report, and the output is the machine's
-pub finishes-output : {l : Ledger} {s buffer out s′ out′ : List ℕ} {fill : ℕ} {r : Finished} (m : Machine) → Follows l s buffer fill m → maxEnd ≤ length out
-    → Finishes l s buffer fill out r s′ out′ → Outputs m r out′
+pub finishes-output : {l : Ledger} {s buffer out s′ out′ : List ℕ} {fill : ℕ} {v : EndValues} (m : Machine) → Follows l s buffer fill m → maxEnd ≤ length out
+    → FinishRow l s buffer fill out v s′ out′ → Outputs m v out′
 finishes-output m f room (feeding.unfit-line n) = absurd (n (f .keeps .sized))
 finishes-output m f room (feeding.short e n) = absurd (omega arith)
-finishes-output {out = out} m f room (ended r l′ s′ put out′ e h last p) = reports-output m f out put h last p
+finishes-output {out = out} m f room (ended v l′ s′ put out′ e h last p) = reports-output m f out put h last p
 
 -- a report that is put out is the machine's, whatever the room
 pub finish-output : {l : Ledger} {s buffer out s′ out′ : List ℕ} {fill n : ℕ} (m : Machine) → Follows l s buffer fill m
-    → Finishes l s buffer fill out (Written n) s′ out′ → m .out ++ take n out′ ≡ finish m
-finish-output {out = out} {n = n} m f (ended r l′ s′ put out′ e h last p) =
+    → FinishRow l s buffer fill out (withReport n) s′ out′ → m .out ++ take n out′ ≡ finish m
+finish-output {out = out} {n = n} m f (ended v l′ s′ put out′ e h last p) =
     let o = reports-output m f out put h last p in
     let i : o .count ≡ n = cc in
     subst (λ (k : ℕ). m .out ++ take k out′ ≡ finish m) i (o .output)
 
 -- what is put out lies within the output buffer
-reports-within : {l : Book} {s out out′ : List ℕ} {at : ℕ} {r : Finished} → at ≤ length out → ReportsAt l s at out r out′ → putOut r ≤ length out
+reports-within : {l : Book} {s out out′ : List ℕ} {at : ℕ} {v : EndValues} → at ≤ length out → ReportsAt l s at out v out′ → putOut v ≤ length out
 reports-within {out = out} {at = at} h (reported n o p) = omega (arith, report-within p, length-drop at out)
 reports-within h (unreported e o p) = h
 
-pub finishes-within : {l : Ledger} {s buffer out s′ out′ : List ℕ} {fill : ℕ} {r : Finished} → Finishes l s buffer fill out r s′ out′ → putOut r ≤ length out
+pub finishes-within : {l : Ledger} {s buffer out s′ out′ : List ℕ} {fill : ℕ} {v : EndValues} → FinishRow l s buffer fill out v s′ out′ → putOut v ≤ length out
 finishes-within (feeding.unfit-line n) = omega arith
 finishes-within (feeding.short e n) = omega arith
-finishes-within {out = out} (ended r l′ s′ put out′ e h last p) =
+finishes-within {out = out} (ended v l′ s′ put out′ e h last p) =
     let long : length (put ++ drop (length put) out) ≡ length out =
     omega (arith, length-append put (drop (length put) out), length-drop (length put) out, last .short) in
-    subst (λ (n : ℕ). putOut r ≤ n) long (reports-within (omega (arith, last .short)) p)
+    subst (λ (n : ℕ). putOut v ≤ n) long (reports-within (omega (arith, last .short)) p)

@@ -11,10 +11,8 @@ use Rattle.state.specs.TakeLaws.{fresh-stands}
 use Rattle.reading.specs.Reading.{maxLine}
 use Rattle.input.specs.KeepLaws.{keeps-none}
 use Rattle.session.specs.declared.Fed.{Fed}
-use Rattle.session.specs.declared.Finished.{Finished}
-use Rattle.session.specs.declared.Finished.the-variants.{Written}
 use Rattle.session.specs.Session.{begin, feed, maxInput, outputOf}
-use Rattle.session.specs.Feeding.{maxEnd, Moves, Feeds, Finishes}
+use Rattle.session.specs.Feeding.{maxEnd, EndValues, withReport, Moves, Feeds, FinishRow}
 use Rattle.session.specs.FeedLaws.{moves-none, moves-then, Follows, moves-follows, moves-out}
 use Rattle.session.specs.FinishLaws.{finish-output, finishes-output}
 
@@ -44,7 +42,7 @@ pub in-pieces : (input : List ℕ) {l′ : Ledger} {s s′ s″ buffer buffer′
     → length s ≡ storeLength
     → length buffer ≡ maxLine
     → Pieces freshLedger s buffer 0 (take maxInput input) ys l′ s′ buffer′ fill′
-    → Finishes l′ s′ buffer′ fill′ out (Written n) s″ out′
+    → FinishRow l′ s′ buffer′ fill′ out (withReport n) s″ out′
     → ys ++ take n out′ ≡ outputOf input
 unfolding outputOf
 in-pieces input {s = s} {buffer = buffer} {out′ = out′} {n = n} h k c e =
@@ -53,13 +51,13 @@ in-pieces input {s = s} {buffer = buffer} {out′ = out′} {n = n} h k c e =
     ap (λ (o : List ℕ). o ++ take n out′) (sym (moves-out begin f m)) ∙ finish-output (feed begin (take maxInput input)) (moves-follows begin f m) e
 
 -- .. and with room for the longest end there is a report
-pub pieces-reported : (input : List ℕ) {l′ : Ledger} {s s′ s″ buffer buffer′ ys out out′ : List ℕ} {fill′ : ℕ} {r : Finished}
+pub pieces-reported : (input : List ℕ) {l′ : Ledger} {s s′ s″ buffer buffer′ ys out out′ : List ℕ} {fill′ : ℕ} {v : EndValues}
     → length s ≡ storeLength
     → length buffer ≡ maxLine
     → Pieces freshLedger s buffer 0 input ys l′ s′ buffer′ fill′
     → maxEnd ≤ length out
-    → Finishes l′ s′ buffer′ fill′ out r s″ out′
-    → (n : ℕ) × (r ≡ Written n)
+    → FinishRow l′ s′ buffer′ fill′ out v s″ out′
+    → (n : ℕ) × (v ≡ withReport n)
 pieces-reported input {s = s} {buffer = buffer} h k c room e =
     let o = finishes-output (feed begin input) (moves-follows begin (fresh-follows s buffer h k) (pieces-move c)) room e in
     (o .count, o .answer)

@@ -5,7 +5,7 @@ ghost use lib.ListN.{length};
 ghost use Rattle.state.specs.View.{bookOf};
 ghost use Rattle.answers.specs.Answers.{maxAnswer};
 ghost use Rattle.session.specs.Answering.{Answers};
-ghost use Rattle.session.specs.Feeding.{putOut, Feeding, ReportsAt, Finishes};
+ghost use Rattle.session.specs.Feeding.{endValues, putOut, Feeding, ReportsAt, Finishes};
 use answers::Begun;
 use answers::begin_answer;
 use answers::print_answer;
@@ -47,7 +47,7 @@ pub enum Finished {
 impl Finished {
     // How many bytes of output.
     pub fn written(self) -> usize
-        ensures { λ r. ⌜ r ≡ putOut self ⌝ }
+        ensures { λ r. ⌜ r ≡ putOut (endValues self) ⌝ }
     {
         match self {
             Finished::Written(n) => n,
@@ -143,7 +143,7 @@ pub fn feed(
 // Puts the report after the first `at` bytes of the output buffer.
 fn report_at(ledger: Ledger, store: &[u8], out: &mut [u8], at: usize) -> Finished
     requires { ⌜ at ≤ length (now out) ⌝ }
-    ensures { λ r. ⌜ ReportsAt (bookOf ledger) (now (store .entry)) at (now (out .entry)) r (now (out .exit)) ⌝ }
+    ensures { λ r. ⌜ ReportsAt (bookOf ledger) (now (store .entry)) at (now (out .entry)) (endValues r) (now (out .exit)) ⌝ }
 {
     match ledger::report(ledger, store, &mut out[at..]) {
         Reported::Written(n) => Finished::Written(at + n),

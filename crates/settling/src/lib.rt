@@ -178,7 +178,7 @@ fn begin(l: Ledger, store: &[u8]) -> Pass
 
 impl Pass {
     // Passes over the taken places, one after the other, until one changes nothing.
-    pub fn settle(mut self, store: &[u8]) -> Ledger
+    fn settle(mut self, store: &[u8]) -> Ledger
         requires { ⌜ bookOf (self .ledger) .used ≤ 64 ⌝ }
         ensures { λ r. ⌜ PassedFrom (outcomeOf self) (now (store .entry)) (bookOf r) ⌝ }
     {

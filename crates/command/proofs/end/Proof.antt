@@ -3,6 +3,7 @@
 use mathlib.Core.Path.{sym, _∙_}
 use native.Mathlib.Omega.{arith}
 use lib.Seq.{length-take-le}
+use Rattle.session.specs.Feeding.{endValues}
 use Rattle.session.specs.FinishLaws.{finishes-within}
 use Rattle.command.proofs.PassLaws.{writes-all}
 use borrow.Author.Needs.{needs}
@@ -37,7 +38,7 @@ returns c =
     let w = c .before .before in
     let f = w .before .before .before .before .before .finish in
     record {
-      finished = f .result;
+      values = endValues (f .result);
       finishes = f .ensures;
       writes = writes-all (sym (w .written .ensures) ∙ slice-aggregate-write-all (c .before)) (c .write-all .ensures);
     }

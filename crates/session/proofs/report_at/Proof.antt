@@ -1,9 +1,9 @@
 -- `report_at` meets its contract, by what the report answers.
 -- Assumes nothing.
+use mathlib.Core.Path.{ap}
 use native.Mathlib.Omega.{arith}
 use denote.Ref.{now}
 use borrow.Author.Needs.{needs}
-use mathlib.Core.Path.{ap}
 use Rattle.ledger.specs.Report.{reportValues}
 use Rattle.session.proofs.ReportLaws.{at-within, at-reported, at-refused}
 use Rattle.session.proofs.report_at.Statement.{statement}
