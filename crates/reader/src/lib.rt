@@ -1,5 +1,5 @@
 // Document 01: "The reader of an update carries the lent bytes together with how far it has read". `start`, `past` and `byte` are all that is
-// made of the struct; `read_header` carries one reader through an update's layout, for every caller with a plain slice.
+// done with one; `read_header` carries one through an update's layout, for every caller with a plain slice.
 ghost use mathlib.Core.Path.{_≡_};
 ghost use Prim.Native.Nat.{_+_, _<_, _^_};
 ghost use lib.ListN.{getD};
