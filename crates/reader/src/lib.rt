@@ -1,9 +1,8 @@
 // Document 01: "The reader of an update carries the lent bytes together with how far it has read". `start`, `past` and `byte` are all that is
-// made of the struct; `read_header` carries one reader through an update's layout, for every caller with a plain slice.
+// done with one; `read_header` carries one through an update's layout, for every caller with a plain slice.
 ghost use mathlib.Core.Path.{_≡_};
-ghost use Prim.Native.Nat.{_+_, _*_, _<_, _^_};
+ghost use Prim.Native.Nat.{_+_, _<_, _^_};
 ghost use lib.ListN.{getD};
-ghost use Rattle.format.specs.Update.{idLength};
 ghost use Rattle.reader.specs.Header.{headerOf};
 use format::bounds::ID_LENGTH;
 use format::bounds::TAG_LENGTH;
@@ -56,13 +55,6 @@ fn byte_at(s: &[u8], at: usize) -> u8
     if at < s.len() { s[at] } else { 0 }
 }
 
-// How many bytes so many ids take.
-fn ids_length(count: u8) -> usize
-    ensures { λ r. ⌜ r ≡ idLength * count ⌝ }
-{
-    ID_LENGTH * wide(count)
-}
-
 // What a reader finds on its way from the version to a Remove's count byte.
 pub fn read_header(s: &[u8]) -> Header
     ensures { λ r. ⌜ r ≡ headerOf (now (s .entry)) ⌝ }
@@ -74,11 +66,10 @@ pub fn read_header(s: &[u8]) -> Header
     let at_count = past(at_author, 1);
     let count = byte(at_count);
     let at_ids = past(at_count, 1);
-    let at_kind = past(at_ids, ids_length(count));
+    let at_kind = past(at_ids, ID_LENGTH * wide(count));
     let kind = byte(at_kind);
     let at_body = past(at_kind, 1);
-    let at_named = past(at_body, TAG_LENGTH);
-    let named = byte(at_named);
+    let named = byte(past(at_body, TAG_LENGTH));
     Header {
         version,
         author,
