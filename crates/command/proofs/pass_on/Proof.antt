@@ -23,7 +23,7 @@ loop-holds : tie.Need-loop-holds Inv-loop μ-loop
 loop-holds c = (consumes-none, refl, refl, refl)
 
 hand-on-requires : tie.Need-hand-on-requires Inv-loop μ-loop
-hand-on-requires c κs = c .before .before .before .before .loop .inv .0 .within
+hand-on-requires c κs = omega (arith, c .before .before .before .before .loop .inv .0 .within)
 
 -- the places of a turn, of its call of `hand_on` and of the function's entry
 abbrev at-hand-on : tie.After-struct-known Inv-loop μ-loop → tie.After-hand-on Inv-loop μ-loop
