@@ -1,4 +1,4 @@
--- The end of the output: there is room for it, and it is handed to `write`.
+-- The end of the output: there is room for it, and as many bytes are to be written.
 -- Assumes nothing.
 use mathlib.Core.Path.{_≡_, subst}
 use Prim.Native.Nat.{ℕ, _≤_}
@@ -26,7 +26,7 @@ pub finish-room : {l : Ledger} {s buffer out s′ buffer′ out′ : List ℕ} {
 finish-room (short h) q room = omega arith
 finish-room (written k s′ buffer′ out′ h within f) q room = let z : _≡_ {A = ℕ} 0 1 = cc in omega arith
 
-pub ends : {l : Ledger} {s buffer out s′ buffer′ out′ : List ℕ} {fill n handed error : ℕ} {r : Finished} → Finishes l s buffer fill out r s′ buffer′ out′
-    → r ≡ Written n → Writes n handed error → Ends l s buffer fill out handed error s′ buffer′ out′
+pub ends : {l : Ledger} {s buffer out s′ buffer′ out′ : List ℕ} {fill n taken error : ℕ} {r : Finished} → Finishes l s buffer fill out r s′ buffer′ out′
+    → r ≡ Written n → Writes n taken error → Ends l s buffer fill out taken error s′ buffer′ out′
 ends {l} {s} {buffer} {out} {s′} {buffer′} {out′} {fill} {n} f q w =
-    record { length-written = n; finishes = subst (λ (x : Finished). Finishes l s buffer fill out x s′ buffer′ out′) q f; writes = w }
+    record { end = n; finishes = subst (λ (x : Finished). Finishes l s buffer fill out x s′ buffer′ out′) q f; writes = w }

@@ -1,5 +1,5 @@
--- The command's loop, in the terms of `in-pieces` (session/specs/InPieces): what is fed is what was read, in order, once, and what is handed to `write` is what the pieces
--- put out. That the bytes of a chunk are those of the input, and that those handed to `write` arrive, no contract can say.
+-- The command's loop, in the terms of `in-pieces` (session/specs/InPieces): what is fed is the bytes of the chunk that were read, in order, once, and `write`
+-- takes as many bytes as a piece put out, unless it fails. That the bytes of a chunk are those of the input, and which bytes `write` took, no contract can say.
 -- Assumes nothing.
 use mathlib.Core.Path.{_≡_}
 use Prim.Native.Nat.{ℕ, _+_, _≤_, _<_}
@@ -19,22 +19,22 @@ use Rattle.command.specs.declared.Passed.{Passed}
 use Rattle.command.specs.declared.State.{State}
 use Rattle.command.specs.declared.Ended.{Ended}
 
--- A piece: the chunk from byte `at` on is fed, and what that puts out is handed to `write`.
+-- A piece: the chunk from byte `at` on is fed, and `write` takes as many bytes as that puts out.
 pub record HandsOn (l : Ledger) (s buffer : List ℕ) (fill : ℕ) (chunk : List ℕ) (at : ℕ) (out : List ℕ) (r : Handed) (s′ buffer′ out′ : List ℕ) : Type 0 where
   pub feeds : Feeds l s buffer fill (drop at chunk) out (r .fed) s′ buffer′ out′
-  pub writes : Writes (r .fed .written) (r .handed) (r .error)
+  pub writes : Writes (r .fed .written) (r .taken) (r .error)
 
--- The first `taken` bytes of the chunk are fed, in pieces.
-pub record Consumes (l : Ledger) (s buffer : List ℕ) (fill : ℕ) (chunk : List ℕ) (taken : ℕ) (l′ : Ledger) (s′ buffer′ : List ℕ) (fill′ : ℕ) : Type 0 where
-  pub within : taken ≤ length chunk
+-- The first n bytes of the chunk are fed, in pieces.
+pub record Consumes (l : Ledger) (s buffer : List ℕ) (fill : ℕ) (chunk : List ℕ) (n : ℕ) (l′ : Ledger) (s′ buffer′ : List ℕ) (fill′ : ℕ) : Type 0 where
+  pub within : n ≤ length chunk
   pub put : List ℕ
-  pub pieces : Pieces l s buffer fill (take taken chunk) put l′ s′ buffer′ fill′
+  pub pieces : Pieces l s buffer fill (take n chunk) put l′ s′ buffer′ fill′
 
 -- A chunk: all of it is fed, unless a write failed.
 pub record Passes (l : Ledger) (s buffer : List ℕ) (fill : ℕ) (chunk : List ℕ) (r : Passed) (s′ buffer′ : List ℕ) : Type 0 where
-  pub taken : ℕ
-  pub consumes : Consumes l s buffer fill chunk taken (r .ledger) s′ buffer′ (r .fill)
-  pub all : r .error ≡ 0 → taken ≡ length chunk
+  pub consumed : ℕ
+  pub consumes : Consumes l s buffer fill chunk consumed (r .ledger) s′ buffer′ (r .fill)
+  pub all : r .error ≡ 0 → consumed ≡ length chunk
 
 -- The beginning: a fresh ledger and no line; what is left of the limit falls by what was read.
 pub record Begins (r : State) (chunk : List ℕ) : Type 0 where
@@ -68,17 +68,17 @@ pub record Ran (s buffer : List ℕ) (t : State) (s′ buffer′ : List ℕ) : T
   pub within : length fed + (t .got + t .left) ≤ maxInput
   pub all : t .writing ≡ 0 → length fed + (t .got + t .left) ≡ maxInput
 
--- The end: the last answer and the report are handed to `write`.
-pub record Ends (l : Ledger) (s buffer : List ℕ) (fill : ℕ) (out : List ℕ) (handed error : ℕ) (s′ buffer′ out′ : List ℕ) : Type 0 where
-  pub length-written : ℕ
-  pub finishes : Finishes l s buffer fill out (Written length-written) s′ buffer′ out′
-  pub writes : Writes length-written handed error
+-- The end: `write` takes as many bytes as the last answer and the report have.
+pub record Ends (l : Ledger) (s buffer : List ℕ) (fill : ℕ) (out : List ℕ) (taken error : ℕ) (s′ buffer′ out′ : List ℕ) : Type 0 where
+  pub end : ℕ
+  pub finishes : Finishes l s buffer fill out (Written end) s′ buffer′ out′
+  pub writes : Writes end taken error
 
 -- The loop: it stops where a write of answers fails; else all that was read is fed, and the end comes.
 pub data Runs (s buffer : List ℕ) (r : Ended) (s″ buffer″ out″ : List ℕ) : Type 0 where
   stopped : (t : State) → Ran s buffer t s″ buffer″ → 0 < t .writing → r .writing ≡ t .writing → Runs s buffer r s″ buffer″ out″
   ended : (t : State) (s′ buffer′ out : List ℕ) → Ran s buffer t s′ buffer′ → t .got ≡ 0 → t .writing ≡ 0 → r .left ≡ t .left
-      → Ends (t .ledger) s′ buffer′ (t .fill) out (r .handed) (r .writing) s″ buffer″ out″
+      → Ends (t .ledger) s′ buffer′ (t .fill) out (r .taken) (r .writing) s″ buffer″ out″
       → Runs s buffer r s″ buffer″ out″
 
 -- The command: the loop, with what it is lent.
