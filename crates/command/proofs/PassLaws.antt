@@ -1,22 +1,21 @@
 -- Pieces of a chunk, one after the other, and a whole chunk.
 -- Assumes nothing.
-use mathlib.Core.Path.{_≡_, sym, ap, subst, _∙_}
+use mathlib.Core.Path.{_≡_, sym, subst}
 use Prim.Native.Nat.{ℕ, _+_, _-_, _≤_, _<_}
 use native.Mathlib.Omega.{arith}
 use mathlib.Core.List.{List, [], _++_}
 use lib.ListN.{length, take, drop, length-drop}
-use lib.Seq.{take-all, take-add, length-take-le}
+use lib.Seq.{take-all, take-add}
 use Rattle.state.specs.declared.Ledger.{Ledger}
 use Rattle.answers.specs.Answers.{maxAnswer}
 use Rattle.session.specs.declared.Fed.{Fed}
 use Rattle.reading.specs.Reading.{maxLine}
 use Rattle.session.specs.Feeding.{Feeds, Feeding}
 use Rattle.session.specs.FeedLaws.{feeding-feeds}
-use Rattle.session.specs.InPieces.{Pieces, done}
+use Rattle.session.specs.InPieces.{done}
 use Rattle.session.specs.PieceLaws.{pieces-more}
 use Rattle.streams.specs.Streams.{Writes}
 use Rattle.command.specs.declared.Handed.{Handed}
-use Rattle.command.specs.declared.Passed.{Passed}
 use Rattle.command.specs.Command.{HandsOn, Consumes, Passes}
 
 -- the chunk from `at` on, as the part that is lent
@@ -28,7 +27,7 @@ pub feeds-rest : {l : Ledger} {s buffer out s′ buffer′ out′ : List ℕ} {f
     → Feeds l s buffer fill (drop at chunk) out r s′ buffer′ out′
 feeds-rest chunk at e f = rw (rest-is at chunk) at (feeding-feeds f e)
 
--- as many bytes as were put out are handed to `write`
+-- as many bytes as were put out are to be written
 pub writes-all : {n k taken error : ℕ} → n ≡ k → Writes k taken error → Writes n taken error
 writes-all {taken = taken} {error = error} e w = subst (λ (m : ℕ). Writes m taken error) (sym e) w
 
@@ -53,7 +52,7 @@ module _ {l l₁ : Ledger} {s s₁ s′ buffer buffer₁ buffer′ chunk out out
 
 module _ {l l′ : Ledger} {s s′ buffer buffer′ chunk : List ℕ} {fill fill′ at : ℕ} (c : Consumes l s buffer fill chunk at l′ s′ buffer′ fill′) where
   pub passes-all : length chunk ≤ at → Passes l s buffer fill chunk (record { ledger = l′; fill = fill′; error = 0 }) s′ buffer′
-  passes-all h = record { taken = at; consumes = c; all = λ _. omega (arith, c .within) }
+  passes-all h = record { consumed = at; consumes = c; all = λ _. omega (arith, c .within) }
 
   pub passes-part : (error : ℕ) → (error ≡ 0 → ⊥) → Passes l s buffer fill chunk (record { ledger = l′; fill = fill′; error = error }) s′ buffer′
-  passes-part error h = record { taken = at; consumes = c; all = λ e. absurd (h e) }
+  passes-part error h = record { consumed = at; consumes = c; all = λ e. absurd (h e) }

@@ -1,6 +1,6 @@
 -- Steps, one after the other, from the beginning to the end.
 -- Assumes nothing.
-use mathlib.Core.Path.{_≡_, refl, sym, subst, _∙_}
+use mathlib.Core.Path.{_≡_, refl, sym, subst}
 use Prim.Native.Nat.{ℕ, zero, suc, _+_, _≤_, _<_}
 use native.Mathlib.Omega.{arith}
 use mathlib.Core.List.{List, [], _++_}
@@ -62,14 +62,14 @@ module _ {s buffer s₁ buffer₁ s′ buffer′ chunk₁ chunk′ : List ℕ} {
       let q = p .passes in
       let read = take (t .got) chunk₁ in
       let length-read : length read ≡ t .got = length-take-le (t .got) chunk₁ (u .within) in
-      let length-taken : length (take (q .taken) read) ≡ q .taken = length-take-le (q .taken) read (q .consumes .within) in
-      let length-fed : length (u .ran .fed ++ take (q .taken) read) ≡ length (u .ran .fed) + q .taken =
-      omega (arith, length-append (u .ran .fed) (take (q .taken) read)) in
+      let length-consumed : length (take (q .consumed) read) ≡ q .consumed = length-take-le (q .consumed) read (q .consumes .within) in
+      let length-fed : length (u .ran .fed ++ take (q .consumed) read) ≡ length (u .ran .fed) + q .consumed =
+      omega (arith, length-append (u .ran .fed) (take (q .consumed) read)) in
       let before : length (u .ran .fed) + (t .got + t .left) ≡ maxInput = u .ran .all (u .unfailed more) in
       record {
         ran =
             record {
-              fed = u .ran .fed ++ take (q .taken) read;
+              fed = u .ran .fed ++ take (q .consumed) read;
               put = u .ran .put ++ q .consumes .put;
               pieces = pieces-then (u .ran .pieces) (q .consumes .pieces);
               within = omega (arith, q .consumes .within, falls p);

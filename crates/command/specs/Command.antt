@@ -1,5 +1,5 @@
--- The command's loop, in the terms of `in-pieces` (session/specs/InPieces): what is fed is what was read, in order, once, and what is handed to `write` is what the pieces
--- put out. That the bytes of a chunk are those of the input, and that those handed to `write` arrive, no contract can say.
+-- The command's loop, in the terms of `in-pieces` (session/specs/InPieces): what is fed is the bytes of the chunk that were read, in order, once, and `write`
+-- takes as many bytes as a piece put out, unless it fails. That the bytes of a chunk are those of the input, and which bytes `write` took, no contract can say.
 -- Assumes nothing.
 use mathlib.Core.Path.{_≡_}
 use Prim.Native.Nat.{ℕ, _+_, _≤_, _<_}
@@ -24,16 +24,16 @@ pub record AtPiece (buffer chunk : List ℕ) (at : ℕ) : Type 0 where
   pub within : at ≤ length chunk
   pub line-long : length buffer ≡ maxLine
 
--- A piece: the chunk from byte `at` on is fed, and what that puts out is handed to `write`.
+-- A piece: the chunk from byte `at` on is fed, and `write` takes as many bytes as that puts out.
 pub record HandsOn (l : Ledger) (s buffer : List ℕ) (fill : ℕ) (chunk : List ℕ) (at : ℕ) (out : List ℕ) (r : Handed) (s′ buffer′ out′ : List ℕ) : Type 0 where
   pub feeds : Feeds l s buffer fill (drop at chunk) out (r .fed) s′ buffer′ out′
-  pub writes : Writes (r .fed .written) (r .handed) (r .error)
+  pub writes : Writes (r .fed .written) (r .taken) (r .error)
 
--- The first `taken` bytes of the chunk are fed, in pieces.
-pub record Consumes (l : Ledger) (s buffer : List ℕ) (fill : ℕ) (chunk : List ℕ) (taken : ℕ) (l′ : Ledger) (s′ buffer′ : List ℕ) (fill′ : ℕ) : Type 0 where
-  pub within : taken ≤ length chunk
+-- The first n bytes of the chunk are fed, in pieces.
+pub record Consumes (l : Ledger) (s buffer : List ℕ) (fill : ℕ) (chunk : List ℕ) (n : ℕ) (l′ : Ledger) (s′ buffer′ : List ℕ) (fill′ : ℕ) : Type 0 where
+  pub within : n ≤ length chunk
   pub put : List ℕ
-  pub pieces : Pieces l s buffer fill (take taken chunk) put l′ s′ buffer′ fill′
+  pub pieces : Pieces l s buffer fill (take n chunk) put l′ s′ buffer′ fill′
 
 -- what a chunk needs: a line buffer of its length, and room for an answer
 pub record Room (buffer out : List ℕ) : Type 0 where
@@ -42,9 +42,9 @@ pub record Room (buffer out : List ℕ) : Type 0 where
 
 -- A chunk: all of it is fed, unless a write failed.
 pub record Passes (l : Ledger) (s buffer : List ℕ) (fill : ℕ) (chunk : List ℕ) (r : Passed) (s′ buffer′ : List ℕ) : Type 0 where
-  pub taken : ℕ
-  pub consumes : Consumes l s buffer fill chunk taken (r .ledger) s′ buffer′ (r .fill)
-  pub all : r .error ≡ 0 → taken ≡ length chunk
+  pub consumed : ℕ
+  pub consumes : Consumes l s buffer fill chunk consumed (r .ledger) s′ buffer′ (r .fill)
+  pub all : r .error ≡ 0 → consumed ≡ length chunk
 
 -- The beginning: a fresh ledger and no line; what is left of the limit falls by what was read.
 pub record Begins (r : State) (chunk : List ℕ) : Type 0 where
@@ -78,17 +78,17 @@ pub record Ran (s buffer : List ℕ) (t : State) (s′ buffer′ : List ℕ) : T
   pub within : length fed + (t .got + t .left) ≤ maxInput
   pub all : t .writing ≡ 0 → length fed + (t .got + t .left) ≡ maxInput
 
--- The end: what `finish` puts out is handed to `write`.
-pub record Ends (l : Ledger) (s buffer : List ℕ) (fill : ℕ) (out : List ℕ) (handed error : ℕ) (s′ out′ : List ℕ) : Type 0 where
+-- The end: `write` takes as many bytes as `finish` puts out.
+pub record Ends (l : Ledger) (s buffer : List ℕ) (fill : ℕ) (out : List ℕ) (taken error : ℕ) (s′ out′ : List ℕ) : Type 0 where
   pub values : EndValues
   pub finishes : FinishRow l s buffer fill out values s′ out′
-  pub writes : Writes (putOut values) handed error
+  pub writes : Writes (putOut values) taken error
 
 -- The loop: it stops where a write of answers fails; else all that was read is fed, and the end comes.
 pub data Runs (s buffer : List ℕ) (r : Ended) (s″ buffer″ out″ : List ℕ) : Type 0 where
   stopped : (t : State) → Ran s buffer t s″ buffer″ → 0 < t .writing → r .writing ≡ t .writing → Runs s buffer r s″ buffer″ out″
   ended : (t : State) (s′ out : List ℕ) → Ran s buffer t s′ buffer″ → t .got ≡ 0 → t .writing ≡ 0 → r .left ≡ t .left → maxEnd ≤ length out
-      → Ends (t .ledger) s′ buffer″ (t .fill) out (r .handed) (r .writing) s″ out″
+      → Ends (t .ledger) s′ buffer″ (t .fill) out (r .taken) (r .writing) s″ out″
       → Runs s buffer r s″ buffer″ out″
 
 -- The command: the loop, with what it is lent.

@@ -11,11 +11,10 @@ use streams::Moved;
 // How many bytes are read, and written, at a time.
 const CHUNK: usize = 65536;
 
-// What a piece of a chunk comes to: what `feed` gives; how many bytes of output were handed to `write`; and the number of the error of a write that failed, 0 where
-// none did.
+// What a piece of a chunk comes to: what `feed` gives; how many bytes of the output `write` took; and the number of the error of a write that failed, 0 where none did.
 struct Handed {
     fed: Fed,
-    handed: usize,
+    taken: usize,
     error: u64,
 }
 
@@ -37,9 +36,9 @@ struct State {
     writing: u64,
 }
 
-// What the command came to: how many bytes of the end of the output were handed to `write`; what is left of the limit; and the two errors.
+// What the command came to: how many bytes of the end of the output `write` took; what is left of the limit; and the two errors.
 pub struct Ended {
-    pub handed: usize,
+    pub taken: usize,
     pub left: usize,
     pub reading: u64,
     pub writing: u64,
@@ -70,7 +69,7 @@ fn hand_on(
     let m = streams::write_all(&out[..written]);
     Handed {
         fed: f,
-        handed: m.count,
+        taken: m.count,
         error: m.error,
     }
 }
@@ -179,7 +178,7 @@ fn run_on(store: &mut [u8], line: &mut [u8], chunk: &mut [u8], out: &mut [u8]) -
     }
     if state.writing != 0 {
         return Ended {
-            handed: 0,
+            taken: 0,
             left: state.left,
             reading: state.reading,
             writing: state.writing,
@@ -188,7 +187,7 @@ fn run_on(store: &mut [u8], line: &mut [u8], chunk: &mut [u8], out: &mut [u8]) -
     let ledger = state.ledger;
     let m = end(ledger, store, line, state.fill, out);
     Ended {
-        handed: m.count,
+        taken: m.count,
         left: state.left,
         reading: state.reading,
         writing: m.error,

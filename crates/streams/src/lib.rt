@@ -9,6 +9,7 @@ use libc::EIO;
 use libc::STDERR_FILENO;
 use libc::STDIN_FILENO;
 use libc::STDOUT_FILENO;
+use libc::types::timespec;
 
 // What a call came to: how many bytes, and the number of its error, 0 where there was none.
 pub struct Moved {
@@ -32,13 +33,26 @@ fn error() -> u64
     if e > 0 { e as u64 } else { EIO as u64 }
 }
 
-// Whether a call with this error is made again: it was interrupted; or it would block, and then this waits a little.
+// Waits for a millisecond, or until a signal.
+fn pause() {
+    let asked = timespec {
+        tv_sec: 0,
+        tv_nsec: 1000000,
+    };
+    let mut left = timespec {
+        tv_sec: 0,
+        tv_nsec: 0,
+    };
+    libc::nanosleep(&asked, &mut left);
+}
+
+// Whether a call with this error is made again: it was interrupted; or it would block, and then this waits first.
 fn is_passing(error: u64) -> bool {
     if error == EINTR as u64 {
         return true;
     }
     if error == EAGAIN as u64 {
-        libc::sched_yield();
+        pause();
         return true;
     }
     false

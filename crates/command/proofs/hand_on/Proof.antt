@@ -1,4 +1,4 @@
--- `command::hand_on` meets its contract: what is fed is the chunk from `at` on, and as many bytes as that put out are handed to `write`.
+-- `command::hand_on` meets its contract: what is fed is the chunk from `at` on, and `write` is to take as many bytes as that put out.
 -- Assumes nothing.
 use mathlib.Core.Path.{sym, subst}
 use Prim.Native.Nat.{ℕ, _≤_}
@@ -6,7 +6,6 @@ use native.Mathlib.Nat.{le-refl}
 use lib.Seq.{length-take-le}
 use Rattle.session.specs.FeedLaws.{feeding-feeds}
 use Rattle.command.proofs.PassLaws.{feeds-rest, writes-all}
-use borrow.Author.Needs.{needs}
 use Rattle.command.proofs.hand_on.Statement.{statement}
 use Rattle.command.proofs.hand_on.Tie as tie
 
