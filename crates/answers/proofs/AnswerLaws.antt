@@ -1,5 +1,4 @@
 -- The answers' texts as they are printed: in pieces, and in bytes.
--- Assumes nothing.
 use mathlib.Core.Path.{_≡_, refl, ap, sym, _∙_}
 use Prim.Native.Nat.{ℕ, _<_}
 use native.Mathlib.Omega.{arith}

@@ -1,5 +1,4 @@
 -- Tests and counts over the numbers below n, the newest outermost, as a loop that counts up meets them.
--- Assumes nothing.
 use Prim.Native.Nat.{ℕ, zero, suc, _+_}
 use mathlib.Core.Bool.{Bool, true, false, cond, _&&_, _||_}
 use mathlib.Core.Option.{Option, none, some}

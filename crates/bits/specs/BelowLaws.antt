@@ -1,5 +1,4 @@
 -- The laws of the tests, counts and lists over the numbers below n.
--- Assumes nothing.
 use Prim.Native.Nat.{ℕ, zero, suc, _+_, _≤_, _<_, zero-le}
 use native.Mathlib.Omega.{arith}
 use native.Mathlib.Nat.{le-of-suc-le-suc, eq-or-lt-of-le, lt-of-not-le, not-suc-le-zero}

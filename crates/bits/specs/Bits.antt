@@ -1,5 +1,4 @@
 -- A set of places as a number, of any size: bit k for place k. Where there are 64 places "an ancestor set is one 64-bit word".
--- Assumes nothing.
 use Prim.Native.Nat.{ℕ, _/_, _%_, _^_}
 use mathlib.Core.Bool.{Bool, cond}
 use lib.Dec.{eqb, ltb}

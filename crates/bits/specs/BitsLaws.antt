@@ -1,5 +1,4 @@
 -- The laws of sets of places.
--- Assumes nothing.
 use Prim.Native.Nat.{ℕ, zero, suc, _+_, _-_, _*_, _/_, _%_, _^_, _≤_, _<_}
 use native.Mathlib.Omega.{arith}
 use native.Mathlib.Nat.{lt-of-lt-of-le, lt-of-le-of-lt, zero-lt-suc, one-mul, div-one, div-self, zero-div, div-eq-of-lt, div-add-mod', mod-lt, mul-mod-left, pow-suc, eq-or-lt-of-le, lt-of-not-le, lt-suc-self, zero-add, add-comm, div-lt-iff-lt-mul}

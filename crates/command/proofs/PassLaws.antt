@@ -1,5 +1,4 @@
 -- Pieces of a chunk, one after the other, and a whole chunk.
--- Assumes nothing.
 use mathlib.Core.Path.{_≡_, sym, subst}
 use Prim.Native.Nat.{ℕ, _+_, _-_, _≤_, _<_}
 use native.Mathlib.Omega.{arith}

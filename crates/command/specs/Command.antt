@@ -1,6 +1,5 @@
 -- The command's loop, in the terms of `in-pieces` (session/specs/InPieces): what is fed is the bytes of the chunk that were read, in order, once, and `write`
 -- takes as many bytes as a piece put out, unless it fails. That the bytes of a chunk are those of the input, and which bytes `write` took, no contract can say.
--- Assumes nothing.
 use mathlib.Core.Path.{_≡_}
 use Prim.Native.Nat.{ℕ, _+_, _≤_, _<_}
 use mathlib.Core.List.{List}

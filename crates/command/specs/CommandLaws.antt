@@ -1,5 +1,4 @@
 -- What the command put out, where no write failed, is the output of what it fed.
--- Assumes nothing.
 use mathlib.Core.Path.{_≡_, sym, ap, subst, _∙_}
 use Prim.Native.Nat.{ℕ, _+_}
 use native.Mathlib.Omega.{arith}

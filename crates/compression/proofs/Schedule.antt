@@ -1,5 +1,4 @@
 -- The schedule in an array: its first words are those of the definition so far.
--- Assumes nothing.
 use mathlib.Core.Path.{_≡_, subst, sym, _∙_}
 use mathlib.Core.List.{List}
 use Prim.Native.Nat.{ℕ, suc, _+_, _-_, _*_, _<_}

@@ -1,5 +1,4 @@
 -- The standard's words and hash values from their parts, as the code makes them one by one.
--- Assumes nothing.
 use mathlib.Core.Path.{_≡_}
 use mathlib.Core.List.{List}
 use Prim.Native.Nat.{ℕ}

@@ -1,5 +1,4 @@
 -- What the contracts say besides the standard's definitions: of the code's words and its schedule.
--- Assumes nothing.
 use Rattle.compression.specs.declared.State.{State}
 use Prim.Native.Nat.{ℕ, _+_}
 use mathlib.Core.List.{List}

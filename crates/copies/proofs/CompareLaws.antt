@@ -1,5 +1,4 @@
 -- What the answers of a copy's report come to.
--- Assumes nothing.
 use mathlib.Core.Path.{_≡_, sym, ap, subst}
 use Prim.Native.Nat.{ℕ, _≤_}
 use mathlib.Core.List.{List}

@@ -1,5 +1,4 @@
 -- Offers of a list, one after the other: the first i of them, and one more.
--- Assumes nothing.
 use mathlib.Core.Path.{_≡_, _∙_, ap, subst}
 use Prim.Native.Nat.{ℕ, _+_, _<_, _≤_, suc}
 use native.Mathlib.Numerals.{add-one}

@@ -1,5 +1,4 @@
 -- What the copy check `compare` promises, for any two lists, stores and buffers.
--- Assumes nothing.
 use Prim.Native.Nat.{ℕ}
 use mathlib.Core.List.{List}
 use mathlib.Core.Bool.{cond}

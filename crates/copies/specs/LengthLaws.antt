@@ -1,5 +1,4 @@
 -- Offers keep the store's length; a report is only written where the store has the stated length; one that is refused leaves the buffer.
--- Assumes nothing.
 use mathlib.Core.Path.{_≡_, refl, sym, _∙_}
 use Prim.Native.Nat.{ℕ, _≤_}
 use native.Mathlib.Omega.{arith}

@@ -1,5 +1,4 @@
 -- The fields of what bytes decode to, and tests of its operation.
--- Assumes nothing.
 use Prim.Native.Nat.{ℕ}
 use mathlib.Core.List.{List, []}
 use mathlib.Core.Bool.{Bool, true, false}

@@ -1,5 +1,4 @@
 -- Where the fields of an update lie in its bytes.
--- Assumes nothing.
 use Prim.Native.Nat.{ℕ}
 use mathlib.Core.List.{List}
 use Rattle.format.specs.Update.{idLength, tagLength, Id, Add, Remove, Insert, Delete}

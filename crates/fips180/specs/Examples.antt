@@ -1,5 +1,4 @@
--- The standard's worked examples, computed from the definition: the empty message, "abc", and the messages of 448 and 896 bits.
--- Assumes nothing.
+-- NIST's worked examples of SHA-256, computed from the definition: the empty message, "abc", and the messages of 448 and 896 bits.
 use mathlib.Core.Path.{_≡_, refl}
 use Prim.Native.Nat.{ℕ}
 use mathlib.Core.List.{List, [], _∷_, map}

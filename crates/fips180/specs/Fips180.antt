@@ -3,7 +3,6 @@
 --
 -- The standard defines the digest of messages of fewer than 2 ^ 64 bits, which is fewer than 2 ^ 61 bytes. `SHA-256` below is total: of
 -- a longer message the padding's 64-bit field keeps the bit length modulo 2 ^ 64.
--- Assumes nothing.
 use Prim.Native.Nat.{ℕ, zero, suc, _+_, _-_, _*_, _/_, _%_, _^_}
 use mathlib.Core.List.{List, [], _∷_, _++_}
 use lib.ListN.{length, getD, take, drop, replicate}

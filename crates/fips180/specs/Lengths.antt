@@ -1,5 +1,4 @@
 -- The lengths of a number's bytes and of a digest.
--- Assumes nothing.
 use mathlib.Core.Path.{_≡_, refl}
 use mathlib.Core.List.{List}
 use Prim.Native.Nat.{ℕ, zero, suc, _/_}

@@ -1,5 +1,4 @@
 -- From bytes to an update: rows 2 to 9 of document 01's table in their order, then the value.
--- Assumes nothing.
 use Prim.Native.Nat.{ℕ, zero, suc, _+_, _*_}
 use mathlib.Core.List.{List, [], _∷_}
 use mathlib.Core.Bool.{Bool, cond, not, _&&_, _||_}

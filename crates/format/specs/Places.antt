@@ -1,5 +1,4 @@
 -- What the reader knows where it tests an operation's bytes: the kind byte, the place after it, and a Remove's count byte.
--- Assumes nothing.
 use Prim.Native.Nat.{ℕ, _≤_, _<_}
 use mathlib.Core.Path.{_≡_}
 use mathlib.Core.List.{List}

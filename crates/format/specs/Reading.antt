@@ -1,5 +1,4 @@
 -- What reading the bytes answers: the offsets of an update's fields, or the refusal; and what such an answer means.
--- Assumes nothing.
 use Prim.Native.Nat.{ℕ, _+_}
 use mathlib.Core.Path.{_≡_, refl, ap}
 use mathlib.Core.List.{List, []}

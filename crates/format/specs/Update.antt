@@ -1,5 +1,4 @@
 -- One update as a value, and "the update, byte by byte".
--- Assumes nothing.
 use Prim.Native.Nat.{ℕ, _≤_}
 use mathlib.Core.Path.{_≡_}
 use mathlib.Core.List.{List, _∷_, _++_}

@@ -1,6 +1,5 @@
 -- An author's held place of highest rank, on a tie that of larger id, for every ledger. The theorem `top-right` says that for a ledger that stands it is
 -- that of the rules' first ranked row.
--- Assumes nothing.
 use Prim.Native.Nat.{ℕ, zero, suc}
 use mathlib.Core.List.{List}
 use mathlib.Core.Option.{Option, none, some}

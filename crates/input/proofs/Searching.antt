@@ -1,5 +1,4 @@
 -- The search for the first newline: what is known of the bytes that were passed.
--- Assumes nothing.
 use Prim.Native.Nat.{ℕ, _+_, _-_, _≤_, _<_}
 use native.Mathlib.Omega.{arith}
 use native.Mathlib.Numerals.{add-one}

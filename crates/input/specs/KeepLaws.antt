@@ -1,5 +1,4 @@
 -- What a line buffer keeps: some line, whatever the length; and a line that is kept reads as the line.
--- Assumes nothing.
 use Prim.Native.Nat.{ℕ, _+_, _-_, _≤_, _<_}
 use native.Mathlib.Omega.{arith}
 use mathlib.Core.Path.{_≡_, refl, sym, _∙_, ap}

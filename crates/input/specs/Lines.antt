@@ -1,5 +1,4 @@
 -- Lines as a lent buffer keeps them, assembled from pieces of the input.
--- Assumes nothing.
 use mathlib.Core.Path.{_≡_}
 use Prim.Native.Nat.{ℕ, _+_, _≤_, _<_}
 use mathlib.Core.List.{List, [], _∷_, _++_}

@@ -1,6 +1,5 @@
 -- What is gathered from a list of ids, with places that hold the updates `us`: whether one of them is that of a void place; whether each is that
 -- of a place that does not wait; the held places among them; and the ancestors of these.
--- Assumes nothing.
 use mathlib.Core.Path.{_≡_, refl, sym, _∙_, ap, subst}
 use Prim.Native.Nat.{ℕ, _<_, _^_}
 use mathlib.Core.List.{List, [], _∷_}

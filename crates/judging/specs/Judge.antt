@@ -1,6 +1,5 @@
 -- How a waiting place is judged from the bookkeeping and the store: what its predecessors say, its ancestor word, and its operation. The laws in
 -- `JudgeLaws` say that these are the judgements of the rules.
--- Assumes nothing.
 use Prim.Native.Nat.{ℕ}
 use mathlib.Core.List.{List, [], _∷_}
 use mathlib.Core.Option.{Option, none, some}

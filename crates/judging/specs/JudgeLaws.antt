@@ -1,6 +1,5 @@
 -- The judgement of a place is that of the rules: with places that hold the updates `us` and say only what is so, a place judged to hold is Held, with
 -- exactly its ancestors in the word; one judged to fail is Void; and one that goes on waiting is not decided by what its predecessors say.
--- Assumes nothing.
 use mathlib.Core.Path.{_≡_, refl, sym, _∙_, ap, subst}
 use mathlib.Core.Logic.{inl, inr, ⊎-elim}
 use Prim.Native.Nat.{ℕ, _<_}

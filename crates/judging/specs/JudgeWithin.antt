@@ -1,5 +1,4 @@
 -- The word of a place that is judged to hold names taken places only, whatever the ledger, if the words of the taken places do.
--- Assumes nothing.
 use mathlib.Core.Path.{_≡_, subst}
 use Prim.Native.Nat.{ℕ, _<_}
 use mathlib.Core.List.{List}

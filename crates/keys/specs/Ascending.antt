@@ -1,4 +1,4 @@
--- Lists whose keys are strictly ascending: the key of each element comes before the keys of all that follow. Assumes nothing.
+-- Lists whose keys are strictly ascending: the key of each element comes before the keys of all that follow.
 use Prim.Native.Nat.{ℕ}
 use mathlib.Core.Path.{_≡_}
 use mathlib.Core.List.{List, [], _∷_}

@@ -1,5 +1,4 @@
 -- How one byte string stands to another, as the enum that the comparison answers.
--- Assumes nothing.
 use Prim.Native.Nat.{ℕ}
 use mathlib.Core.List.{List}
 use mathlib.Core.Bool.{cond}

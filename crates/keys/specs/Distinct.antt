@@ -1,4 +1,4 @@
--- Lists in which no two positions have the same key. Assumes nothing.
+-- Lists in which no two positions have the same key.
 use Prim.Native.Nat.{ℕ}
 use mathlib.Core.Path.{_≡_}
 use mathlib.Core.List.{List, [], _∷_}

@@ -1,4 +1,4 @@
--- The laws of lists with distinct keys, and the pigeonhole principle. Assumes nothing.
+-- The laws of lists with distinct keys, and the pigeonhole principle.
 use Prim.Native.Nat.{ℕ, zero, suc, _≤_, _<_, zero-le}
 use native.Mathlib.Nat.{le-antisymm, le-of-suc-le-suc, not-suc-le-zero}
 use native.Mathlib.Omega.{arith}

@@ -1,4 +1,4 @@
--- Further laws of lists: counts, lengths, distinct keys, first and greatest elements. Assumes nothing.
+-- Further laws of lists: counts, lengths, distinct keys, first and greatest elements.
 use Prim.Native.Nat.{_*_, _+_, _<_, _≤_, suc, suc-le-suc, zero-le, ℕ, zero}
 use Rattle.keys.specs.Ascending.{Ascending, ascending-nil, ascending-cons}
 use Rattle.keys.specs.BoolLaws.{or-true→, and-true→}

@@ -1,4 +1,4 @@
--- The laws of membership, and of the operations on lists as sets. Assumes nothing.
+-- The laws of membership, and of the operations on lists as sets.
 use Prim.Native.Nat.{ℕ, zero, suc, _≤_, _<_, zero-le, suc-le-suc}
 use native.Mathlib.Nat.{le-of-suc-le-suc, not-suc-le-zero}
 use native.Mathlib.Omega.{arith}

@@ -1,5 +1,4 @@
 -- The order of byte strings: "compared as unsigned bytes from the first". It serves ids, tags and every other sort key.
--- Assumes nothing.
 use Prim.Native.Nat.{ℕ}
 use mathlib.Core.List.{List, [], _∷_}
 use mathlib.Core.Bool.{Bool, true, false, _&&_, _||_}

@@ -1,4 +1,4 @@
--- `same` decides equality and `before` is a strict total order on byte strings. Assumes nothing.
+-- `same` decides equality and `before` is a strict total order on byte strings.
 use Prim.Native.Nat.{ℕ, _<_}
 use mathlib.Core.Path.{_≡_, refl, sym, _∙_, subst}
 use mathlib.Core.Logic.{_⊎_, inl, inr, ⊎-elim}

@@ -1,6 +1,5 @@
 -- One sort, by a key that is a byte string: strictly ascending, of each key one element. It serves the report's ascending parts, the
 -- siblings of the list (with the key `rank ∷ id`, read backwards) and the canonical order of a set.
--- Assumes nothing.
 use Prim.Native.Nat.{ℕ}
 use mathlib.Core.List.{List, [], _∷_}
 use mathlib.Core.Bool.{cond}

@@ -1,4 +1,4 @@
--- The laws of the sort, and of ascending lists. Assumes nothing.
+-- The laws of the sort, and of ascending lists.
 use Prim.Native.Nat.{ℕ, suc, _≤_, zero-le, suc-le-suc}
 use native.Mathlib.Nat.{le-refl}
 use native.Mathlib.Omega.{arith}

@@ -1,5 +1,4 @@
 -- What a question answers, from what the calls within it answered.
--- Assumes nothing.
 use mathlib.Core.Path.{_≡_}
 use Prim.Native.Nat.{ℕ}
 use mathlib.Core.List.{List}

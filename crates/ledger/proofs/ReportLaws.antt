@@ -1,5 +1,4 @@
 -- What the entry `report` has shown at each of its ends.
--- Assumes nothing.
 use mathlib.Core.Path.{_≡_, sym, subst, _∙_, ap}
 use Prim.Native.Nat.{ℕ, _≤_, _<_}
 use native.Mathlib.Nat.{zero-add}

@@ -1,5 +1,4 @@
 -- Demand 2, its first half: after any offers to a fresh ledger the entries say what the rules give for the updates stored.
--- Assumes nothing.
 use mathlib.Core.Path.{_≡_, refl, _∙_}
 use Prim.Native.Nat.{ℕ}
 use native.Mathlib.Omega.{arith}

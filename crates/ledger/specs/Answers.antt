@@ -1,6 +1,5 @@
 -- What an offer answers, from the rules alone: document 01's values, and the text that its command prints for them, with the updates stored before it. For a
 -- ledger that stands the entry `offer` answers so: the update's own standing once settled, held after less held before, void after less void before.
--- Assumes nothing.
 use mathlib.Core.Path.{_≡_, refl, sym, ap, ap₂, subst, _∙_}
 use Prim.Native.Nat.{ℕ, _-_, _<_}
 use native.Mathlib.Omega.{arith}

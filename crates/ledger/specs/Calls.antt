@@ -1,5 +1,4 @@
 -- Demand 2, its first half: any list of offers to a fresh ledger, refused and repeated ones between, with any first contents of the store.
--- Assumes nothing.
 use mathlib.Core.Path.{_≡_, refl, sym, ap, subst, _∙_}
 use Prim.Native.Nat.{ℕ, _<_}
 use native.Mathlib.Nat.{le-of-eq}

@@ -1,5 +1,4 @@
 -- What the entry `report` promises, for every ledger, store and buffer.
--- Assumes nothing.
 use mathlib.Core.Path.{_≡_}
 use Prim.Native.Nat.{ℕ, _≤_, _<_}
 use mathlib.Core.List.{List, _++_}

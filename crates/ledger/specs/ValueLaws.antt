@@ -1,5 +1,4 @@
 -- The values of an answer of `standing` or `report` are those of no other: a promise that speaks of values leaves nothing open.
--- Assumes nothing.
 use mathlib.Core.Path.{_≡_, refl, ap}
 use Prim.Native.Nat.{ℕ}
 use native.Mathlib.Omega.{arith}

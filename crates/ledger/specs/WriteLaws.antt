@@ -1,6 +1,5 @@
 -- What is written is a well-formed update, whatever the ledger. For a ledger that stands it is of the author and the operation asked for, is held where it is
 -- offered next, and forms no fork with the held updates of an author who is not marked.
--- Assumes nothing.
 use mathlib.Core.Path.{_≡_, refl, sym, ap, subst, _∙_}
 use Prim.Native.Nat.{ℕ, _+_, _-_, _≤_, _<_}
 use native.Mathlib.Omega.{arith}

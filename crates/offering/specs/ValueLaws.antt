@@ -1,5 +1,4 @@
 -- An answer's values are those of no other answer: a promise that speaks of values leaves nothing open.
--- Assumes nothing.
 use mathlib.Core.Path.{_≡_, ap}
 use Prim.Native.Nat.{ℕ}
 use native.Mathlib.Omega.{arith}

@@ -1,5 +1,4 @@
 -- Document 01's values for each case of an offer's answer. The promise of `offer` speaks of these, and the text that the command prints is made from them.
--- Assumes nothing.
 use Prim.Native.Nat.{ℕ}
 use Rattle.rules.specs.Settle.{Verdict}
 use Rattle.state.specs.Verdicts.{verdictOf}

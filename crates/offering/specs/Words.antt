@@ -1,5 +1,4 @@
 -- Document 01's words for the values of an answer.
--- Assumes nothing.
 use mathlib.Core.List.{List, _++_}
 use Prim.Native.Nat.{ℕ}
 use Rattle.rules.specs.Report.{ascii, decimal}

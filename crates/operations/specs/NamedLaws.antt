@@ -1,5 +1,4 @@
 -- What rows 8 and 9 of the writer say of the named ids' bytes.
--- Assumes nothing.
 use Prim.Native.Nat.{ℕ, _%_, _≤_}
 use mathlib.Core.Path.{_≡_, refl, sym, ap, _∙_}
 use mathlib.Core.List.{List}

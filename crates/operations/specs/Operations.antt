@@ -1,5 +1,4 @@
 -- The operation that is asked for, and what rows 8 and 9 say of the named ids' bytes.
--- Assumes nothing.
 use Prim.Native.Nat.{ℕ, _+_, _*_, _/_, _%_}
 use mathlib.Core.List.{List}
 use mathlib.Core.Bool.{Bool, not, _||_}

@@ -1,5 +1,4 @@
 -- What the code works with: lists of places by value, and the keys that they go by.
--- Assumes nothing.
 use mathlib.Core.Path.{_≡_}
 use Prim.Native.Nat.{ℕ, _≤_}
 use mathlib.Core.List.{List, _∷_, _++_}

@@ -1,5 +1,4 @@
 -- The tests of rows 8 and 9, and the offsets, as the code makes them.
--- Assumes nothing.
 use Prim.Native.Nat.{ℕ, _+_, _≤_, _<_}
 use mathlib.Core.Path.{_≡_, refl, sym, ap, _∙_}
 use mathlib.Core.List.{List, []}

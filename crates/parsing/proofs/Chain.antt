@@ -1,5 +1,4 @@
 -- The answer at each row, from the tests that led there.
--- Assumes nothing.
 use Prim.Native.Nat.{ℕ, _≤_, _<_}
 use mathlib.Core.Path.{_≡_}
 use mathlib.Core.List.{List}

@@ -1,6 +1,5 @@
 -- The predecessors that a new update names, found by places, for every ledger. The theorem `chosen-ids` says that for a ledger that stands these are
 -- the rules' choice.
--- Assumes nothing.
 use Prim.Native.Nat.{ℕ, _-_}
 use mathlib.Core.List.{List, [], _∷_, _++_}
 use mathlib.Core.Option.{Option, none, some}

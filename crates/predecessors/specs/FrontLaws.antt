@@ -1,5 +1,4 @@
 -- The front of an ascending list, and its front with one of its members for sure; the first member that passes a test.
--- Assumes nothing.
 use Prim.Native.Nat.{ℕ, zero, suc, _≤_, _<_, suc-le-suc}
 use native.Mathlib.Omega.{arith}
 use native.Mathlib.Nat.{le-of-suc-le-suc, not-suc-le-zero}

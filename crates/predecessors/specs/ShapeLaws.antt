@@ -1,5 +1,4 @@
 -- What is chosen, for every ledger: at most eight of the places taken, strictly ascending by id.
--- Assumes nothing.
 use Prim.Native.Nat.{ℕ, _-_, _≤_, _<_}
 use native.Mathlib.Omega.{arith}
 use mathlib.Core.Path.{_≡_, refl}

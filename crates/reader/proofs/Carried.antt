@@ -1,6 +1,5 @@
 -- The calls of a function that carries a reader of the slice s. Between them it has the lifetime's token and what s owns (`kept`): the machine value
 -- of each reader is known, so what a reader owns is made of what s owns, for each call anew.
--- Assumes nothing.
 use mathlib.Core.Path.{_≡_, refl, ap, _∙_, subst}
 use Prim.Native.Nat.{ℕ, _+_, _<_, _^_}
 use mathlib.Core.List.{List, [], _∷_}

@@ -1,5 +1,4 @@
 -- The bytes that say how an update is laid out, as a reader finds them on its way.
--- Assumes nothing.
 use Prim.Native.Nat.{ℕ, _≤_}
 use mathlib.Core.Path.{_≡_}
 use mathlib.Core.List.{List}

@@ -1,5 +1,4 @@
 -- The digits of a line: their values, the test that all are digits, and the bytes spelled so far.
--- Assumes nothing.
 use Prim.Native.Nat.{ℕ, suc, _+_, _-_, _*_, _≤_, _<_, max}
 use native.Mathlib.Omega.{arith}
 use native.Mathlib.Numerals.{add-one}

@@ -1,5 +1,4 @@
 -- A number has one refusal: a promise that speaks of numbers leaves nothing open.
--- Assumes nothing.
 use mathlib.Core.Path.{_≡_, refl, sym, ap, _∙_}
 use Prim.Native.Nat.{ℕ}
 use mathlib.Core.Bool.{cond}

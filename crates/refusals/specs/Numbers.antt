@@ -1,5 +1,4 @@
 -- Document 01's number for each refusal, and its values for an answer that puts bytes into an output buffer.
--- Assumes nothing.
 use Prim.Native.Nat.{ℕ}
 use Rattle.format.specs.Reading.{numberOf}
 use Rattle.format.specs.declared.Malformed.the-variants.{Length, Version, Author, Predecessors, Truncated, Kind, Layout, Unordered}

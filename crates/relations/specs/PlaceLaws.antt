@@ -1,5 +1,4 @@
 -- The places of a ledger that stands: each holds an update of the set, and what it says of it is so.
--- Assumes nothing.
 use Prim.Native.Nat.{ℕ, _<_}
 use mathlib.Core.Path.{_≡_, refl, sym, _∙_, ap, subst}
 use mathlib.Core.List.{List, [], _∷_}

@@ -1,6 +1,5 @@
 -- What a ledger and its store say of its places, for every ledger: their order; and of one its standing, its rank, whether it is a head, whether it marks its
 -- author, and whether the set or the list shows it.
--- Assumes nothing.
 use Prim.Native.Nat.{ℕ}
 use mathlib.Core.List.{List}
 use mathlib.Core.Bool.{Bool, not, _&&_}

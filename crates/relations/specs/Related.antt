@@ -1,5 +1,4 @@
 -- How a place stands to another, by value, each with its number; and whether some held place stands so.
--- Assumes nothing.
 use Prim.Native.Nat.{ℕ, _*_}
 use mathlib.Core.List.{List}
 use mathlib.Core.Bool.{Bool, not, _&&_}

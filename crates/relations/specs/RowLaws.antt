@@ -1,5 +1,4 @@
 -- The settled table of a ledger's updates has a row for each place, in the order of the places' ids, and the tests of the rows are those of the places.
--- Assumes nothing.
 use Prim.Native.Nat.{ℕ, _<_}
 use mathlib.Core.Path.{_≡_, refl, sym, _∙_, ap, subst, subst₂}
 use mathlib.Core.Logic.{_⊎_, inl, inr}

@@ -1,4 +1,4 @@
--- The laws of the set of a list of offers: its members, and the updates that they are. Assumes nothing.
+-- The laws of the set of a list of offers: its members, and the updates that they are.
 use mathlib.Core.Path.{_≡_, refl, sym, _∙_, ap}
 use Prim.Native.Nat.{ℕ}
 use mathlib.Core.List.{List, _++_, map}

@@ -1,5 +1,4 @@
 -- Document 01, "Two mills side by side": the set of a list of offers.
--- Assumes nothing.
 use mathlib.Core.Path.{_≡_}
 use Prim.Native.Nat.{ℕ, _≤_}
 use mathlib.Core.List.{List, _++_, map}

@@ -1,4 +1,4 @@
--- The updates stored after a list of offers are those of its set, where they fit and no two share an id. Assumes nothing.
+-- The updates stored after a list of offers are those of its set, where they fit and no two share an id.
 use mathlib.Core.Path.{_≡_, refl, sym, _∙_, ap}
 use Prim.Native.Nat.{ℕ, _≤_, _<_}
 use native.Mathlib.Omega.{arith}

@@ -1,5 +1,4 @@
 -- The parts of the report by cases: which places have a line in one, and the line.
--- Assumes nothing.
 use Prim.Native.Nat.{ℕ}
 use mathlib.Core.List.{List, _++_}
 use mathlib.Core.Bool.{Bool, true}

@@ -1,5 +1,4 @@
 -- The report's text from a ledger and its store, and what it is to print.
--- Assumes nothing.
 use Prim.Native.Nat.{ℕ}
 use mathlib.Core.List.{List, _++_}
 use Rattle.keys.specs.Member.{keep}

@@ -1,5 +1,4 @@
 -- For a ledger that stands, the text is the report that the rules give for its updates.
--- Assumes nothing.
 use mathlib.Core.Path.{_≡_}
 use mathlib.Core.List.{List, _++_}
 use Prim.Native.Nat.{ℕ}

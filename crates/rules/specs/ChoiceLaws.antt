@@ -1,6 +1,5 @@
 -- The choice of predecessors from a settled table: at most eight heads, ascending, one of which is at or above each held update of an author
 -- who is not marked.
--- Assumes nothing.
 use mathlib.Core.Path.{_≡_, refl, sym, _∙_, ap, subst}
 use mathlib.Core.Logic.{_⊎_, inl, inr, ⊎-elim}
 use Prim.Native.Nat.{ℕ, zero, suc, _+_, _≤_, _<_}

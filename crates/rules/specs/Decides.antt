@@ -1,5 +1,4 @@
 -- What a settled table says of its set: a row for each update, with the verdict and the ancestors that `Standing` gives it.
--- Assumes nothing.
 use mathlib.Core.Path.{_≡_}
 use mathlib.Core.List.{List}
 use Rattle.keys.specs.Member.{_∈_}

@@ -1,6 +1,5 @@
 -- More updates keep what is settled: Ancestor, Held, Void and the ranks of held updates; so only the members of a set count. One more update
 -- changes the standing of no update but itself and those it is an ancestor of.
--- Assumes nothing.
 use mathlib.Core.Path.{_≡_, sym, subst}
 use mathlib.Core.Logic.{_⊎_, inl, inr, ⊎-elim}
 use mathlib.Core.List.{List, [], _∷_, _++_}

@@ -1,6 +1,5 @@
 -- Consequences of the least sets: the ancestors of a held update are held, no held update is its own ancestor, held and void exclude each
 -- other; and what a settling has to show, whatever its strategy.
--- Assumes nothing.
 use mathlib.Core.Path.{_≡_, refl, sym, _∙_, ap}
 use mathlib.Core.Logic.{_⊎_, inl, inr, ⊎-elim}
 use mathlib.Core.Bool.{true≢false}

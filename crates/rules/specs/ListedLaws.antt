@@ -1,5 +1,4 @@
 -- The walk of a settled table, and the values it shows, are those that `ReadOff` defines; and `ReadOff` defines one list.
--- Assumes nothing.
 use Prim.Native.Nat.{ℕ, zero, suc, _+_, _≤_, _<_}
 use native.Mathlib.Omega.{arith}
 use mathlib.Core.Path.{_≡_, refl, sym, _∙_, ap, subst, subst₂}

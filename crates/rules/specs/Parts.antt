@@ -1,5 +1,4 @@
 -- The parts of the report, and what it is for them to be those of a set of updates, by `Standing` and `ReadOff` alone.
--- Assumes nothing.
 use Prim.Native.Nat.{ℕ}
 use mathlib.Core.List.{List, [], _∷_}
 use Rattle.keys.specs.Member.{_∈_}

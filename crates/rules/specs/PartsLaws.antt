@@ -1,6 +1,5 @@
 -- For a set with distinct ids the parts of the report, as they are computed, are exactly those that `Standing` and `ReadOff` define, and only one choice of
 -- parts is.
--- Assumes nothing.
 use Prim.Native.Nat.{ℕ}
 use mathlib.Core.Path.{_≡_, refl, sym, subst, subst₂}
 use mathlib.Core.List.{List, [], _∷_}

@@ -1,5 +1,4 @@
 -- Document 01, "What is read from the held updates", by Held and Ancestor alone.
--- Assumes nothing.
 use mathlib.Core.Path.{_≡_}
 use mathlib.Core.List.{List, [], _∷_, _++_}
 use Prim.Native.Nat.{ℕ}

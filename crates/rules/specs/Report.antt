@@ -1,5 +1,4 @@
 -- Document 01, "Command and report": the report's text, byte for byte, from a set alone.
--- Assumes nothing.
 use Prim.Native.Nat.{ℕ, zero, suc, _+_, _/_, _%_}
 use Prim.Native.String.{String, len, charAt}
 use Prim.Native.Char.{code}

@@ -1,5 +1,4 @@
 -- How long a report is: the lines of each part are bounded, and each row of a table shows in few of them.
--- Assumes nothing.
 use Prim.Native.Nat.{ℕ, zero, suc, _+_, _*_, _/_, _%_, _≤_, _<_, zero-le, suc-le-suc}
 use Prim.Native.String.{String}
 use native.Mathlib.Nat.{not-suc-le-zero, le-of-suc-le-suc, le-trans, eq-or-lt-of-le}

@@ -1,6 +1,5 @@
 -- The rules as they are computed: rounds over a table of verdicts that judge again what waits, and the read-offs from the settled table. The
 -- theorem of `PartsLaws` says that the parts so computed are those of `Standing` and `ReadOff`.
--- Assumes nothing.
 use Prim.Native.Nat.{ℕ, zero, suc}
 use mathlib.Core.List.{List, [], _∷_, map, reverse}
 use mathlib.Core.Bool.{Bool, true, false, not, _&&_, _||_}

@@ -1,5 +1,4 @@
 -- The rounds of `Settle` decide Held and Void exactly, ancestors included; and every update of a set is held, waiting or void.
--- Assumes nothing.
 use Prim.Native.Nat.{ℕ, zero, suc, _+_, _≤_, _<_}
 use native.Mathlib.Omega.{arith}
 use mathlib.Core.Path.{_≡_, refl, sym, _∙_, ap, subst}

@@ -1,6 +1,5 @@
 -- What holds of a table while it settles: there is one row for each update of the set, and every verdict given so far is right. The tests
 -- of such a table then mean what `Standing` says, so a row judged by it is right too.
--- Assumes nothing.
 use mathlib.Core.Path.{_≡_, refl, sym, _∙_, ap, subst, subst₂}
 use mathlib.Core.Logic.{_⊎_, inl, inr, ⊎-elim}
 use mathlib.Core.List.{List, [], map}

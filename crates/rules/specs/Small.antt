@@ -8,7 +8,6 @@
 --   a void update forgotten: 8 and 9 (e would wait);
 --   no antichain test: 7, 8 and 9 (d would be held);
 --   marks from waiting updates: the further ledger `waits`; marks from void ones: 7 (d is by author 1).
--- Assumes nothing.
 use Prim.Native.Nat.{ℕ}
 use mathlib.Core.Path.{_≡_, refl}
 use mathlib.Core.List.{List, [], _∷_, map, _++_}

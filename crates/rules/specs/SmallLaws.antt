@@ -1,6 +1,5 @@
 -- Document 01, "Sixteen small ledgers": one theorem covers the table. For each of its sets the parts that document 01 gives are exactly those that `Standing` and
 -- `ReadOff` define.
--- Assumes nothing.
 use mathlib.Core.Path.{_≡_, sym, subst}
 use mathlib.Core.Logic.{⊎-elim}
 use mathlib.Core.List.{List, [], _∷_, map, head-eq-of-cons-eq, tail-eq-of-cons-eq, List·Memᴰ·not-nil}

@@ -1,6 +1,5 @@
 -- Document 01, "Held, waiting, void". `ident` is the id function, `S` a set of updates: a list of which only the members count, with distinct
 -- ids (`Distinct` of keys). Nothing here assumes that the graph has no cycle.
--- Assumes nothing.
 use mathlib.Core.Path.{_≡_}
 use mathlib.Core.Logic.{_⊎_}
 use mathlib.Core.List.{List}

@@ -1,5 +1,4 @@
 -- The held rows of a table that decides its set, and the tests and lists that the read-offs are computed with.
--- Assumes nothing.
 use Prim.Native.Nat.{ℕ, _<_}
 use mathlib.Core.Path.{_≡_, refl, sym, _∙_, ap, subst}
 use mathlib.Core.Logic.{_⊎_}

@@ -1,5 +1,4 @@
 -- The report's text can be read back: no digit is a separator, so equal texts have the same lines, part by part.
--- Assumes nothing.
 use Prim.Native.Nat.{ℕ, zero, suc, _+_, _/_, _%_, _≤_, _<_}
 use Prim.Native.String.{String}
 use native.Mathlib.Omega.{arith}

@@ -1,5 +1,4 @@
 -- Document 01, "Writing": the predecessors that a new update names, and the update written.
--- Assumes nothing.
 use Prim.Native.Nat.{ℕ}
 use mathlib.Core.List.{List, [], _∷_, _++_, map, reverse}
 use mathlib.Core.Bool.{Bool, cond, not, _&&_, _||_}

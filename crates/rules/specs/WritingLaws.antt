@@ -1,5 +1,4 @@
 -- A written update is laid out, is held where it is offered next, and forms no fork with the held updates of an author who is not marked.
--- Assumes nothing.
 use mathlib.Core.Path.{_≡_, refl, sym, _∙_, ap, subst}
 use mathlib.Core.Logic.{⊎-elim}
 use Prim.Native.Nat.{ℕ, _≤_}

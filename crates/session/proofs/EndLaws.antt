@@ -1,5 +1,4 @@
 -- The end of the input: a last line that is begun is answered, and the report comes after its answer.
--- Assumes nothing.
 use mathlib.Core.Path.{_≡_, refl, sym, ap, subst, subst₂, _∙_}
 use Prim.Native.Nat.{ℕ, _+_, _≤_}
 use native.Mathlib.Nat.{zero-add}

@@ -1,5 +1,4 @@
 -- Answering one line: that it is not read is printed, or else the answer to its offer, which is printable.
--- Assumes nothing.
 use mathlib.Core.Path.{_≡_, sym, ap, subst, _∙_}
 use Prim.Native.Nat.{ℕ, _+_, _≤_}
 use native.Mathlib.Nat.{zero-add}

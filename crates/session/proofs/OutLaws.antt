@@ -1,5 +1,4 @@
 -- The output buffer, of which the part from byte w on is lent and given back: a text at the start of that part comes after the first w bytes.
--- Assumes nothing.
 use mathlib.Core.Path.{_≡_, refl, sym, ap, ap₂, _∙_}
 use Prim.Native.Nat.{ℕ, _+_, _-_, _≤_}
 use native.Mathlib.Nat.{zero-add}

@@ -1,5 +1,4 @@
 -- Feeding, turn after turn: what was done once some of the input is consumed and some of the output is written; and what that comes to at the end.
--- Assumes nothing.
 use mathlib.Core.Path.{_≡_, refl, sym, ap, subst₂, _∙_}
 use Prim.Native.Nat.{ℕ, _+_, _-_, _*_, _≤_, _<_}
 use native.Mathlib.Omega.{arith}

@@ -1,5 +1,4 @@
 -- One turn of feeding: what a piece of a line does, and a line that ends and is answered.
--- Assumes nothing.
 use mathlib.Core.Path.{_≡_, sym, ap, subst, _∙_}
 use Prim.Native.Nat.{ℕ}
 use mathlib.Core.List.{List, [], _∷_, _++_, append-nil}

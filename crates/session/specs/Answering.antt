@@ -1,5 +1,4 @@
 -- Lines answered one after the other, for every ledger and store: each offer with what the entry `offer` ensures, row 1 included.
--- Assumes nothing.
 use Prim.Native.Nat.{ℕ, _+_, _≤_}
 use mathlib.Core.Path.{_≡_}
 use mathlib.Core.List.{List, [], _∷_, _++_}

@@ -1,6 +1,5 @@
 -- Laws of lines answered one after the other: rows of them put together; the offers among them are calls of `offer`; the lines of a text; and what answering does to a
 -- machine whose updates the ledger stands for.
--- Assumes nothing.
 use mathlib.Core.Path.{_≡_, refl, sym, ap, subst, _∙_}
 use Prim.Native.Nat.{ℕ}
 use mathlib.Core.List.{List, [], _∷_, _++_, append-assoc, append-nil}

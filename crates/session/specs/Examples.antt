@@ -1,5 +1,4 @@
 -- Document 01's own example of the command, and the ends of an input, computed from the definition.
--- Assumes nothing.
 use mathlib.Core.Path.{_≡_, refl}
 use mathlib.Core.List.{[]}
 use Rattle.keys.specs.Order.{same}

@@ -1,6 +1,5 @@
 -- The command's work in pieces: what feeding a piece of the input promises, and the end of the input, for every ledger, store, line buffer, piece and output
 -- buffer. Left free: how much of a piece is consumed once there is no room for another answer; and the bytes of the line buffer that are not of the line so far.
--- Assumes nothing.
 use mathlib.Core.Path.{_≡_}
 use Prim.Native.Nat.{ℕ, _+_, _≤_, _<_}
 use mathlib.Core.List.{List, _++_}

@@ -1,6 +1,5 @@
 -- The end of the input, where the ledger, its store and the line buffer are where a machine is: with room for the longest end there is a report, and what is put out is
 -- what the machine ends with.
--- Assumes nothing.
 use mathlib.Core.Path.{_≡_, refl, sym, ap, ap₂, subst, _∙_}
 use Prim.Native.Nat.{ℕ, _+_, _≤_, _<_}
 use native.Mathlib.Omega.{arith}

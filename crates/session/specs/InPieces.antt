@@ -1,5 +1,4 @@
 -- However the input is cut, the outputs of the pieces and of the end, put together, are the output of the whole.
--- Assumes nothing.
 use mathlib.Core.Path.{_≡_, refl, sym, ap, _∙_}
 use Prim.Native.Nat.{ℕ, _≤_}
 use mathlib.Core.List.{List, [], _++_}

@@ -1,5 +1,4 @@
 -- Rows of pieces: one row after another, and a row with one piece more.
--- Assumes nothing.
 use Prim.Native.Nat.{ℕ}
 use mathlib.Core.List.{List, _++_, append-assoc, append-nil}
 use lib.ListN.{take}

@@ -1,5 +1,4 @@
 -- Document 01, "Command and report": the whole output as a function of the whole input.
--- Assumes nothing.
 use Prim.Native.Nat.{ℕ, _^_}
 use mathlib.Core.List.{List, [], _∷_, _++_}
 use mathlib.Core.Option.{Option, none, some}

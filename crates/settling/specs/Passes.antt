@@ -1,6 +1,5 @@
 -- The passes of `Settle`, by cases and by invariants: what settling one place keeps, the passes keep; and a pass changes nothing exactly where each
 -- waiting place is judged to go on waiting.
--- Assumes nothing.
 use mathlib.Core.Path.{_≡_, refl, sym, _∙_, ap, subst}
 use Prim.Native.Nat.{ℕ, zero, suc, _+_, _≤_, _<_}
 use native.Mathlib.Omega.{arith}

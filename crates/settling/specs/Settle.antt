@@ -1,7 +1,6 @@
 -- Settling as the code does it: the newest place is judged; where it does not go on waiting, a pass is made over its successors, and where that
 -- changes a standing, passes are made over all places, until one changes none. A pass goes from the last place to the first, each waiting one judged by
 -- the ledger that the ones before it left. The laws in `SettleLaws` say that a ledger so settled stands as the rules say.
--- Assumes nothing.
 use mathlib.Core.Path.{_≡_}
 use Prim.Native.Nat.{ℕ, zero, suc, _+_, _<_}
 use mathlib.Core.List.{List}

@@ -1,5 +1,4 @@
 -- Settling keeps what is so and ends with a ledger that stands as the rules say; and what it keeps of any ledger.
--- Assumes nothing.
 use mathlib.Core.Path.{_≡_, refl, sym, _∙_, ap, subst, subst₂}
 use Prim.Native.Nat.{ℕ, zero, suc, _+_, _*_, _≤_, _<_}
 use native.Mathlib.Omega.{arith}

@@ -1,5 +1,4 @@
 -- In a ledger that stands, each place that waits is judged to go on waiting; and so it is once the next place is taken, by an update that waits.
--- Assumes nothing.
 use mathlib.Core.Path.{_≡_, refl, sym, _∙_, ap}
 use Prim.Native.Nat.{ℕ, _+_, _*_, _≤_, _<_}
 use native.Mathlib.Omega.{arith}

@@ -1,5 +1,4 @@
 -- The padded message: its whole blocks are the message's, and its end is one or two blocks.
--- Assumes nothing.
 use mathlib.Core.Path.{_≡_, refl, ap₂, subst, sym, _∙_}
 use mathlib.Core.Logic.{_≢_}
 use mathlib.Core.List.{List, _∷_, _++_, append-assoc}

@@ -1,5 +1,4 @@
 -- What the contracts say besides the standard's definitions: of the last blocks.
--- Assumes nothing.
 use Prim.Native.Nat.{ℕ, _+_, _*_, _/_, _%_}
 use mathlib.Core.List.{List}
 use lib.ListN.{length, drop}

@@ -1,5 +1,4 @@
 -- What owning a ledger tells: it has 64 places, and each place's id has 32 bytes.
--- Assumes nothing.
 use Prim.Native.Nat.{ℕ, zero, suc, _<_}
 use mathlib.Core.Path.{_≡_, sym, _∙_}
 use mathlib.Core.List.{List, [], _∷_, map}

@@ -1,5 +1,4 @@
 -- A row of values with another one at k: what stands at k, and elsewhere.
--- Assumes nothing.
 use Prim.Native.Nat.{ℕ}
 use mathlib.Core.Path.{_≡_, refl, ap}
 use mathlib.Core.Bool.{Bool, true, false, cond}

@@ -1,5 +1,4 @@
 -- How many places of a ledger that stands have a standing: as many as the rules' table has rows with that verdict.
--- Assumes nothing.
 use mathlib.Core.Path.{_≡_, refl, sym, _∙_, ap, subst}
 use Prim.Native.Nat.{ℕ, _<_}
 use mathlib.Core.List.{List, map}

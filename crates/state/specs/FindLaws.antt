@@ -1,5 +1,4 @@
 -- Finding an id: with places that hold the updates `us`, it is found at the one place whose update has it.
--- Assumes nothing.
 use mathlib.Core.Path.{_≡_, sym, _∙_, ap}
 use Prim.Native.Nat.{ℕ, _<_}
 use mathlib.Core.List.{List}

@@ -1,6 +1,5 @@
 -- What the methods of a ledger promise, for every ledger and all arguments: a place that there is gets its new bookkeeping, and where there is none, the ledger comes
 -- back as it was.
--- Assumes nothing.
 use mathlib.Core.Path.{_≡_}
 use Prim.Native.Nat.{ℕ, _≤_, _<_}
 use Rattle.format.specs.Update.{Id}

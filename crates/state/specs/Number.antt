@@ -1,5 +1,4 @@
 -- Standings compared by a number for each.
--- Assumes nothing.
 use Prim.Native.Nat.{ℕ}
 use mathlib.Core.Bool.{Bool}
 use lib.Dec.{eqb}

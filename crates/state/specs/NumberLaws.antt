@@ -1,5 +1,4 @@
 -- The comparison of standings by their numbers is the test of each.
--- Assumes nothing.
 use mathlib.Core.Path.{_≡_, refl}
 use Rattle.state.specs.declared.Standing.{Standing}
 use Rattle.state.specs.declared.Standing.the-variants.{Held, Waiting, Void}

@@ -1,6 +1,5 @@
 -- Row 1 of document 01's table, exactly: "store not 34,112 bytes, over 64 places taken, or a taken place whose length is outside 20 to 533 or whose
 -- ancestor word names a place not taken".
--- Assumes nothing.
 use Prim.Native.Nat.{ℕ}
 use mathlib.Core.List.{List}
 use mathlib.Core.Bool.{Bool, _&&_}

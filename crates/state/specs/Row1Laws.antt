@@ -1,5 +1,4 @@
 -- What row 1 asks, as facts; a ledger that holds updates has them.
--- Assumes nothing.
 use mathlib.Core.Path.{_≡_, sym, subst}
 use Prim.Native.Nat.{ℕ, _≤_, _<_}
 use native.Mathlib.Omega.{arith}

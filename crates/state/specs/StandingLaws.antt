@@ -1,5 +1,4 @@
 -- The standings differ, and what the tests of a standing tell.
--- Assumes nothing.
 use mathlib.Core.Path.{_≡_, refl, ap}
 use mathlib.Core.Bool.{true, false, true≢false, false≢true}
 use Rattle.state.specs.declared.Standing.{Standing}

@@ -1,5 +1,4 @@
 -- The invariant: a ledger and a store stand for a list of updates, in the order of their places.
--- Assumes nothing.
 use mathlib.Core.Path.{_≡_}
 use Prim.Native.Nat.{ℕ, _≤_, _<_}
 use mathlib.Core.List.{List, []}

@@ -1,5 +1,4 @@
 -- The standings of a ledger's places as verdicts on its updates.
--- Assumes nothing.
 use mathlib.Core.Path.{_≡_, refl, sym, _∙_, ap}
 use Prim.Native.Nat.{ℕ, _<_}
 use mathlib.Core.List.{List}

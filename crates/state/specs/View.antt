@@ -1,6 +1,5 @@
 -- How a declared ledger is seen: each field of the view is a field of the struct. Laws and contracts speak of the view; a change of how the bookkeeping is kept is a
 -- change of this file, of `ViewLaws` and of the functions that read or store a place.
--- Assumes nothing.
 use Prim.Native.Nat.{ℕ}
 use mathlib.Core.List.{[]}
 use lib.ListN.{getD, replicate}

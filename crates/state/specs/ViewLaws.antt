@@ -1,5 +1,4 @@
 -- The view of a declared ledger: what a stored place makes of it, and that nothing of the ledger is lost in it.
--- Assumes nothing.
 use Prim.Native.Nat.{ℕ, _<_}
 use mathlib.Core.Path.{_≡_, refl, _∙_, ap, ap₂, fun-ext}
 use mathlib.Core.List.{List}

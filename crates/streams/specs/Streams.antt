@@ -1,5 +1,4 @@
 -- What reading and writing promise of the numbers of bytes. What a call of C read or wrote is not said: no contract can.
--- Assumes nothing.
 use mathlib.Core.Path.{_≡_}
 use Prim.Native.Nat.{ℕ, _+_, _≤_, _<_}
 use Rattle.streams.specs.declared.Moved.{Moved}

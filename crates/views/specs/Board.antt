@@ -1,6 +1,5 @@
 -- What is read from a ledger and its store, by places: the parts of the report as the code finds them, for every ledger. The theorem `text-right` says
 -- that for a ledger that stands these are the rules' parts.
--- Assumes nothing.
 use Prim.Native.Nat.{ℕ, zero, suc}
 use mathlib.Core.List.{List, [], _∷_, _++_}
 use mathlib.Core.Bool.{Bool, cond, _&&_}

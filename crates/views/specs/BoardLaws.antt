@@ -1,5 +1,4 @@
 -- The marks and the set: what is read from the places is what is read from the settled table.
--- Assumes nothing.
 use Prim.Native.Nat.{ℕ, suc, _<_}
 use native.Mathlib.Omega.{arith}
 use mathlib.Core.Path.{_≡_, refl, sym, _∙_, ap}

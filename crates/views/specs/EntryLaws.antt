@@ -1,6 +1,5 @@
 -- Entries put one after the other, each at the beginning or right after its anchor, make the walk of their tree: where parents come before their
 -- children, and of two siblings the one that is walked later.
--- Assumes nothing.
 use Prim.Native.Nat.{ℕ}
 use mathlib.Core.Path.{_≡_, refl, sym, _∙_, ap, subst}
 use mathlib.Core.Logic.{_⊎_, inl, inr, ⊎-elim}

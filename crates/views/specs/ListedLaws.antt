@@ -1,5 +1,4 @@
 -- The list: the entries put in the order of their ranks and ids show the values that the rules list.
--- Assumes nothing.
 use Prim.Native.Nat.{ℕ, zero, suc, _<_}
 use native.Mathlib.Omega.{arith}
 use native.Mathlib.Nat.{le-of-suc-le-suc, eq-or-lt-of-le}

@@ -1,5 +1,4 @@
 -- The places that are put together: the held Inserts of one rank.
--- Assumes nothing.
 use Prim.Native.Nat.{ℕ}
 use mathlib.Core.List.{List}
 use mathlib.Core.Bool.{Bool}

@@ -1,5 +1,4 @@
 -- The first line of each part of the report, and the lines in it.
--- Assumes nothing.
 use Prim.Native.Nat.{ℕ}
 use mathlib.Core.List.{List, _++_}
 use Rattle.format.specs.Update.{Id}

@@ -1,5 +1,4 @@
 -- For a ledger that stands, the update written and the judgement of it are those of the rules.
--- Assumes nothing.
 use mathlib.Core.Path.{_≡_, _∙_, ap}
 use Prim.Native.Nat.{ℕ}
 use mathlib.Core.List.{List}

@@ -1,5 +1,4 @@
 -- The judgement of an update that names heads only: it holds exactly when its operation is valid by the settled table.
--- Assumes nothing.
 use Prim.Native.Nat.{ℕ, _<_}
 use mathlib.Core.Path.{_≡_, refl, sym, _∙_, ap, ap₂, subst}
 use mathlib.Core.List.{List}

@@ -1,6 +1,5 @@
 -- The update that is written: the author's, with the predecessors chosen by places, for every ledger. The theorem `chosen-right` says that for a ledger
 -- that stands it is the rules' written update.
--- Assumes nothing.
 use Prim.Native.Nat.{ℕ}
 use mathlib.Core.List.{List, map}
 use Rattle.format.specs.Update.{Operation, Update}

@@ -1,5 +1,4 @@
 -- What is written is laid out as the format asks, for every ledger whose ids have 32 bytes.
--- Assumes nothing.
 use Prim.Native.Nat.{ℕ, _≤_, _<_}
 use mathlib.Core.Path.{_≡_, sym, ap, subst, _∙_}
 use mathlib.Core.List.{List, map}

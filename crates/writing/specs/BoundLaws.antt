@@ -1,5 +1,4 @@
 -- An operation whose named ids rows 8 and 9 let through is within the bounds of the format.
--- Assumes nothing.
 use mathlib.Core.Path.{_≡_}
 use Prim.Native.Nat.{ℕ, _/_}
 use native.Mathlib.Omega.{arith}

@@ -1,5 +1,4 @@
 -- The values of an answer tell the answer: a promise that speaks of the values leaves nothing open.
--- Assumes nothing.
 use mathlib.Core.Path.{_≡_, ap}
 use Prim.Native.Nat.{ℕ}
 use native.Mathlib.Omega.{arith}

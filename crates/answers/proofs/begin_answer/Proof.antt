@@ -1,5 +1,4 @@
 -- `begin_answer` meets its contract, by how the line reads.
--- Assumes nothing.
 use native.Mathlib.Omega.{arith}
 use denote.Ref.{now}
 use Rattle.printing.proofs.Printing.{same-text}

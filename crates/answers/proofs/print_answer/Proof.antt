@@ -1,5 +1,4 @@
 -- `print_answer` meets its contract, by the answer.
--- Assumes nothing.
 use mathlib.Core.Path.{sym, ap, subst}
 use Rattle.offering.specs.Words.{answerText}
 use Rattle.printing.proofs.Printing.{same-text}

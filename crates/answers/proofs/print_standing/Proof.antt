@@ -1,5 +1,4 @@
 -- `print_standing` meets its contract, by the standing.
--- Assumes nothing.
 use native.Mathlib.Omega.{arith}
 use Rattle.printing.proofs.Printing.{same-text}
 use Rattle.answers.proofs.AnswerLaws.{word-is}

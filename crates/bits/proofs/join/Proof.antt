@@ -1,4 +1,4 @@
--- `bits::join` meets its contract. Assumes nothing.
+-- `bits::join` meets its contract.
 use borrow.Author.Needs.{needs}
 use Rattle.bits.specs.Bits.{join}
 use Rattle.bits.proofs.join.Statement.{statement}

@@ -1,4 +1,4 @@
--- `bits::meet` meets its contract. Assumes nothing.
+-- `bits::meet` meets its contract.
 use borrow.Author.Needs.{needs}
 use Rattle.bits.specs.Bits.{meet}
 use Rattle.bits.proofs.meet.Statement.{statement}

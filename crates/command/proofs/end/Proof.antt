@@ -1,5 +1,4 @@
 -- `command::end` meets its contract: what `finish` puts out lies within the buffer, and `write` is to take as many bytes.
--- Assumes nothing.
 use mathlib.Core.Path.{sym, _∙_}
 use native.Mathlib.Omega.{arith}
 use lib.Seq.{length-take-le}

@@ -1,5 +1,4 @@
 -- `command::hand_on` meets its contract: what is fed is the chunk from `at` on, and `write` is to take as many bytes as that put out.
--- Assumes nothing.
 use mathlib.Core.Path.{sym, subst}
 use Prim.Native.Nat.{ℕ, _≤_}
 use native.Mathlib.Nat.{le-refl}

@@ -1,5 +1,4 @@
 -- `command::max_input` meets its contract: it is the limit of document 01.
--- Assumes nothing.
 use mathlib.Core.Path.{refl}
 use Rattle.command.proofs.max_input.Statement.{statement}
 use Rattle.command.proofs.max_input.Tie as tie

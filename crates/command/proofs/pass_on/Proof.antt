@@ -1,6 +1,5 @@
 -- `command::pass_on` meets its contract. The loop's invariant: the first `at` bytes of the chunk were fed, in pieces. The measure is what is left of the chunk: with room
 -- for an answer, `feed` consumes some of it.
--- Assumes nothing.
 use mathlib.Core.Path.{_≡_, refl, sym, subst, _∙_}
 use Prim.Native.Nat.{ℕ, _+_, _-_, _≤_}
 use native.Mathlib.Omega.{arith}

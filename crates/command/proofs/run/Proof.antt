@@ -1,5 +1,4 @@
 -- `command::run` meets its contract: what it lends to the loop is as long as the loop needs it.
--- Assumes nothing.
 use borrow.Author.Needs.{needs}
 use Rattle.command.proofs.run.Statement.{statement}
 use Rattle.command.proofs.run.Tie as tie

@@ -1,6 +1,5 @@
 -- `command::run_on` meets its contract. The loop's invariant: what was fed so far, what was read last and what is left make up the limit. The measure is what is left, with
 -- what was read last.
--- Assumes nothing.
 use mathlib.Core.Path.{_≡_, refl, sym, subst, _∙_}
 use Prim.Native.Nat.{ℕ, _+_, _≤_}
 use native.Mathlib.Omega.{arith}

@@ -1,5 +1,4 @@
 -- `command::step` meets its contract: the bytes that were read are fed, and the next ones are read.
--- Assumes nothing.
 use mathlib.Core.Path.{refl, sym}
 use native.Mathlib.Omega.{arith}
 use lib.Seq.{length-take-le}

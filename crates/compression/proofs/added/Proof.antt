@@ -1,5 +1,4 @@
 -- `sha256::added` meets its contract: the definition, field by field.
--- Assumes nothing.
 use borrow.Author.Needs.{needs}
 use Rattle.compression.specs.Code.{working}
 use Rattle.compression.proofs.Words.{added-made}

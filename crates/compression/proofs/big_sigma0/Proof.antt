@@ -1,5 +1,4 @@
 -- `sha256::big_sigma0` meets its contract: the definition, at what the rotations ensure.
--- Assumes nothing.
 use mathlib.Core.Path.{ap₂}
 use borrow.Author.Needs.{needs}
 use lib.Bits.{bitXor}

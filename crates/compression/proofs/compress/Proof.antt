@@ -1,5 +1,4 @@
 -- `sha256::compress` meets its contract: the definition, at what the calls ensure.
--- Assumes nothing.
 use borrow.Author.Needs.{needs}
 use Rattle.compression.specs.Code.{working}
 use Rattle.compression.proofs.Schedule.{complete}

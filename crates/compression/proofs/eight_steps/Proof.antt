@@ -1,5 +1,4 @@
 -- `sha256::eight_steps` meets its contract: each call makes one more step of the definition.
--- Assumes nothing.
 use borrow.Author.Needs.{needs}
 use Rattle.compression.proofs.Steps.{onward, index, index-fits}
 use Rattle.compression.proofs.eight_steps.Statement.{statement}

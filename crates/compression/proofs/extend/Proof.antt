@@ -1,5 +1,4 @@
 -- `sha256::extend` meets its contract: `n` words are made.
--- Assumes nothing.
 use mathlib.Core.List.{List}
 use mathlib.Core.Path.{_≡_}
 use Prim.Native.Nat.{ℕ, _-_, _%_, _≤_}

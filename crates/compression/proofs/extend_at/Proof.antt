@@ -1,5 +1,4 @@
 -- `sha256::extend_at` meets its contract: one more word of the definition.
--- Assumes nothing.
 use borrow.Author.Needs.{needs}
 use Rattle.compression.proofs.Schedule.{wordFrom-made, extended}
 use Rattle.compression.proofs.extend_at.Statement.{statement}

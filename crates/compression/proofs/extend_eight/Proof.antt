@@ -1,5 +1,4 @@
 -- `sha256::extend_eight` meets its contract: each call makes one more word of the definition.
--- Assumes nothing.
 use borrow.Author.Needs.{needs}
 use Rattle.compression.specs.Code.{Scheduled}
 use Rattle.compression.proofs.Schedule.{onward}

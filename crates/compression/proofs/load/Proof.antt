@@ -1,5 +1,4 @@
 -- `sha256::load` meets its contract: the first `t` words are loaded.
--- Assumes nothing.
 use Prim.Native.Nat.{_-_, _≤_}
 use mathlib.Core.Path.{_≡_}
 use borrow.Author.Needs.{needs}

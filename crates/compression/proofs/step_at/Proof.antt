@@ -1,5 +1,4 @@
 -- `sha256::step_at` meets its contract: one more step of the definition.
--- Assumes nothing.
 use borrow.Author.Needs.{needs}
 use Rattle.compression.proofs.Steps.{step-on}
 use Rattle.compression.proofs.step_at.Statement.{statement}

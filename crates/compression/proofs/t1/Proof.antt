@@ -1,5 +1,4 @@
 -- `sha256::t1` meets its contract: the definition, at what the calls ensure.
--- Assumes nothing.
 use borrow.Author.Needs.{needs}
 use Rattle.compression.specs.Code.{working}
 use Rattle.compression.proofs.Words.{t1-made}

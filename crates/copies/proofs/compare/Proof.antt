@@ -1,5 +1,4 @@
 -- `compare` meets its contract, by what the first report answers.
--- Assumes nothing.
 use borrow.Author.Needs.{needs}
 use Rattle.copies.proofs.CompareLaws.{copy-within, copy-length, first-not, both}
 use Rattle.copies.proofs.compare.Statement.{statement}

@@ -1,5 +1,4 @@
 -- `compare_second` meets its contract, by what the report answers and by whether the two reports are the same.
--- Assumes nothing.
 use mathlib.Core.Path.{sym, _∙_}
 use borrow.Author.Needs.{needs}
 use Rattle.copies.proofs.CompareLaws.{copy-within, copy-length, second-not, second-same, second-different}

@@ -1,5 +1,4 @@
 -- `offer_all` meets its contract. The loop's invariant: the first i of the list are offered.
--- Assumes nothing.
 use Prim.Native.Nat.{_≤_, _-_}
 use borrow.Author.Needs.{needs}
 use denote.Ref.{now}

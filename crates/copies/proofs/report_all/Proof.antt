@@ -1,5 +1,4 @@
 -- `report_all` meets its contract.
--- Assumes nothing.
 use borrow.Author.Needs.{needs}
 use Rattle.copies.proofs.report_all.Statement.{statement}
 use Rattle.copies.proofs.report_all.Tie as tie

@@ -1,5 +1,4 @@
 -- `copying::copy` meets its contract: `i` bytes are copied, and the others are as they were.
--- Assumes nothing.
 use Prim.Native.Nat.{ℕ, suc, _+_, _-_, _≤_, _<_}
 use mathlib.Core.Path.{_≡_}
 use mathlib.Core.List.{List, [], _∷_, _++_, append-assoc}

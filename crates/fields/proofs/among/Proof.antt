@@ -1,5 +1,4 @@
 -- `among` meets its contract. The loop's invariant: the id is among the ids if it is among those from the k-th on.
--- Assumes nothing.
 use Prim.Native.Nat.{_-_, _≤_}
 use mathlib.Core.Path.{_≡_, refl, sym, ap, _∙_}
 use borrow.Author.Needs.{needs}

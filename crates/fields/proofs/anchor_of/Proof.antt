@@ -1,5 +1,4 @@
 -- `anchor_of` meets its contract, by the kind.
--- Assumes nothing.
 use mathlib.Core.Path.{_∙_}
 use borrow.Author.Needs.{needs}
 use denote.Ref.{now}

@@ -1,5 +1,4 @@
 -- `erases` meets its contract, by the kind.
--- Assumes nothing.
 use borrow.Author.Needs.{needs}
 use denote.Ref.{now}
 use Rattle.fields.proofs.Reading.{same-of, of-other, erases-laid}

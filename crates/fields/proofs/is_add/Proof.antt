@@ -1,5 +1,4 @@
 -- `is_add` meets its contract.
--- Assumes nothing.
 use borrow.Author.Needs.{needs}
 use denote.Ref.{now}
 use Rattle.fields.proofs.Reading.{is-add-laid}

@@ -1,5 +1,4 @@
 -- `layout_of` meets its contract, by the operation.
--- Assumes nothing.
 use borrow.Author.Needs.{needs}
 use denote.Ref.{now}
 use Rattle.fields.proofs.Reading.{laid-update, laid-nothing}

@@ -1,5 +1,4 @@
 -- `removes` meets its contract, by the kind.
--- Assumes nothing.
 use mathlib.Core.Path.{_∙_}
 use borrow.Author.Needs.{needs}
 use denote.Ref.{now}

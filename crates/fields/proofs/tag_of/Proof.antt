@@ -1,5 +1,4 @@
 -- `tag_of` meets its contract, by the kind.
--- Assumes nothing.
 use borrow.Author.Needs.{needs}
 use denote.Ref.{now}
 use Rattle.fields.proofs.Reading.{text-of, of-other, tag-laid}

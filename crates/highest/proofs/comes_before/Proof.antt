@@ -1,5 +1,4 @@
 -- `comes_before` meets its contract: Less is the answer where the one comes before the other.
--- Assumes nothing.
 use mathlib.Core.Path.{sym, _∙_}
 use borrow.Author.Needs.{needs}
 use Rattle.format.proofs.Ascent.{less-before}

@@ -1,5 +1,4 @@
 -- `exceeds` meets its contract, by the author's highest so far.
--- Assumes nothing.
 use mathlib.Core.Path.{sym, _∙_}
 use native.Mathlib.Omega.{arith}
 use borrow.Author.Needs.{needs}

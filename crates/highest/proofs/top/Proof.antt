@@ -1,5 +1,4 @@
 -- `top` meets its contract. The loop's invariant: the author's highest below k.
--- Assumes nothing.
 use Prim.Native.Nat.{_-_, _≤_}
 use mathlib.Core.Path.{_≡_}
 use borrow.Author.Needs.{needs}

@@ -1,5 +1,4 @@
 -- `find_newline` meets its contract. The loop's invariant: the bytes passed have no newline.
--- Assumes nothing.
 use Prim.Native.Nat.{_-_, _≤_}
 use mathlib.Core.Path.{_≡_, refl, _∙_}
 use mathlib.Core.Bool.{false}

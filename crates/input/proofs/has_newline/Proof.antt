@@ -1,5 +1,4 @@
 -- `has_newline` meets its contract. The loop's invariant: found tells whether there is a newline among the first i bytes.
--- Assumes nothing.
 use Prim.Native.Nat.{ℕ, _-_, _≤_}
 use mathlib.Core.Path.{_≡_, refl, sym, ap, _∙_}
 use mathlib.Core.Logic.{⊎-elim}

@@ -1,5 +1,4 @@
 -- `skip_blocks` meets its contract. The loop's invariant: the bytes passed have no newline.
--- Assumes nothing.
 use Prim.Native.Nat.{_-_, _≤_}
 use mathlib.Core.Path.{_≡_, sym, _∙_}
 use mathlib.Core.Bool.{false}

@@ -1,5 +1,4 @@
 -- `take_line` meets its contract.
--- Assumes nothing.
 use mathlib.Core.Path.{sym}
 use borrow.Author.Needs.{needs}
 use lib.Seq.{length-take-le}

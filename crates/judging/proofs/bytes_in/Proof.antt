@@ -1,5 +1,4 @@
 -- `bytes_in` meets its contract, by where the id was found and whether the place is in the set.
--- Assumes nothing.
 use mathlib.Core.Path.{sym, _∙_}
 use borrow.Author.Needs.{needs}
 use denote.Ref.{now}

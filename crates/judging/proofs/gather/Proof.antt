@@ -1,5 +1,4 @@
 -- `gather` meets its contract. The loop's invariant: what all predecessors say is what those from the k-th on add to g.
--- Assumes nothing.
 use Prim.Native.Nat.{_≤_, _-_}
 use mathlib.Core.Path.{_≡_, refl, sym, ap, _∙_}
 use mathlib.Core.Logic.{⊎-elim}

@@ -1,5 +1,4 @@
 -- `gather_by` meets its contract: what is gathered, by the standing of the place.
--- Assumes nothing.
 use borrow.Author.Needs.{needs}
 use mathlib.Core.Path.{_∙_}
 use Rattle.bits.specs.Bits.{wordBits}

@@ -1,5 +1,4 @@
 -- `judge` meets its contract: the judgement of the stored bytes.
--- Assumes nothing.
 use mathlib.Core.Path.{_∙_}
 use borrow.Author.Needs.{needs}
 use denote.Ref.{now}

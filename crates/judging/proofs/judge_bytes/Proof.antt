@@ -1,5 +1,4 @@
 -- `judge_bytes` meets its contract: the judgement of what the bytes decode to.
--- Assumes nothing.
 use mathlib.Core.Path.{_∙_}
 use borrow.Author.Needs.{needs}
 use denote.Ref.{now}

@@ -1,5 +1,4 @@
 -- `judge_ready` meets its contract: the antichain rule, then the operation.
--- Assumes nothing.
 use mathlib.Core.Path.{sym, _∙_}
 use borrow.Author.Needs.{needs}
 use denote.Ref.{now}

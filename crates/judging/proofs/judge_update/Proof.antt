@@ -1,5 +1,4 @@
 -- `judge_update` meets its contract: void, ready, or waiting, by what was gathered.
--- Assumes nothing.
 use mathlib.Core.Path.{ap, _∙_}
 use borrow.Author.Needs.{needs}
 use denote.Ref.{now}

@@ -1,5 +1,4 @@
 -- `names_add` meets its contract: the test of the bytes that the id names.
--- Assumes nothing.
 use mathlib.Core.Path.{_∙_}
 use borrow.Author.Needs.{needs}
 use Rattle.judging.proofs.names_add.Statement.{statement}

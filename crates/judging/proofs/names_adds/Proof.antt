@@ -1,5 +1,4 @@
 -- `names_adds` meets its contract. The loop's invariant: all ids pass if those from the k-th on do.
--- Assumes nothing.
 use Prim.Native.Nat.{_≤_, _-_}
 use mathlib.Core.Path.{_≡_, refl, sym, ap, _∙_}
 use lib.ListN.{drop}

@@ -1,5 +1,4 @@
 -- `valid` meets its contract, by the kind of the operation.
--- Assumes nothing.
 use mathlib.Core.Path.{sym, _∙_}
 use borrow.Author.Needs.{needs}
 use denote.Ref.{now}

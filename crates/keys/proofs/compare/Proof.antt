@@ -1,5 +1,4 @@
 -- `keys::compare` meets its contract. The loop's invariant: the order is that of the two strings from byte i on.
--- Assumes nothing.
 use Prim.Native.Nat.{_≤_, _-_}
 use mathlib.Core.Path.{_≡_, refl, sym, _∙_}
 use native.Mathlib.Numerals.{add-one}

@@ -1,5 +1,4 @@
 -- `keys::same` meets its contract: the strings are the same where their order is Equal.
--- Assumes nothing.
 use mathlib.Core.Path.{sym, _∙_}
 use borrow.Author.Needs.{needs}
 use Rattle.keys.proofs.Steps.{equal-same}

@@ -1,5 +1,4 @@
 -- `offer` meets its contract, by row 1 and by what reading the bytes answers.
--- Assumes nothing.
 use mathlib.Core.Path.{sym, _∙_}
 use borrow.Author.Needs.{needs}
 use borrow.Author.Tests.{not-true, not-false}

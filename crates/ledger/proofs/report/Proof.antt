@@ -1,5 +1,4 @@
 -- `report` meets its contract: the length is asked of a page that is too short for the text, and the text is then printed where it fits.
--- Assumes nothing.
 use mathlib.Core.Path.{sym, _∙_}
 use borrow.Author.Needs.{needs}
 use borrow.Author.Tests.{not-true, not-false}

@@ -1,5 +1,4 @@
 -- `standing` meets its contract, by row 1 and by where the id was found.
--- Assumes nothing.
 use Prim.Native.Nat.{_<_}
 use mathlib.Core.Path.{sym, _∙_}
 use native.Mathlib.Omega.{arith}

@@ -1,5 +1,4 @@
 -- `write` meets its contract: rows 1, 4, 8 and 9 in their order, then the update.
--- Assumes nothing.
 use mathlib.Core.Path.{_≡_, sym, _∙_}
 use mathlib.Core.Bool.{Bool, true, false, not}
 use borrow.Author.Needs.{needs}

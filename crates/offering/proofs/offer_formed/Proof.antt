@@ -1,5 +1,4 @@
 -- `offer_formed` meets its contract, by where the id was found and whether a place is free.
--- Assumes nothing.
 use Prim.Native.Nat.{_<_}
 use mathlib.Core.Path.{sym, _∙_}
 use native.Mathlib.Omega.{arith}

@@ -1,5 +1,4 @@
 -- `take` meets its contract: what settling ensures of the ledger with the place taken, and the counts.
--- Assumes nothing.
 use mathlib.Core.Path.{ap}
 use Prim.Native.Nat.{_≤_}
 use native.Mathlib.Omega.{arith}

@@ -1,5 +1,4 @@
 -- `bad_named` meets its contract.
--- Assumes nothing.
 use borrow.Author.Needs.{needs}
 use Rattle.operations.specs.NamedLaws.{bad-long, bad-odd}
 use Rattle.operations.proofs.bad_named.Statement.{statement}

@@ -1,5 +1,4 @@
 -- `put_add` meets its contract.
--- Assumes nothing.
 use borrow.Author.Needs.{needs}
 use Rattle.format.specs.Update.{encodeOperation}
 use Rattle.operations.proofs.put_add.Statement.{statement}

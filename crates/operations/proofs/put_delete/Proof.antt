@@ -1,5 +1,4 @@
 -- `put_delete` meets its contract.
--- Assumes nothing.
 use borrow.Author.Needs.{needs}
 use Rattle.format.specs.Update.{encodeOperation}
 use Rattle.operations.proofs.put_delete.Statement.{statement}

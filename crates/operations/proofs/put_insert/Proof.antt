@@ -1,5 +1,4 @@
 -- `put_insert` meets its contract.
--- Assumes nothing.
 use borrow.Author.Needs.{needs}
 use Rattle.format.specs.Update.{encodeOperation}
 use Rattle.printing.proofs.Printing.{both}

@@ -1,5 +1,4 @@
 -- `put_operation` meets its contract, by the kind.
--- Assumes nothing.
 use native.Mathlib.Omega.{arith}
 use borrow.Author.Needs.{needs}
 use denote.Ref.{now}

@@ -1,5 +1,4 @@
 -- `put_part` meets its contract.
--- Assumes nothing.
 use borrow.Author.Needs.{needs}
 use Rattle.printing.proofs.Printing.{both}
 use Rattle.operations.proofs.put_part.Statement.{statement}

@@ -1,5 +1,4 @@
 -- `put_remove` meets its contract: the kind and the tag, the count, the named ids.
--- Assumes nothing.
 use borrow.Author.Needs.{needs}
 use native.Mathlib.Omega.{arith}
 use denote.Ref.{now}

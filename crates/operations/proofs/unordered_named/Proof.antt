@@ -1,5 +1,4 @@
 -- `unordered_named` meets its contract.
--- Assumes nothing.
 use borrow.Author.Needs.{needs}
 use Rattle.operations.specs.NamedLaws.{unordered-by}
 use Rattle.operations.proofs.unordered_named.Statement.{statement}

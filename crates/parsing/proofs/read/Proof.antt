@@ -1,6 +1,5 @@
 -- `read` meets its contract: rows 2 to 5 in their order, each at its test, then those of the operation. The offsets' answer means what the
 -- bytes decode to.
--- Assumes nothing.
 use Prim.Native.Nat.{ℕ}
 use mathlib.Core.Path.{_≡_, ap, _∙_}
 use mathlib.Core.List.{List}

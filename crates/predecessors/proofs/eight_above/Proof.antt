@@ -1,5 +1,4 @@
 -- `eight_above` meets its contract, by where the first head at or above the place stands.
--- Assumes nothing.
 use mathlib.Core.Path.{sym, _∙_}
 use native.Mathlib.Omega.{arith}
 use borrow.Author.Needs.{needs}

@@ -1,5 +1,4 @@
 -- `first` meets its contract.
--- Assumes nothing.
 use mathlib.Core.Path.{refl}
 use Rattle.predecessors.proofs.Choosing.{first-lists}
 use Rattle.predecessors.proofs.first.Statement.{statement}

@@ -1,5 +1,4 @@
 -- `first_above` meets its contract. The loop's invariant: no head before the i-th is at or above the place.
--- Assumes nothing.
 use Prim.Native.Nat.{_-_, _≤_}
 use mathlib.Core.Path.{_≡_}
 use mathlib.Core.Option.{none}

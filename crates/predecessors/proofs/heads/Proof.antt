@@ -1,5 +1,4 @@
 -- `heads` meets its contract. The loop's invariant: the list has the heads among the first i places.
--- Assumes nothing.
 use Prim.Native.Nat.{_-_, _≤_}
 use mathlib.Core.Path.{_∙_}
 use lib.ListN.{take}

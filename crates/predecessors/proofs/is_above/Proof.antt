@@ -1,5 +1,4 @@
 -- `is_above` meets its contract.
--- Assumes nothing.
 use borrow.Author.Needs.{needs}
 use Rattle.state.specs.View.{bookOf}
 use Rattle.predecessors.proofs.Choosing.{above-same, above-other}

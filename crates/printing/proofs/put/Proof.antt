@@ -1,5 +1,4 @@
 -- `put` meets its contract: a text that does not fit is not written.
--- Assumes nothing.
 use mathlib.Core.Path.{refl}
 use Prim.Native.Nat.{_-_}
 use native.Mathlib.Nat.{le-refl}

@@ -1,6 +1,5 @@
 -- `byte` meets its contract: a walk of its MIR, by hand. The reader is taken apart, and `byte_at` is called on the slice and the number.
 -- What the reader owns is had twice: one copy is kept for the exit, and of the other what the slice owns goes to the callee.
--- Assumes nothing.
 use mathlib.Core.Path.{_≡_, refl}
 use Prim.Native.Nat.{ℕ, _<_, _^_}
 use mathlib.Core.List.{[], _∷_}

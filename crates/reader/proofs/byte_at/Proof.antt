@@ -1,5 +1,4 @@
 -- `byte_at` meets its contract: past the end `getD` gives its default.
--- Assumes nothing.
 use mathlib.Core.Path.{sym}
 use borrow.Author.Needs.{needs}
 use lib.ListN.{List·getD-eq-default}

@@ -1,6 +1,5 @@
 -- `past` meets its contract: a walk of its MIR, by hand. The result is made of the slice that the reader holds and the sum.
 -- What the reader owns is had twice: one copy is kept for the exit, and in the other the facts of the sum take the place of the number's.
--- Assumes nothing.
 use mathlib.Core.Path.{refl}
 use Prim.Native.Nat.{ℕ, _+_, _<_, _^_}
 use mathlib.Core.List.{[], _∷_}

@@ -1,7 +1,6 @@
 -- `read_header` meets its contract: a walk of its MIR, by hand. A reader is made at the first byte and carried from each byte to the next: each call
 -- takes the one that the call before gave. All that the walk knows of the callees is their contracts (`Carried`). The positions are those that the
 -- calls give; that they are the layout's is the equation at the exit.
--- Assumes nothing.
 use mathlib.Core.Path.{_≡_, refl}
 use Prim.Native.Nat.{ℕ, _+_, _*_, _≤_, _<_, _^_}
 use mathlib.Core.List.{List, [], _∷_}

@@ -1,6 +1,5 @@
 -- `start` meets its contract: a walk of its MIR, by hand. The result is made of the slice and 0.
 -- What the slice owns is had twice: for the parameter at exit, and inside the result, beside the facts of 0.
--- Assumes nothing.
 use mathlib.Core.Path.{refl}
 use Prim.Native.Nat.{ℕ}
 use mathlib.Core.List.{List, [], _∷_}

@@ -1,5 +1,4 @@
 -- `all_digits` meets its contract. The loop's invariant: the largest value so far tells whether the first i bytes are digits.
--- Assumes nothing.
 use Prim.Native.Nat.{_-_, _≤_}
 use mathlib.Core.Path.{_≡_, refl, ap, _∙_}
 use borrow.Author.Needs.{needs}

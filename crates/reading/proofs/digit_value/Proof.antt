@@ -1,5 +1,4 @@
 -- `digit_value` meets its contract.
--- Assumes nothing.
 use mathlib.Core.Logic.{⊎-elim}
 use borrow.Author.Needs.{needs}
 use Rattle.reading.proofs.Digits.{between, above, below, numeral, letter, no-digit}

@@ -1,5 +1,4 @@
 -- `unhex` meets its contract. The loop's invariant: the first i bytes are those that the first 2 i digits spell.
--- Assumes nothing.
 use Prim.Native.Nat.{_*_, _-_, _≤_}
 use mathlib.Core.Path.{_≡_, refl}
 use mathlib.Core.Option.{some}

@@ -1,5 +1,4 @@
 -- `apart` meets its contract.
--- Assumes nothing.
 use borrow.Author.Needs.{needs}
 use Rattle.state.specs.View.{placeOf}
 use Rattle.relations.proofs.Testing.{apart-same, apart-above, apart-below}

@@ -1,5 +1,4 @@
 -- `held_related` meets its contract.
--- Assumes nothing.
 use borrow.Author.Needs.{needs}
 use Rattle.state.specs.View.{placeOf}
 use Rattle.relations.proofs.Testing.{held-and, held-not}

@@ -1,5 +1,4 @@
 -- `is_forked` meets its contract.
--- Assumes nothing.
 use borrow.Author.Needs.{needs}
 use Rattle.state.specs.State.{placeAt}
 use Rattle.state.specs.View.{bookOf}

@@ -1,5 +1,4 @@
 -- `related` meets its contract, by the relation.
--- Assumes nothing.
 use Prim.Native.Nat.{ℕ}
 use mathlib.Core.Path.{sym, ap, _∙_}
 use mathlib.Core.List.{List}

@@ -1,5 +1,4 @@
 -- `some_held` meets its contract. The loop's invariant: no held place below q stands so.
--- Assumes nothing.
 use Prim.Native.Nat.{ℕ, _-_, _≤_}
 use mathlib.Core.Path.{_≡_}
 use mathlib.Core.Bool.{false}

@@ -1,5 +1,4 @@
 -- `print` meets its contract.
--- Assumes nothing.
 use borrow.Author.Needs.{needs}
 use denote.Ref.{now}
 use Rattle.printing.proofs.Printing.{both, same-text}

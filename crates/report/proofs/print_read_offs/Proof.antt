@@ -1,5 +1,4 @@
 -- `print_read_offs` meets its contract.
--- Assumes nothing.
 use mathlib.Core.Path.{ap, _∙_}
 use native.Mathlib.Omega.{arith}
 use borrow.Author.Needs.{needs}

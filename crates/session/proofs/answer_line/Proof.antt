@@ -1,5 +1,4 @@
 -- `answer_line` meets its contract, by what the line comes to before any offer.
--- Assumes nothing.
 use mathlib.Core.Path.{sym}
 use Prim.Native.Nat.{_+_, _^_, _<_}
 use native.Mathlib.Omega.{arith}

@@ -1,5 +1,4 @@
 -- `feed` meets its contract. The loop's invariant: the lines that ended in what is consumed are answered, and the answers are what is written.
--- Assumes nothing.
 use mathlib.Core.Path.{refl, _∙_}
 use Prim.Native.Nat.{_-_}
 use native.Mathlib.Omega.{arith}

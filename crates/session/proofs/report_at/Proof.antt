@@ -1,5 +1,4 @@
 -- `report_at` meets its contract, by what the report answers.
--- Assumes nothing.
 use mathlib.Core.Path.{ap}
 use native.Mathlib.Omega.{arith}
 use denote.Ref.{now}

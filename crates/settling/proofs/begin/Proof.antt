@@ -1,5 +1,4 @@
 -- `begin` meets its contract, by whether the newest place goes on waiting.
--- Assumes nothing.
 use mathlib.Core.Path.{_∙_}
 use native.Mathlib.Omega.{arith}
 use borrow.Author.Needs.{needs}

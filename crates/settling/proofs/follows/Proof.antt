@@ -1,5 +1,4 @@
 -- `follows` meets its contract, by what reading the bytes answered.
--- Assumes nothing.
 use mathlib.Core.Path.{_∙_}
 use borrow.Author.Needs.{needs}
 use denote.Ref.{now}

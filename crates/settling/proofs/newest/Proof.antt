@@ -1,5 +1,4 @@
 -- `newest` meets its contract, by whether a place is taken and the newest one's standing.
--- Assumes nothing.
 use mathlib.Core.Path.{sym, _∙_}
 use borrow.Author.Needs.{needs}
 use denote.Ref.{now}

@@ -1,5 +1,4 @@
 -- `pass_all` meets its contract: every place is chosen.
--- Assumes nothing.
 use borrow.Author.Needs.{needs}
 use Rattle.settling.proofs.pass_all.Statement.{statement}
 use Rattle.settling.proofs.pass_all.Tie as tie

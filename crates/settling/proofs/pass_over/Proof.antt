@@ -1,5 +1,4 @@
 -- `pass_over` meets its contract. The loop's invariant: the chosen places below k, settled after what has been done, come to the pass.
--- Assumes nothing.
 use mathlib.Core.Path.{sym, _∙_}
 use native.Mathlib.Omega.{arith}
 use borrow.Author.Needs.{needs}

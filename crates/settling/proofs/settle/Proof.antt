@@ -1,5 +1,4 @@
 -- `settle` meets its contract: the passes go on from what `begin` leaves.
--- Assumes nothing.
 use native.Mathlib.Omega.{arith}
 use borrow.Author.Needs.{needs}
 use denote.Ref.{now}

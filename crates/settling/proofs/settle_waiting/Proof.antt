@@ -1,5 +1,4 @@
 -- `settle_waiting` meets its contract, by the judgement.
--- Assumes nothing.
 use mathlib.Core.Path.{sym, _∙_}
 use borrow.Author.Needs.{needs}
 use denote.Ref.{now}

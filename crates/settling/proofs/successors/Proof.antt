@@ -1,5 +1,4 @@
 -- `successors` meets its contract, by whether a place is taken.
--- Assumes nothing.
 use mathlib.Core.Path.{sym, _∙_}
 use borrow.Author.Needs.{needs}
 use denote.Ref.{now}

@@ -1,5 +1,4 @@
 -- `waits` meets its contract, by the standing.
--- Assumes nothing.
 use mathlib.Core.Path.{sym, ap}
 use borrow.Author.Needs.{needs}
 use Rattle.state.specs.State.{isWaiting}

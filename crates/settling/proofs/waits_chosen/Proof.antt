@@ -1,5 +1,4 @@
 -- `waits_chosen` meets its contract, by whether the place waits and whether all are chosen.
--- Assumes nothing.
 use Prim.Native.Nat.{ℕ}
 use mathlib.Core.Path.{sym, _∙_, ap}
 use mathlib.Core.List.{List}

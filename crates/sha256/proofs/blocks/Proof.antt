@@ -1,5 +1,4 @@
 -- `sha256::blocks` meets its contract: `i` blocks are hashed.
--- Assumes nothing.
 use Prim.Native.Nat.{_-_, _≤_}
 use mathlib.Core.Path.{_≡_}
 use borrow.Author.Needs.{needs}

@@ -1,5 +1,4 @@
 -- `sha256::bytes_of` meets its contract: each call writes one word more.
--- Assumes nothing.
 use mathlib.Core.Path.{_≡_, refl, sym, _∙_}
 use mir.Facts.{fits-widen}
 use lib.ListN.{length}

@@ -1,5 +1,4 @@
 -- `sha256::finish` meets its contract: one or two blocks more.
--- Assumes nothing.
 use mathlib.Core.Path.{sym, _∙_}
 use borrow.Author.Needs.{needs}
 use Rattle.compression.specs.Code.{working}

@@ -1,5 +1,4 @@
 -- `sha256::last_blocks` meets its contract: the rest of the message, the byte 0x80, zero bytes and the length.
--- Assumes nothing.
 use borrow.Author.Needs.{needs}
 use native.Mathlib.Omega.{arith}
 use lib.ListN.{length-set}

@@ -1,5 +1,4 @@
 -- `sha256::last_size` meets its contract.
--- Assumes nothing.
 use mathlib.Core.Path.{sym}
 use native.Mathlib.Omega.{arith}
 use Rattle.sha256.proofs.Padding.{one-block, two-blocks}

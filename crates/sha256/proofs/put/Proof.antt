@@ -1,5 +1,4 @@
 -- `sha256::put` meets its contract: with `j` bytes left to be written, writing them gives what all `k` give.
--- Assumes nothing.
 use Prim.Native.Nat.{_≤_}
 use mathlib.Core.Path.{_≡_, sym, _∙_}
 use borrow.Author.Needs.{needs}

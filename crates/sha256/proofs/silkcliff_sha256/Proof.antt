@@ -1,5 +1,4 @@
 -- `sha256::silkcliff_sha256` meets its contract: nothing is written, or the digest.
--- Assumes nothing.
 use mathlib.Core.Path.{refl}
 use borrow.Author.Needs.{needs}
 use native.Mathlib.Omega.{arith}

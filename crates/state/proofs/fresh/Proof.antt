@@ -1,5 +1,4 @@
 -- `fresh` meets its contract.
--- Assumes nothing.
 use mathlib.Core.Path.{refl}
 use Rattle.state.specs.View.{freshLedger}
 use Rattle.state.proofs.fresh.Statement.{statement}

@@ -1,6 +1,5 @@
 -- `streams::pause` is safe and ends: a walk of its MIR, by hand, since it lends two structs to a call of C. Each is lent for a lifetime that the walk makes, and comes
 -- back when that is ended. What the call says of its result is not used.
--- Assumes nothing.
 use mathlib.Core.Path.{refl}
 use Prim.Native.Nat.{ℕ, _<_, _^_}
 use mathlib.Core.List.{List, [], _∷_}

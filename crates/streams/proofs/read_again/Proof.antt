@@ -1,5 +1,4 @@
 -- `streams::read_again` meets its contract: whatever the last read came to. The measure is the number of turns that are left.
--- Assumes nothing.
 use mathlib.Core.Path.{_≡_}
 use lib.ListN.{length}
 use Rattle.streams.specs.Streams.{Moves}

@@ -1,5 +1,4 @@
 -- `streams::read_some` meets its contract: no more is read than the limit and the buffer allow, and what is left falls by what was read.
--- Assumes nothing.
 use mathlib.Core.Path.{sym}
 use Prim.Native.Nat.{ℕ, _≤_}
 use native.Mathlib.Omega.{arith}

@@ -1,5 +1,4 @@
 -- `streams::write_again` meets its contract: whatever the last write came to. The measure is the number of turns that are left.
--- Assumes nothing.
 use lib.ListN.{length}
 use Rattle.streams.specs.Streams.{Takes}
 use borrow.Author.Needs.{needs}

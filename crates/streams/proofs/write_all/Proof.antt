@@ -1,5 +1,4 @@
 -- `streams::write_all` meets its contract. The loop's invariant: what was taken is within the bytes. The measure is what is left of them: a write that did not fail took some.
--- Assumes nothing.
 use Prim.Native.Nat.{_-_, _≤_}
 use native.Mathlib.Omega.{arith}
 use lib.ListN.{length}

@@ -1,5 +1,4 @@
 -- `count` meets its contract. The loop's invariant: n of the places below j have the standing.
--- Assumes nothing.
 use Prim.Native.Nat.{_≤_, _-_}
 use mathlib.Core.Path.{_≡_, _∙_}
 use mathlib.Core.Logic.{⊎-elim}

@@ -1,5 +1,4 @@
 -- `has_standing` meets its contract.
--- Assumes nothing.
 use mathlib.Core.Path.{ap₂}
 use borrow.Author.Needs.{needs}
 use lib.Dec.{eqb}

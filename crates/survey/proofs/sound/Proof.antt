@@ -1,5 +1,4 @@
 -- `sound` meets its contract. The loop's invariant: the places below k are sound.
--- Assumes nothing.
 use Prim.Native.Nat.{_≤_, _-_}
 use mathlib.Core.Path.{sym, _∙_}
 use borrow.Author.Needs.{needs}

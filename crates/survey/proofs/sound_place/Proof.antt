@@ -1,5 +1,4 @@
 -- `sound_place` meets its contract.
--- Assumes nothing.
 use mathlib.Core.Path.{_∙_}
 use borrow.Author.Needs.{needs}
 use Rattle.survey.proofs.Row1Laws.{short, long, by-ancestors}

@@ -1,5 +1,4 @@
 -- `void_count` meets its contract.
--- Assumes nothing.
 use mathlib.Core.Path.{_∙_}
 use borrow.Author.Needs.{needs}
 use Rattle.state.specs.NumberLaws.{is-void}

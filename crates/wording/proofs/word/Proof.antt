@@ -1,5 +1,4 @@
 -- `word` meets its contract, by the part.
--- Assumes nothing.
 use native.Mathlib.Omega.{arith}
 use borrow.Author.Needs.{needs}
 use Rattle.printing.proofs.Printing.{same-text}

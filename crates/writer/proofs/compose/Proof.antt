@@ -1,5 +1,4 @@
 -- `compose` meets its contract: the header, the ids, the operation.
--- Assumes nothing.
 use native.Mathlib.Omega.{arith}
 use borrow.Author.Needs.{needs}
 use denote.Ref.{now}

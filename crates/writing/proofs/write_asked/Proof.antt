@@ -1,5 +1,4 @@
 -- `write_asked` meets its contract, by the judgement.
--- Assumes nothing.
 use mathlib.Core.Path.{sym}
 use Prim.Native.Nat.{ℕ, _≤_}
 use native.Mathlib.Omega.{arith}

@@ -1,5 +1,4 @@
 -- `fill` is safe and ends. The measure is the number of bytes that are left.
--- Assumes nothing.
 use mathlib.Core.Path.{_≡_}
 use Prim.Native.Nat.{_≤_, _-_}
 use borrow.Author.Needs.{needs}

@@ -1,5 +1,4 @@
 -- `ascends` meets its contract. The loop's invariant: the run ascends if what is left of it from the k-th id on does.
--- Assumes nothing.
 use Prim.Native.Nat.{_≤_, _-_}
 use mathlib.Core.Path.{_≡_, sym, _∙_}
 use borrow.Author.Needs.{needs}

@@ -1,5 +1,4 @@
 -- `named` meets its contract: where the run begins or its k-th id stands past the end, the part is empty.
--- Assumes nothing.
 use Prim.Native.Nat.{_+_, _*_}
 use native.Mathlib.Omega.{arith}
 use borrow.Author.Needs.{needs}

@@ -1,5 +1,4 @@
 -- `part_of` meets its contract: the three cases of a clipped part.
--- Assumes nothing.
 use borrow.Author.Needs.{needs}
 use denote.Ref.{now}
 use Rattle.format.proofs.Clip.{past-end, tail, whole}

@@ -1,5 +1,4 @@
 -- `rises` meets its contract: Less is the answer where the one comes before the other.
--- Assumes nothing.
 use mathlib.Core.Path.{sym, ap₂, _∙_}
 use borrow.Author.Needs.{needs}
 use Rattle.keys.specs.Order.{before}

@@ -1,5 +1,4 @@
 -- `insert` meets its contract. The loop's invariant: the list with the carried place put before the index i is the list with k put before `at`.
--- Assumes nothing.
 use Prim.Native.Nat.{_-_, _≤_}
 use mathlib.Core.Path.{_≡_, refl, _∙_}
 use native.Mathlib.Omega.{arith}

@@ -1,5 +1,4 @@
 -- `none` meets its contract.
--- Assumes nothing.
 use mathlib.Core.Path.{refl}
 use native.Mathlib.Omega.{arith}
 use Rattle.keys.specs.Member.{all}

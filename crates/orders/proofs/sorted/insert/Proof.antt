@@ -1,5 +1,4 @@
 -- `insert` meets its contract. The loop's invariant: the place goes among those from the i-th on.
--- Assumes nothing.
 use Prim.Native.Nat.{_-_, _≤_}
 use mathlib.Core.Path.{_≡_, refl, sym, _∙_}
 use mathlib.Core.List.{_++_}

@@ -1,5 +1,4 @@
 -- `sorted` meets its contract. The loop's invariant: the list has the listed places from k on.
--- Assumes nothing.
 use Prim.Native.Nat.{_+_, _≤_}
 use mathlib.Core.Path.{sym}
 use native.Mathlib.Omega.{arith}

@@ -1,5 +1,4 @@
 -- `offsets` meets its contract: the offsets by the kind byte.
--- Assumes nothing.
 use mathlib.Core.Path.{_∙_}
 use native.Mathlib.Omega.{arith}
 use borrow.Author.Needs.{needs}

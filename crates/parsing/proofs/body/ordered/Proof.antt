@@ -1,5 +1,4 @@
 -- `ordered` meets its contract: row 9 by the operation.
--- Assumes nothing.
 use mathlib.Core.Path.{refl, sym, _∙_}
 use borrow.Author.Needs.{needs}
 use borrow.Author.Tests.{not-true, not-false}

@@ -1,5 +1,4 @@
 -- `body::read` meets its contract: rows 6 to 9 in their order, each at its test.
--- Assumes nothing.
 use Prim.Native.Nat.{ℕ}
 use mathlib.Core.Path.{_≡_, sym, ap, _∙_}
 use mathlib.Core.Bool.{false}

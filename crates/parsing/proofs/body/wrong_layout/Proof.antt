@@ -1,5 +1,4 @@
 -- `wrong_layout` meets its contract: row 8 by the kind byte.
--- Assumes nothing.
 use mathlib.Core.Path.{_≡_}
 use native.Mathlib.Omega.{arith}
 use borrow.Author.Needs.{needs}

@@ -1,5 +1,4 @@
 -- `wrong_remove` meets its contract: row 8 of a Remove.
--- Assumes nothing.
 use native.Mathlib.Omega.{arith}
 use borrow.Author.Needs.{needs}
 use denote.Ref.{now}

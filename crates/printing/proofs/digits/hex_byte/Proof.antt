@@ -1,5 +1,4 @@
 -- `hex_byte` meets its contract.
--- Assumes nothing.
 use Prim.Native.Nat.{ℕ}
 use mathlib.Core.Path.{ap₂}
 use mathlib.Core.List.{[], _∷_}

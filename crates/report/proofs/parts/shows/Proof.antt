@@ -1,5 +1,4 @@
 -- `shows` meets its contract, by the part.
--- Assumes nothing.
 use mathlib.Core.Path.{sym, ap, _∙_}
 use borrow.Author.Needs.{needs}
 use denote.Ref.{now}

@@ -1,5 +1,4 @@
 -- `command` is safe and ends. The measure is the number of commands that a list of its length could have.
--- Assumes nothing.
 use Prim.Native.Nat.{_≤_, _-_}
 use borrow.Author.Needs.{needs}
 use lib.ListN.{length}

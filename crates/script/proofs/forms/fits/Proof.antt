@@ -1,5 +1,4 @@
 -- `fits` is safe and ends. The measure is the number of words that a line of its length could have.
--- Assumes nothing.
 use Prim.Native.Nat.{_≤_, _-_}
 use borrow.Author.Needs.{needs}
 use lib.ListN.{length}

@@ -1,5 +1,4 @@
 -- `add_parts` is safe and ends. The measure is the number of words that a line of its length could have.
--- Assumes nothing.
 use mathlib.Core.Path.{_≡_}
 use Prim.Native.Nat.{_-_}
 use borrow.Author.Needs.{needs}

@@ -1,5 +1,4 @@
 -- `field` is safe and ends. The measure is the number of parts that are left.
--- Assumes nothing.
 use Prim.Native.Nat.{_≤_, _-_}
 use borrow.Author.Needs.{needs}
 use lib.ListN.{length}

@@ -1,7 +1,6 @@
 -- `settle` meets its contract. The loop's invariant: the ledger is what passes come to; and where the last one changed nothing, or none was asked
 -- for, none is left to make.
 -- The measure: how many places wait, and one more while there is a pass to make.
--- Assumes nothing.
 use mathlib.Core.Path.{subst}
 use native.Mathlib.Omega.{arith}
 use borrow.Author.Needs.{needs}

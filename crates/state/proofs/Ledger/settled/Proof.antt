@@ -1,5 +1,4 @@
 -- `Ledger::settled` meets its contract: there is no place k; or the view of the ledger with a place stored in its array.
--- Assumes nothing.
 use mathlib.Core.Path.{refl}
 use native.Mathlib.Omega.{arith}
 use lib.ListN.{getD}

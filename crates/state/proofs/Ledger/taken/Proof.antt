@@ -1,5 +1,4 @@
 -- `Ledger::taken` meets its contract: no place is free; or the view of the ledger with a place stored in its array.
--- Assumes nothing.
 use Prim.Native.Nat.{_+_}
 use mathlib.Core.Path.{refl}
 use native.Mathlib.Omega.{arith}

@@ -1,5 +1,4 @@
 -- `find` meets its contract. The loop's invariant: no place below k has the id.
--- Assumes nothing.
 use Prim.Native.Nat.{_≤_, _-_}
 use mathlib.Core.Path.{sym, _∙_}
 use borrow.Author.Needs.{needs}

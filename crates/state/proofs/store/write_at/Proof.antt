@@ -1,5 +1,4 @@
 -- `write_at` meets its contract.
--- Assumes nothing.
 use Prim.Native.Nat.{_*_, _-_}
 use native.Mathlib.Nat.{le-refl}
 use denote.Ref.{now}

@@ -1,5 +1,4 @@
 -- `entries` meets its contract. The loop's invariant: those of rank below n are put.
--- Assumes nothing.
 use Prim.Native.Nat.{ℕ, _+_, _-_, _≤_}
 use mathlib.Core.Path.{_≡_, sym, ap, _∙_}
 use mathlib.Core.List.{[]}

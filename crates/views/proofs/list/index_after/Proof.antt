@@ -1,5 +1,4 @@
 -- `index_after` meets its contract. The loop's invariant: the place goes among the entries from the i-th on.
--- Assumes nothing.
 use Prim.Native.Nat.{ℕ, _-_, _≤_}
 use mathlib.Core.Path.{_≡_, refl, sym, _∙_}
 use mathlib.Core.List.{List, _++_}

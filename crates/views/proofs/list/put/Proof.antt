@@ -1,5 +1,4 @@
 -- `put` meets its contract.
--- Assumes nothing.
 use Rattle.orders.proofs.Inserting.{renamed}
 use Rattle.views.proofs.list.put.Statement.{statement}
 use Rattle.views.proofs.list.put.Tie as tie

@@ -1,5 +1,4 @@
 -- `put_rank` meets its contract. The loop's invariant: those of the rank from the i-th on are left to put.
--- Assumes nothing.
 use Prim.Native.Nat.{_+_, _-_, _≤_}
 use mathlib.Core.Path.{_≡_, refl, sym, ap, _∙_}
 use mathlib.Core.Logic.{⊎-elim}

@@ -1,5 +1,4 @@
 -- `marked` meets its contract. The loop's invariant: the set has the authors that the places below k mark.
--- Assumes nothing.
 use Prim.Native.Nat.{ℕ, _-_, _≤_}
 use mathlib.Core.Path.{_≡_}
 use mathlib.Core.Bool.{_&&_}

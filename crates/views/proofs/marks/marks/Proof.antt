@@ -1,5 +1,4 @@
 -- `marks` meets its contract. The loop's invariant: the list has the authors below a that are in the set.
--- Assumes nothing.
 use Prim.Native.Nat.{ℕ, _-_, _≤_}
 use mathlib.Core.Path.{ap, _∙_}
 use mathlib.Core.List.{List, [], _∷_, _++_}

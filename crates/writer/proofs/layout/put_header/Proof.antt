@@ -1,5 +1,4 @@
 -- `put_header` meets its contract.
--- Assumes nothing.
 use borrow.Author.Needs.{needs}
 use Rattle.writer.proofs.layout.put_header.Statement.{statement}
 use Rattle.writer.proofs.layout.put_header.Tie as tie
