@@ -6,8 +6,8 @@ use mathlib.Core.Option.{Option, none, some}
 use mathlib.Core.Bool.{Bool, true, cond, _&&_, _||_}
 use lib.Dec.{ltb, eqb}
 use Rattle.keys.specs.Order.{before}
-use Rattle.relations.specs.PlaceTests.{idAt, heldAt, authorAt, rankAt}
 use Rattle.state.specs.State.{Book}
+use Rattle.relations.specs.PlaceTests.{idAt, heldAt, authorAt, rankAt}
 
 module _ (l : Book) (s : List ℕ) where
   -- the held place k is the author's

@@ -15,10 +15,10 @@ use Rattle.fields.specs.Fields.{testOf}
 use Rattle.bits.specs.Bits.{has, including, join, meet}
 use Rattle.state.specs.declared.Standing.{Standing}
 use Rattle.state.specs.declared.Standing.the-variants.{Held, Waiting, Void}
+use Rattle.state.specs.State.{Book, placeAt, storedAt, findIn}
 use Rattle.judging.specs.declared.Gathered.{Gathered}
 use Rattle.judging.specs.declared.Judgement.{Judgement}
 use Rattle.judging.specs.declared.Judgement.the-variants.{Holds, Fails, Waits}
-use Rattle.state.specs.State.{Book, placeAt, storedAt, findIn}
 
 -- what the predecessors seen so far say: all are held; some is void; their places; their ancestors
 abbrev pub nothingGathered : Gathered

@@ -6,13 +6,13 @@ use mathlib.Core.List.{List, _++_}
 use mathlib.Core.Bool.{true}
 use lib.ListN.{length, drop}
 use Rattle.state.specs.Row1.{sound}
+use Rattle.state.specs.State.{Book}
 use Rattle.report.specs.Text.{textOf}
 use Rattle.printing.specs.Page.{Prints}
 use Rattle.report.specs.TextRight.{text-right}
 use Rattle.refusals.specs.declared.Refusal.the-variants.{Short}
 use Rattle.ledger.specs.declared.Reported.the-variants.{Written, Refused}
 use Rattle.ledger.specs.Report.{ReportText, Reporting, short, written}
-use Rattle.state.specs.State.{Book}
 
 module _ (l : Book) (s : List ℕ) (fits : sound l s ≡ true) {page page₁ : List ℕ} {n : ℕ} (asked : Prints page 0 (textOf l s) page₁ n) (o : List ℕ) where
   text : ReportText l s (textOf l s)

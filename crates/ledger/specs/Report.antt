@@ -8,10 +8,10 @@ use Rattle.format.specs.Update.{Update}
 use Rattle.rules.specs.Report.{reportOf}
 use Rattle.state.specs.Row1.{sound}
 use Rattle.state.specs.Stands.{ident, Stands}
+use Rattle.state.specs.State.{Book}
 use Rattle.refusals.specs.Numbers.{row1, row11, refusalNumber, Output, putBytes, refusedBy}
 use Rattle.ledger.specs.declared.Reported.{Reported}
 use Rattle.ledger.specs.declared.Reported.the-variants.{Written, Refused}
-use Rattle.state.specs.State.{Book}
 
 -- The text that is reported of a ledger and its store: for a ledger that stands, the report that the rules give for its updates. For a ledger or a store that is
 -- not the library's own the text is left free.

@@ -17,11 +17,11 @@ use Rattle.keys.specs.MemberLaws.{keep-all}
 use Rattle.keys.specs.declared.Order.{Order}
 use Rattle.keys.specs.declared.Order.the-variants.{Less, Equal, Greater}
 use Rattle.bits.specs.Below.{upTo}
+use Rattle.state.specs.State.{Book}
 use Rattle.orders.specs.declared.Key.the-variants.{Id}
 use Rattle.relations.specs.PlaceTests.{idAt, order}
 use Rattle.orders.specs.Pieces.{ins, candidate, sortedBy}
 use Rattle.orders.proofs.Inserting.{shift}
-use Rattle.state.specs.State.{Book}
 
 module _ (key : ℕ → List ℕ) (x : ℕ) where
   abbrev byOrder : Order → ℕ → List ℕ → List ℕ

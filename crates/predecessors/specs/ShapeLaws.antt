@@ -9,7 +9,7 @@ use mathlib.Core.Bool.{Bool, true, false, cond}
 use lib.ListN.{length, getD, take, length-append, length-take}
 use lib.Dec.{leb, ltb}
 use borrow.Author.Tests.{leb-true, ltb-false}
-use Rattle.keys.specs.Member.{_∈_, keep}
+use Rattle.keys.specs.Member.{_∈_}
 use Rattle.keys.specs.Ascending.{Ascending}
 use Rattle.keys.specs.MemberLaws.{∈-cast, ∈-singleton, append-∈, keep-∈, getD-∈}
 use Rattle.keys.specs.SortLaws.{ascending-keep, sort-∈, sort-ascending}

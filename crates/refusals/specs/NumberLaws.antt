@@ -8,7 +8,7 @@ use Rattle.format.specs.declared.Malformed.{Malformed}
 use Rattle.format.specs.declared.Malformed.the-variants.{Length, Version, Author, Predecessors, Truncated, Kind, Layout, Unordered}
 use Rattle.refusals.specs.declared.Refusal.{Refusal}
 use Rattle.refusals.specs.declared.Refusal.the-variants.{Unfit, Malformed as Bad, Full, Short, Invalid}
-use Rattle.refusals.specs.Numbers.{row1, row2, row3, row4, row5, row6, row7, row8, row9, row10, row11, row12, refusalNumber}
+use Rattle.refusals.specs.Numbers.{row1, row2, row3, row4, row5, row6, row7, row8, row10, row11, row12, refusalNumber}
 
 -- the refusal of a number; Unordered stands for row 9 and for every number that is no row's
 malformedOf : ℕ → Malformed

@@ -7,6 +7,7 @@ use lib.ListN.{drop}
 use Rattle.keys.specs.Member.{keep, concatMap}
 use Rattle.keys.specs.MemberLaws.{keep-all}
 use Rattle.rules.specs.Report.{codes, ascii, bytesLine, markLine, part}
+use Rattle.state.specs.State.{Book}
 use Rattle.wording.specs.declared.Part.{Part}
 use Rattle.wording.specs.declared.Part.the-variants.{Held, Heads, Waiting, Void, Marks, Set, List as Entries}
 use Rattle.relations.specs.PlaceTests.{idAt, decodedAt, authorAt, order}
@@ -14,7 +15,6 @@ use Rattle.views.specs.Board.{marksOf, tagAt, tagOrder, entriesOf, valueAt}
 use Rattle.report.specs.Text.{updateLineAt, textOf}
 use Rattle.wording.specs.Lines.{wordOf, lineBy}
 use Rattle.report.specs.Parts.{passes, lineOf, linesOf, partOf, standings, readOffs}
-use Rattle.state.specs.State.{Book}
 
 -- the line of a place
 pub line-of : (l : Book) (s : List ℕ) (k : ℕ) (p : Part) → lineBy p (idAt l s k) (decodedAt l s k) k ≡ lineOf l s p k

@@ -9,6 +9,7 @@ use Rattle.format.specs.Update.{Update}
 use Rattle.rules.specs.Settle.{Row, Table, isHeld, isWaiting, isVoid, heldRow, covered, heads, settled, updatesIn, partsIn, partsOf}
 use Rattle.rules.specs.Report.{ascii, hex, decimal, updateLine, idLine, bytesLine}
 use Rattle.state.specs.Stands.{ident, Stands}
+use Rattle.state.specs.State.{Book}
 use Rattle.relations.specs.PlaceTests.{idAt, heldAt, waitingAt, voidAt, headAt, shownAt, order}
 use Rattle.views.specs.Board.{tagAt, tagOrder, entriesOf, valueAt}
 use Rattle.report.specs.Text.{updateLineAt}
@@ -16,7 +17,6 @@ use Rattle.views.specs.ListFacts.{concatMap-map, concatMap-keep-map}
 use Rattle.views.specs.BoardLaws.{tags-agree}
 use Rattle.views.specs.ListedLaws.{values-agree}
 use Rattle.relations.specs.RowLaws.{rowAt, update-id, order-∈, table-rows, held-agrees, waiting-agrees, void-agrees, author-agrees, head-agrees}
-use Rattle.state.specs.State.{Book}
 
 module _ {l : Book} {s : List ℕ} {us : List Update} (stands : Stands l s us) where
   -- the lines of the updates whose rows pass a test

@@ -4,13 +4,13 @@ use mathlib.Core.List.{List, _++_}
 use mathlib.Core.Bool.{Bool, true}
 use Rattle.keys.specs.Member.{keep, concatMap}
 use Rattle.rules.specs.Report.{ascii, bytesLine, markLine}
+use Rattle.state.specs.State.{Book}
 use Rattle.relations.specs.PlaceTests.{idAt, heldAt, waitingAt, voidAt, headAt, shownAt, order}
 use Rattle.views.specs.Board.{marksOf, tagAt, tagOrder, entriesOf, valueAt}
 use Rattle.wording.specs.declared.Part.{Part}
 use Rattle.wording.specs.declared.Part.the-variants.{Held, Heads, Waiting, Void, Marks, Set, List as Entries}
 use Rattle.wording.specs.Lines.{wordOf}
 use Rattle.report.specs.Text.{updateLineAt}
-use Rattle.state.specs.State.{Book}
 
 module _ (l : Book) (s : List ℕ) where
   abbrev pub passes : Part → ℕ → Bool

@@ -3,9 +3,9 @@ use Prim.Native.Nat.{ℕ}
 use mathlib.Core.List.{List, _++_}
 use Rattle.keys.specs.Member.{keep}
 use Rattle.rules.specs.Report.{ascii, hex, decimal, bytesLine, markLine, part}
+use Rattle.state.specs.State.{Book}
 use Rattle.relations.specs.PlaceTests.{idAt, authorAt, heldAt, waitingAt, voidAt, headAt, shownAt, order}
 use Rattle.views.specs.Board.{marksOf, tagOrder, tagAt, entriesOf, valueAt}
-use Rattle.state.specs.State.{Book}
 
 module _ (l : Book) (s : List ℕ) where
   unfoldable pub updateLineAt : ℕ → List ℕ

@@ -8,10 +8,10 @@ use Rattle.keys.specs.Member.{concatMap}
 use Rattle.rules.specs.Settle.{partsIn, partsOf}
 use Rattle.rules.specs.Report.{ascii, markLine, part, reportText, reportOf}
 use Rattle.state.specs.Stands.{ident, Stands}
+use Rattle.state.specs.State.{Book}
 use Rattle.report.specs.Text.{textOf}
 use Rattle.views.specs.BoardLaws.{marks-part}
 use Rattle.report.specs.PartLaws.{held-part, heads-part, waiting-part, void-part, set-part, list-part}
-use Rattle.state.specs.State.{Book}
 
 -- one part, by its lines
 abbrev partOf : String → List ℕ → List ℕ → List ℕ

@@ -1,6 +1,6 @@
 -- The report: it is laid out from the parts that the definitions give; the same members give the same bytes; equal bytes show the same ids, and equal sets where no
 -- two updates share an id; its length.
-use mathlib.Core.Path.{_≡_, refl, sym, _∙_, ap, subst}
+use mathlib.Core.Path.{_≡_, refl, sym, ap, subst}
 use mathlib.Core.Logic.{_⊎_, inl, inr}
 use mathlib.Core.List.{List, [], map}
 use Prim.Native.Nat.{_≤_}

@@ -10,8 +10,6 @@ use Rattle.state.specs.declared.Ledger.{Ledger}
 use Rattle.state.specs.State.{written}
 use Rattle.state.specs.View.{bookOf}
 use Rattle.reading.specs.Reading.{maxLine, readLine}
-use Rattle.reading.specs.Line.{lineIn}
-use Rattle.input.specs.Lines.{Keeps}
 use Rattle.input.specs.KeepLaws.{keeps-read, keeps-unbegun, keeps-begun}
 use Rattle.session.specs.declared.Answered.{Answered}
 use Rattle.session.specs.Answering.{AnswersLines, done, lastOf, Answers}

@@ -6,8 +6,8 @@ use native.Mathlib.Omega.{arith}
 use mathlib.Core.List.{List, [], _++_, append-assoc, append-nil}
 use lib.ListN.{length, take, drop, length-append, length-drop, take-append-drop, drop-of-length-le}
 use lib.Seq.{length-take-le, take-all, take-at, drop-at, drop-drop}
-use Rattle.printing.specs.Page.{Prints}
 use Rattle.state.specs.State.{written}
+use Rattle.printing.specs.Page.{Prints}
 
 -- the text t comes after the first w bytes, the bytes after it keep their values, and w′ is its end
 pub record Extends (out : List ℕ) (w : ℕ) (t out′ : List ℕ) (w′ : ℕ) : Type 0 where

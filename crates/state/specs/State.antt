@@ -1,5 +1,5 @@
--- Document 01, "Ledger and store": the bookkeeping, as the laws see it, and the lent store. How a ledger keeps its bookkeeping is not said here: `View` is the one
--- file that meets the declared struct.
+-- Document 01, "Ledger and store": the bookkeeping, as laws and contracts see it, and the lent store. How a ledger keeps its bookkeeping is not said here: `View` makes
+-- this of the declared struct.
 use Prim.Native.Nat.{ℕ, _+_, _*_}
 use mathlib.Core.List.{List, _++_}
 use mathlib.Core.Option.{Option, none, some}

@@ -5,11 +5,11 @@ use mathlib.Core.List.{List, [], _∷_, _++_}
 use mathlib.Core.Bool.{Bool, true, false, cond}
 use lib.ListN.{take, drop}
 use Rattle.keys.specs.Order.{same}
+use Rattle.state.specs.State.{Book}
 use Rattle.relations.specs.PlaceTests.{idAt}
 use Rattle.orders.specs.Pieces.{ins}
 use Rattle.orders.proofs.Inserting.{shift}
 use Rattle.views.specs.Board.{after}
-use Rattle.state.specs.State.{Book}
 
 module _ (l : Book) (s a : List ℕ) (e : ℕ) (xs : List ℕ) (i y : ℕ) (inv : after l s a e xs ≡ take i xs ++ after l s a e (drop i xs)) where
   meets : {b : Bool} → drop i xs ≡ y ∷ drop (i + 1) xs → same (idAt l s y) a ≡ b →

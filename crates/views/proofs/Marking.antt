@@ -13,10 +13,10 @@ use Rattle.bits.specs.Below.{anyBelow, upTo}
 use Rattle.bits.specs.Bits.{wordBits, has, includingBelow}
 use Rattle.bits.specs.BitsLaws.{included, has-including, has-none}
 use Rattle.fields.specs.Fields.{authorIn}
+use Rattle.state.specs.State.{Book}
 use Rattle.relations.specs.PlaceTests.{decodedAt, authorAt, forkedAt}
 use Rattle.relations.proofs.Testing.{any-more, any-zero, with-true}
 use Rattle.views.specs.Board.{markedAt, marksOf}
-use Rattle.state.specs.State.{Book}
 
 eqb-sym : (a b : ℕ) → eqb a b ≡ eqb b a
 eqb-sym a b = test-ext (eqb a b) (eqb b a) (λ e. eq-eqb b a (sym (eqb-true a b e))) (λ e. eq-eqb a b (sym (eqb-true b a e)))

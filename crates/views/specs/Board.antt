@@ -12,8 +12,8 @@ use Rattle.rules.specs.Standing.{beginning}
 use Rattle.rules.specs.Settle.{isInsert}
 use Rattle.bits.specs.Below.{anyBelow, upTo}
 use Rattle.fields.specs.Fields.{testOf, tagIn, valueIn, anchorIn}
-use Rattle.relations.specs.PlaceTests.{idAt, decodedAt, heldAt, authorAt, rankAt, order, forkedAt, presentAt}
 use Rattle.state.specs.State.{places, Book}
+use Rattle.relations.specs.PlaceTests.{idAt, decodedAt, heldAt, authorAt, rankAt, order, forkedAt, presentAt}
 
 module _ (l : Book) (s : List ℕ) where
   -- marks

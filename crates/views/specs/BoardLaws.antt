@@ -20,6 +20,7 @@ use Rattle.bits.specs.Below.{upTo}
 use Rattle.bits.specs.BelowLaws.{anyBelow→, anyBelow←, upTo-∈, ∈-upTo, upTo-ascending}
 use Rattle.fields.specs.Fields.{testOf, isAnyAdd, tagIn}
 use Rattle.state.specs.Stands.{ident, updateAt, Stands}
+use Rattle.state.specs.State.{Book}
 use Rattle.relations.specs.PlaceTests.{idAt, decodedAt, authorAt, heldAt, forkedAt, removedAt, presentAt, order}
 use Rattle.orders.specs.declared.Key.the-variants.{Tag}
 use Rattle.orders.specs.Pieces.{sortedBy}
@@ -27,7 +28,6 @@ use Rattle.views.specs.Board.{markedAt, marksOf, tagAt, tagOrder}
 use Rattle.views.specs.ListFacts.{concatMap-keep-map}
 use Rattle.relations.specs.PlaceLaws.{from-used, to-used, place-in, place-decoded, place-author, place-test}
 use Rattle.relations.specs.RowLaws.{rowAt, row-id, order-∈, ∈-order, table-rows, held-agrees, author-agrees, op-agrees, fork-agrees, op-test-agrees}
-use Rattle.state.specs.State.{Book}
 
 any-add : {o : Operation} {t : List ℕ} → o ≡ Add t → isAnyAdd o ≡ true
 unfolding isAnyAdd

@@ -10,10 +10,10 @@ use Rattle.rules.specs.WritingLaws.{written-heads}
 use Rattle.judging.specs.declared.Judgement.the-variants.{Holds, Fails}
 use Rattle.judging.specs.Judge.{judgeDecoded}
 use Rattle.state.specs.Stands.{ident, Stands}
+use Rattle.state.specs.State.{Book}
 use Rattle.predecessors.specs.ChosenLaws.{chosen-ids}
 use Rattle.writer.specs.Written.{writtenAt}
 use Rattle.writer.specs.JudgedLaws.{wordOf, judged}
-use Rattle.state.specs.State.{Book}
 
 module _ (l : Book) (s : List ℕ) (us : List Update) (stands : Stands l s us) (a : ℕ) (o : Operation) where
   pub chosen-right : writtenAt l s a o ≡ writtenOf ident us a o

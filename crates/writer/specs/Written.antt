@@ -3,9 +3,9 @@
 use Prim.Native.Nat.{ℕ}
 use mathlib.Core.List.{List, map}
 use Rattle.format.specs.Update.{Operation, Update}
+use Rattle.state.specs.State.{Book}
 use Rattle.relations.specs.PlaceTests.{idAt}
 use Rattle.predecessors.specs.Choose.{chosenPlaces}
-use Rattle.state.specs.State.{Book}
 
 module _ (l : Book) (s : List ℕ) where
   unfoldable pub writtenAt : ℕ → Operation → Update

@@ -1,7 +1,7 @@
 -- What is written is laid out as the format asks, for every ledger whose ids have 32 bytes.
 use Prim.Native.Nat.{ℕ, _≤_, _<_}
 use mathlib.Core.Path.{_≡_, sym, ap, subst, _∙_}
-use mathlib.Core.List.{List, map}
+use mathlib.Core.List.{List}
 use lib.ListN.{length, length-map}
 use Rattle.keys.specs.MemberLaws.{map-∈}
 use Rattle.keys.specs.SortLaws.{Ascending→ascending}

@@ -1,5 +1,4 @@
 -- `finish` meets its contract.
-use native.Mathlib.Omega.{arith}
 use denote.Ref.{now}
 use borrow.Author.Needs.{needs}
 use Rattle.session.specs.Feeding.{unfit-line, short}

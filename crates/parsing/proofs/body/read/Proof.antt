@@ -6,7 +6,7 @@ use mathlib.Core.List.{List}
 use native.Mathlib.Omega.{arith}
 use borrow.Author.Needs.{needs}
 use denote.Ref.{now}
-use Rattle.format.specs.Decode.{countOf, kindOf, bodyAt, namedCountOf, row6, row7, row8}
+use Rattle.format.specs.Decode.{countOf, kindOf, bodyAt, row6, row7, row8}
 use Rattle.format.specs.Places.{AtBody}
 use Rattle.reader.specs.declared.Header.{Header}
 use Rattle.parsing.proofs.Chain.{row6-yes, row6-no, row7-low, row7-high, row7-no, row8-yes, row9-yes, no-row}
