@@ -57,6 +57,10 @@ module _ (out : List ℕ) (w : ℕ) (inside : w ≤ length out) where
       ap (λ (x : List ℕ). take w out ++ (o ++ x)) (drop-of-length-le (drop w out) {i = length out - w} (omega (arith, length-drop w out)))
       ∙ ap (λ (x : List ℕ). take w out ++ x) (append-nil o)
 
+  -- the buffer is as long with a part as long
+  pub with-inside : (o : List ℕ) → length o ≡ length (partFrom out w) → w ≤ length (withPart out w o)
+  with-inside o e = omega (arith, ap length (with-is o), length-append (take w out) o, length-take-le w out inside)
+
   -- what is given back as it was lent changes nothing
   pub with-same : withPart out w (partFrom out w) ≡ out
   with-same = with-is (partFrom out w) ∙ ap (λ (x : List ℕ). take w out ++ x) part-is ∙ take-append-drop w out

@@ -5,7 +5,7 @@ ghost use lib.ListN.{length};
 ghost use Rattle.state.specs.View.{bookOf};
 ghost use Rattle.answers.specs.Answers.{maxAnswer};
 ghost use Rattle.session.specs.Answering.{Answers};
-ghost use Rattle.session.specs.Feeding.{endValues, putOut, Feeding, ReportsAt, Finishes};
+ghost use Rattle.session.specs.Feeding.{endValues, putOut, Feeds, Feeding, ReportsAt, Finishes};
 use answers::Begun;
 use answers::begin_answer;
 use answers::print_answer;
@@ -95,9 +95,54 @@ fn answer_line(
     }
 }
 
-// Takes a piece of the input, up to its end or to where the output buffer has no room for another answer.
-pub fn feed(
+// Takes a piece of the input, up to its end or to where the output buffer has no room for another answer. Where a line ends it does what `answer_line` does, with no call
+// of it: that would copy the ledger for each line.
+fn feed_lines(
     mut ledger: Ledger,
+    store: &mut [u8],
+    line: &mut [u8],
+    fill: usize,
+    input: &[u8],
+    out: &mut [u8],
+) -> Fed
+    ensures { λ r. ⌜ Feeds ledger (now (store .entry)) (now (line .entry)) fill (now (input .entry)) (now (out .entry)) r (now (store .exit)) (now (line .exit)) (now (out .exit)) ⌝ }
+{
+    let mut update = [0u8; MAX_OFFERED];
+    let mut length = fill;
+    let mut consumed: usize = 0;
+    let mut written: usize = 0;
+    while consumed < input.len() && MAX_ANSWER <= out.len() - written {
+        let t = take_line(line, length, &input[consumed..]);
+        consumed += t.consumed;
+        length = t.fill;
+        if t.ended {
+            match begin_answer(line, length, &mut update, &mut out[written..]) {
+                Begun::Unread(n) => {
+                    written += n;
+                }
+                Begun::Offers(n) => {
+                    let o = ledger::offer(ledger, store, &update[..n]);
+                    let next = o.ledger;
+                    ledger = next;
+                    let answer = o.answer;
+                    written += print_answer(&mut out[written..], answer);
+                }
+            }
+            length = 0;
+        }
+    }
+    Fed {
+        ledger: ledger,
+        fill: length,
+        consumed: consumed,
+        written: written,
+        refused: false,
+    }
+}
+
+// Feeds a piece of the input. A line buffer of another length is refused, and nothing changes.
+pub fn feed(
+    ledger: Ledger,
     store: &mut [u8],
     line: &mut [u8],
     fill: usize,
@@ -115,29 +160,7 @@ pub fn feed(
             refused: true,
         };
     }
-    let mut update = [0u8; MAX_OFFERED];
-    let mut length = fill;
-    let mut consumed: usize = 0;
-    let mut written: usize = 0;
-    while consumed < input.len() && MAX_ANSWER <= out.len() - written {
-        let t = take_line(line, length, &input[consumed..]);
-        consumed += t.consumed;
-        length = t.fill;
-        if t.ended {
-            let a = answer_line(ledger, store, line, length, &mut update, out, written);
-            let next = a.ledger;
-            ledger = next;
-            written = a.written;
-            length = 0;
-        }
-    }
-    Fed {
-        ledger: ledger,
-        fill: length,
-        consumed: consumed,
-        written: written,
-        refused: false,
-    }
+    feed_lines(ledger, store, line, fill, input, out)
 }
 
 // Puts the report after the first `at` bytes of the output buffer.
