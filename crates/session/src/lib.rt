@@ -1,14 +1,13 @@
 // The command's work on slices: input bytes to lines, lines to answers, and the report at the end. The input may come in pieces of any length.
 ghost use mathlib.Core.Path.{_≡_};
-ghost use Prim.Native.Nat.{_+_, _≤_};
+ghost use Prim.Native.Nat.{_≤_};
 ghost use lib.ListN.{length};
 ghost use Rattle.state.specs.View.{bookOf};
-ghost use Rattle.answers.specs.Answers.{maxAnswer};
-ghost use Rattle.session.specs.Answering.{Answers};
 ghost use Rattle.session.specs.Feeding.{endValues, putOut, Feeds, Feeding, ReportsAt, Finishes};
 use answers::Begun;
 use answers::begin_answer;
 use answers::print_answer;
+use copying::copy;
 use input::take_line;
 use ledger::Ledger;
 use ledger::Refusal;
@@ -58,45 +57,7 @@ impl Finished {
     }
 }
 
-// What the answer to a line comes to: the ledger, and where the output ends.
-struct Answered {
-    ledger: Ledger,
-    written: usize,
-}
-
-// Answers a line of so many bytes, and puts the answer after the first `at` bytes of the output buffer.
-fn answer_line(
-    ledger: Ledger,
-    store: &mut [u8],
-    line: &[u8],
-    fill: usize,
-    update: &mut [u8],
-    out: &mut [u8],
-    at: usize,
-) -> Answered
-    requires { ⌜ (996 ≤ length (now update)) × (at + maxAnswer ≤ length (now out)) ⌝ }
-    ensures { λ r. ⌜ Answers ledger (now (store .entry)) (now (line .entry)) fill (now (out .entry)) at r (now (store .exit)) (now (out .exit)) ⌝ }
-{
-    match begin_answer(line, fill, update, &mut out[at..]) {
-        Begun::Unread(n) => Answered {
-            ledger: ledger,
-            written: at + n,
-        },
-        Begun::Offers(n) => {
-            let o = ledger::offer(ledger, store, &update[..n]);
-            let next = o.ledger;
-            let answer = o.answer;
-            let n = print_answer(&mut out[at..], answer);
-            Answered {
-                ledger: next,
-                written: at + n,
-            }
-        }
-    }
-}
-
-// Takes a piece of the input, up to its end or to where the output buffer has no room for another answer. Where a line ends it does what `answer_line` does, with no call
-// of it: that would copy the ledger for each line.
+// Takes a piece of the input, up to its end or to where the output buffer has no room for another answer.
 fn feed_lines(
     mut ledger: Ledger,
     store: &mut [u8],
@@ -174,7 +135,7 @@ fn report_at(ledger: Ledger, store: &[u8], out: &mut [u8], at: usize) -> Finishe
     }
 }
 
-// The end of the input: the answer to a last line that lacks its newline, and the report.
+// The end of the input: the answer to a last line that lacks its newline, and the report. A copy of that line is fed a newline.
 pub fn finish(
     ledger: Ledger,
     store: &mut [u8],
@@ -194,8 +155,16 @@ pub fn finish(
     if fill == 0 {
         return report_at(ledger, store, out, 0);
     }
-    let mut update = [0u8; MAX_OFFERED];
-    let a = answer_line(ledger, store, line, fill, &mut update, out, 0);
-    let last = a.ledger;
-    report_at(last, store, out, a.written)
+    let mut last = [0u8; MAX_LINE];
+    copy(&mut last, line);
+    let f = feed_lines(
+        ledger,
+        store,
+        &mut last,
+        fill,
+        b"\n",
+        &mut out[..MAX_ANSWER],
+    );
+    let next = f.ledger;
+    report_at(next, store, out, f.written)
 }
