@@ -1,30 +1,36 @@
--- The end of the input: a last line that is begun is answered, and the report comes after its answer.
-use mathlib.Core.Path.{_≡_, refl, sym, ap, subst, subst₂, _∙_}
-use Prim.Native.Nat.{ℕ, _+_, _≤_}
-use native.Mathlib.Nat.{zero-add}
+-- The end of the input: a last line that is begun is ended by a newline, and the report comes after its answer.
+use mathlib.Core.Path.{_≡_, refl, sym, ap, ap₂, subst, subst₂, _∙_}
+use Prim.Native.Nat.{ℕ, _≤_}
 use native.Mathlib.Omega.{arith}
-use mathlib.Core.List.{List, [], _∷_, _++_}
+use mathlib.Core.List.{List, [], _∷_, _++_, append-nil, append-assoc}
 use mathlib.Core.Option.{Option}
-use lib.ListN.{length, drop}
+use lib.ListN.{length, take, drop, length-append, length-drop, take-append-drop, drop-of-length-le}
+use lib.Seq.{length-take-le, drop-append-le}
 use Rattle.state.specs.declared.Ledger.{Ledger}
-use Rattle.state.specs.State.{written}
 use Rattle.state.specs.View.{bookOf}
 use Rattle.reading.specs.Reading.{maxLine, readLine}
-use Rattle.input.specs.KeepLaws.{keeps-read, keeps-unbegun, keeps-begun}
-use Rattle.session.specs.declared.Answered.{Answered}
-use Rattle.session.specs.Answering.{AnswersLines, done, lastOf, Answers}
-use Rattle.session.specs.AnsweringLaws.{answers-one}
-use Rattle.session.specs.Feeding.{maxEnd, EndValues, ReportsAt, LastLine, FinishRow, ended}
+use Rattle.input.specs.KeepLaws.{keeps-unbegun, keeps-begun}
+use Rattle.answers.specs.Answers.{maxAnswer}
+use Rattle.session.specs.declared.Fed.{Fed}
+use Rattle.session.specs.Answering.{AnswersLines, done, linesOf, lastOf}
+use Rattle.session.specs.Feeding.{maxEnd, EndValues, Feeds, ReportsAt, LastLine, FinishRow, ended}
+
+abbrev newline : List ℕ
+newline = 10 ∷ []
 
 no-last : (line : List ℕ) → length line ≡ 0 → lastOf line ≡ []
 unfolding lastOf
 no-last [] e = refl
 no-last (c ∷ cs) e = absurd (omega arith)
 
-some-last : (line : List ℕ) → (length line ≡ 0 → ⊥) → lastOf line ≡ readLine line ∷ []
-unfolding lastOf
+some-last : (line : List ℕ) → (length line ≡ 0 → ⊥) → linesOf line newline ≡ lastOf line
+unfolding lastOf linesOf
 some-last [] n = absurd (n refl)
 some-last (c ∷ cs) n = refl
+
+-- the copy of a line buffer, in a buffer as long
+pub copied : (line zeros : List ℕ) {copy : List ℕ} → length line ≡ length zeros → copy ≡ line ++ drop (length line) zeros → copy ≡ line
+copied line zeros e c = c ∙ ap (λ (x : List ℕ). line ++ x) (drop-of-length-le zeros {i = length line} (omega arith)) ∙ append-nil line
 
 module _ {l : Ledger} {s buffer : List ℕ} {fill : ℕ} (out : List ℕ) (sized : length buffer ≡ maxLine) (room : maxEnd ≤ length out) where
   -- no line is begun
@@ -38,28 +44,54 @@ module _ {l : Ledger} {s buffer : List ℕ} {fill : ℕ} (out : List ℕ) (sized
   pub end-unbegun : fill ≡ 0 → {v : EndValues} {out′ : List ℕ} → ReportsAt (bookOf l) s 0 out v out′ → FinishRow l s buffer fill out v s out′
   end-unbegun e {v} {out′} p = ended v l s [] out′ sized room (last-none e) p
 
-  module _ (begun : fill ≡ 0 → ⊥) {a : Answered} {s′ out₁ : List ℕ} (w : Answers l s buffer fill out 0 a s′ out₁) where
-    last-some : LastLine l s buffer fill (a .ledger) s′ (w .text)
-    last-some =
+  -- a newline is fed to a copy of it
+  module _ {copy : List ℕ} (same : copy ≡ buffer) {r : Fed} {s′ buffer′ o : List ℕ} (feeds : Feeds l s copy fill newline (take maxAnswer out) r s′ buffer′ o)
+      (kept : length o ≡ length (take maxAnswer out)) where
+    f : Feeds l s buffer fill newline (take maxAnswer out) r s′ buffer′ o
+    f = subst (λ (b : List ℕ). Feeds l s b fill newline (take maxAnswer out) r s′ buffer′ o) same feeds
+
+    long : length o ≡ maxAnswer
+    long = kept ∙ length-take-le maxAnswer out (omega arith)
+
+    pub end-inside : r .written ≤ length (o ++ drop maxAnswer out)
+    end-inside = omega (arith, f .within-out, kept, length-append o (drop maxAnswer out))
+
+    abbrev put : List ℕ
+    put = take (r .written) o
+
+    put-length : length put ≡ r .written
+    put-length = length-take-le (r .written) o (omega (arith, f .within-out, kept))
+
+    -- the newline is consumed
+    one : take (r .consumed) newline ≡ newline
+    one =
+        let some-consumed : 1 ≤ r .consumed = f .some-consumed (omega (arith, kept, long)) (omega arith) in
+        let e : r .consumed ≡ 1 = omega (arith, f .within-input) in
+        ap (λ (k : ℕ). take k newline) e
+
+    last-some : (fill ≡ 0 → ⊥) → LastLine l s buffer fill (r .ledger) s′ put
+    last-some begun =
         record {
-          short = w .short;
+          short = omega (arith, put-length, f .within-out, kept, long);
           answers = λ line k.
-              subst (λ (os : List (Option (List ℕ))). AnswersLines l s os (a .ledger) s′ (w .text))
-              (ap (λ (o : Option (List ℕ)). o ∷ []) (keeps-read k) ∙ sym (some-last line (keeps-begun k begun)))
-              (answers-one (w .answers));
+              subst (λ (os : List (Option (List ℕ))). AnswersLines l s os (r .ledger) s′ put)
+              (ap (linesOf line) one ∙ some-last line (keeps-begun k begun)) (f .moves .answers line k);
         }
 
-    -- where the answer ends, and the buffer then
-    end-at : a .written ≡ length (w .text)
-    end-at = w .past ∙ zero-add (length (w .text))
+    -- the output buffer then
+    end-out : o ++ drop maxAnswer out ≡ put ++ drop (length put) out
+    end-out =
+        let w = r .written in
+        let front = take maxAnswer out in
+        let back = drop maxAnswer out in
+        let rest : drop w o ++ back ≡ drop (length put) out =
+        ap (λ (x : List ℕ). x ++ back) (f .rest-kept)
+        ∙ sym (drop-append-le w front back (f .within-out))
+        ∙ ap₂ (λ (n : ℕ) (x : List ℕ). drop n x) (sym put-length) (take-append-drop maxAnswer out) in
+        ap (λ (x : List ℕ). x ++ back) (sym (take-append-drop w o)) ∙ append-assoc put (drop w o) back ∙ ap (λ (x : List ℕ). put ++ x) rest
 
-    end-out : out₁ ≡ w .text ++ drop (length (w .text)) out
-    end-out = w .put ∙ ap (λ (n : ℕ). w .text ++ drop n out) (zero-add (length (w .text)))
-
-    pub end-inside : length out₁ ≡ length out → a .written ≤ length out₁
-    end-inside e = omega (arith, end-at, w .short)
-
-    pub end-line : {v : EndValues} {out′ : List ℕ} → ReportsAt (bookOf (a .ledger)) s′ (a .written) out₁ v out′ → FinishRow l s buffer fill out v s′ out′
-    end-line {v} {out′} p =
-        ended v (a .ledger) s′ (w .text) out′ sized room last-some
-        (subst₂ (λ (n : ℕ) (o : List ℕ). ReportsAt (bookOf (a .ledger)) s′ n o v out′) end-at end-out p)
+    pub end-line : (fill ≡ 0 → ⊥) → {v : EndValues} {out′ : List ℕ} → ReportsAt (bookOf (r .ledger)) s′ (r .written) (o ++ drop maxAnswer out) v out′
+        → FinishRow l s buffer fill out v s′ out′
+    end-line begun {v} {out′} p =
+        ended v (r .ledger) s′ put out′ sized room (last-some begun)
+        (subst₂ (λ (n : ℕ) (x : List ℕ). ReportsAt (bookOf (r .ledger)) s′ n x v out′) (sym put-length) end-out p)

@@ -11,7 +11,7 @@ use Rattle.bits.specs.BelowLaws.{countBelow-le}
 use Rattle.rules.specs.Report.{ascii}
 use Rattle.state.specs.declared.Ledger.{Ledger}
 use Rattle.state.specs.declared.Standing.{Standing}
-use Rattle.state.specs.State.{Book, placeAt, isHeld, isVoid, countOf}
+use Rattle.state.specs.State.{Book, placeAt, isHeld, isVoid, countOf, written}
 use Rattle.state.specs.View.{bookOf}
 use Rattle.printing.specs.Page.{Prints}
 use Rattle.offering.specs.Values.{OfferValues}
@@ -23,7 +23,7 @@ use Rattle.answers.specs.declared.Begun.the-variants.{Unread, Offers}
 use Rattle.answers.specs.Answers.{maxAnswer, Printable, Begins}
 use Rattle.answers.proofs.AnswerLaws.{unread-past}
 use Rattle.answers.proofs.BeginLaws.{begun-unread, begun-offer}
-use Rattle.session.specs.Answering.{AnswersLine, unread, offered, Answers}
+use Rattle.session.specs.Answering.{AnswersLine, unread, offered}
 use Rattle.session.proofs.OutLaws.{partFrom, withPart, with-same, prints}
 
 -- a count over the places is at most 64
@@ -38,10 +38,18 @@ offering-printable (known u k e d f) = tt
 offering-printable (full u e d f n) = tt
 offering-printable (taken u r e d f n t) = (omega (arith, count-few isHeld (bookOf r), t .used-next), omega (arith, count-few isVoid (bookOf r), t .used-next))
 
+-- The line in the buffer is answered, and its answer put after the first `at` bytes of the output buffer.
+pub record Answers (l : Ledger) (s buffer : List ℕ) (fill : ℕ) (out : List ℕ) (at : ℕ) (l′ : Ledger) (s′ out′ : List ℕ) (at′ : ℕ) : Type 0 where
+  pub text : List ℕ
+  pub answers : AnswersLine l s (lineIn buffer fill) l′ s′ text
+  pub short : length text ≤ maxAnswer
+  pub past : at′ ≡ at + length text
+  pub put : out′ ≡ written out at text
+
 module _ (out : List ℕ) (at : ℕ) (room : at + maxAnswer ≤ length out) {buffer : List ℕ} {fill : ℕ} where
   -- the answer is printed whole
   printed : {l l′ : Ledger} {s s′ o : List ℕ} {n : ℕ} (t : List ℕ) → AnswersLine l s (lineIn buffer fill) l′ s′ t → Prints (partFrom out at) 0 t o n
-      → n ≤ maxAnswer → Answers l s buffer fill out at (record { ledger = l′; written = at + n }) s′ (withPart out at o)
+      → n ≤ maxAnswer → Answers l s buffer fill out at l′ s′ (withPart out at o) (at + n)
   printed t a p few =
       record {
         text = t;
@@ -53,7 +61,7 @@ module _ (out : List ℕ) (at : ℕ) (room : at + maxAnswer ≤ length out) {buf
 
   module _ (n : ℕ) {r : Begun} {update o : List ℕ} (b : Begins buffer fill (partFrom out at) r update o) where
     -- the line is not read
-    pub line-unread : {l : Ledger} {s : List ℕ} → r ≡ Unread n → Answers l s buffer fill out at (record { ledger = l; written = at + n }) s (withPart out at o)
+    pub line-unread : {l : Ledger} {s : List ℕ} → r ≡ Unread n → Answers l s buffer fill out at l s (withPart out at o) (at + n)
     line-unread {l} {s} q =
         let u = begun-unread n b q in
         printed (ascii "(unread)\n") (subst (λ (x : Option (List ℕ)). AnswersLine l s x l s (ascii "(unread)\n")) (sym (u .0)) unread) (u .1)
@@ -65,9 +73,9 @@ module _ (out : List ℕ) (at : ℕ) (room : at + maxAnswer ≤ length out) {buf
 
     pub line-offered : {l l′ : Ledger} {s s′ o′ : List ℕ} {v : OfferValues} {k : ℕ} → r ≡ Offers n → OfferRow l s (take n update) v l′ s′
         → Prints (partFrom (withPart out at o) at) 0 (valuesText v) o′ k → k ≤ maxAnswer
-        → Answers l s buffer fill out at (record { ledger = l′; written = at + k }) s′ (withPart (withPart out at o) at o′)
+        → Answers l s buffer fill out at l′ s′ (withPart (withPart out at o) at o′) (at + k)
     line-offered {l} {l′} {s} {s′} {o′} {v} {k} q x p few =
         let t = valuesText v in
         let p₁ : Prints (partFrom out at) 0 t o′ k = subst (λ (y : List ℕ). Prints (partFrom y at) 0 t o′ k) (line-kept q) p in
-        subst (λ (y : List ℕ). Answers l s buffer fill out at (record { ledger = l′; written = at + k }) s′ (withPart y at o′)) (sym (line-kept q))
+        subst (λ (y : List ℕ). Answers l s buffer fill out at l′ s′ (withPart y at o′) (at + k)) (sym (line-kept q))
         (printed t (subst (λ (z : Option (List ℕ)). AnswersLine l s z l′ s′ t) (sym (begun-offer n b q .0)) (offered x)) p₁ few)

@@ -6,8 +6,8 @@ use native.Mathlib.Omega.{arith}
 use mathlib.Core.List.{List, [], _++_, append-assoc, append-nil}
 use lib.ListN.{length, take, drop, length-append, length-drop, take-append-drop, drop-of-length-le}
 use lib.Seq.{length-take-le, take-all, take-at, drop-at, drop-drop}
-use Rattle.state.specs.State.{written}
 use Rattle.printing.specs.Page.{Prints}
+use Rattle.state.specs.State.{written}
 
 -- the text t comes after the first w bytes, the bytes after it keep their values, and w′ is its end
 pub record Extends (out : List ℕ) (w : ℕ) (t out′ : List ℕ) (w′ : ℕ) : Type 0 where
@@ -55,6 +55,10 @@ module _ (out : List ℕ) (w : ℕ) (inside : w ≤ length out) where
   with-is o =
       ap (λ (x : List ℕ). take w out ++ (o ++ x)) (drop-of-length-le (drop w out) {i = length out - w} (omega (arith, length-drop w out)))
       ∙ ap (λ (x : List ℕ). take w out ++ x) (append-nil o)
+
+  -- the buffer is as long with a part as long
+  pub with-inside : (o : List ℕ) → length o ≡ length (partFrom out w) → w ≤ length (withPart out w o)
+  with-inside o e = omega (arith, ap length (with-is o), length-append (take w out) o, length-take-le w out inside)
 
   -- what is given back as it was lent changes nothing
   pub with-same : withPart out w (partFrom out w) ≡ out

@@ -10,11 +10,10 @@ use Rattle.state.specs.declared.Ledger.{Ledger}
 use Rattle.input.specs.declared.Assembled.{Assembled}
 use Rattle.input.specs.Lines.{Takes}
 use Rattle.answers.specs.Answers.{maxAnswer}
-use Rattle.session.specs.declared.Answered.{Answered}
-use Rattle.session.specs.Answering.{Answers}
 use Rattle.session.specs.Feeding.{Moves, Feeds}
 use Rattle.session.specs.FeedLaws.{moves-none, moves-then}
 use Rattle.session.proofs.OutLaws.{Extends, extends-none, extends-written, partFrom, part-is, part-length}
+use Rattle.session.proofs.LineLaws.{Answers}
 use Rattle.session.proofs.TurnLaws.{turn-text, turn-line}
 
 pub record Running (l : Ledger) (s buffer : List ℕ) (fill : ℕ) (input out : List ℕ) (l′ : Ledger) (s′ buffer′ out′ update : List ℕ) (fill′ consumed written : ℕ)
@@ -88,10 +87,11 @@ module _ {l : Ledger} {s buffer input out : List ℕ} {fill : ℕ} where
           refl bk (run .update-long)
 
       -- the line ends, and is answered
-      pub run-line : a .ended ≡ true → {r : Answered} {s₂ out₂ update₂ : List ℕ} → Answers l₁ s₁ buffer₂ (a .fill) out₁ written r s₂ out₂
+      pub run-line : a .ended ≡ true → {l₂ : Ledger} {s₂ out₂ update₂ : List ℕ} {written₂ : ℕ}
+          → Answers l₁ s₁ buffer₂ (a .fill) out₁ written l₂ s₂ out₂ written₂
           → maxAnswer ≤ length out₁ - written → length s₂ ≡ length s₁ → length update₂ ≡ 996
-          → Running l s buffer fill input out (r .ledger) s₂ buffer₂ out₂ update₂ 0 (consumed + a .consumed) (r .written)
-      run-line e {r} {s₂} {out₂} w room sk uk =
+          → Running l s buffer fill input out l₂ s₂ buffer₂ out₂ update₂ 0 (consumed + a .consumed) written₂
+      run-line e w room sk uk =
           run-turn (turn-line t e (w .answers))
           (extends-written out₁ written (w .text) (omega (arith, w .short, run .within-out, run .out-kept)) (w .past) (w .put))
           (t .some-taken left) (t .within) (w .short) sk bk uk

@@ -6,6 +6,7 @@ use mathlib.Core.Option.{Option}
 use mathlib.Core.Bool.{Bool, true, false}
 use lib.ListN.{take}
 use Rattle.state.specs.declared.Ledger.{Ledger}
+use Rattle.reading.specs.Reading.{readLine}
 use Rattle.reading.specs.Line.{lineIn}
 use Rattle.input.specs.declared.Assembled.{Assembled}
 use Rattle.input.specs.Lines.{Keeps, Takes, ending}

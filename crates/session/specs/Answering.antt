@@ -1,21 +1,15 @@
 -- Lines answered one after the other, for every ledger and store: each offer with what the entry `offer` ensures, row 1 included.
-use Prim.Native.Nat.{ℕ, _+_, _≤_}
-use mathlib.Core.Path.{_≡_}
+use Prim.Native.Nat.{ℕ}
 use mathlib.Core.List.{List, [], _∷_, _++_}
 use mathlib.Core.Option.{Option, none, some}
 use mathlib.Core.Bool.{cond}
-use lib.ListN.{length}
 use lib.Dec.{eqb}
 use Rattle.rules.specs.Report.{ascii}
 use Rattle.state.specs.declared.Ledger.{Ledger}
-use Rattle.state.specs.State.{written}
 use Rattle.offering.specs.Values.{OfferValues}
 use Rattle.offering.specs.Offer.{OfferRow}
 use Rattle.offering.specs.Words.{valuesText}
 use Rattle.reading.specs.Reading.{readLine}
-use Rattle.reading.specs.Line.{lineIn}
-use Rattle.answers.specs.Answers.{maxAnswer}
-use Rattle.session.specs.declared.Answered.{Answered}
 
 -- A line that reads so is answered: the ledger and the store after it, and the text of the answer.
 pub data AnswersLine (l : Ledger) (s : List ℕ) : Option (List ℕ) → Ledger → List ℕ → List ℕ → Type 0 where
@@ -42,11 +36,3 @@ lineAfter line (b ∷ bs) = cond (eqb b 10) (lineAfter [] bs) (lineAfter (line +
 unfoldable pub lastOf : List ℕ → List (Option (List ℕ))
 lastOf [] = []
 lastOf (c ∷ cs) = readLine (c ∷ cs) ∷ []
-
--- The line in the buffer is answered, and its answer put after the first `at` bytes of the output buffer.
-pub record Answers (l : Ledger) (s buffer : List ℕ) (fill : ℕ) (out : List ℕ) (at : ℕ) (r : Answered) (s′ out′ : List ℕ) : Type 0 where
-  pub text : List ℕ
-  pub answers : AnswersLine l s (lineIn buffer fill) (r .ledger) s′ text
-  pub short : length text ≤ maxAnswer
-  pub past : r .written ≡ at + length text
-  pub put : out′ ≡ written out at text

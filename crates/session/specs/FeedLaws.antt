@@ -1,6 +1,6 @@
 -- Where a ledger, its store and a line buffer are where a machine is: what a call, or a row of calls, of `feed` does to them. And for every ledger: the ledger and the
 -- store that come back are those of calls of `offer`.
-use mathlib.Core.Path.{_≡_, sym, subst}
+use mathlib.Core.Path.{_≡_, refl, sym, subst}
 use Prim.Native.Nat.{ℕ}
 use mathlib.Core.List.{List, [], _++_}
 use mathlib.Core.Option.{Option}

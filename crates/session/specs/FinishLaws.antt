@@ -1,11 +1,11 @@
 -- The end of the input, where the ledger, its store and the line buffer are where a machine is: with room for the longest end there is a report, and what is put out is
 -- what the machine ends with.
-use mathlib.Core.Path.{_≡_, refl, sym, ap, subst, _∙_}
-use Prim.Native.Nat.{ℕ, _+_, _≤_}
+use mathlib.Core.Path.{_≡_, refl, sym, ap, ap₂, subst, _∙_}
+use Prim.Native.Nat.{ℕ, _+_, _≤_, _<_}
 use native.Mathlib.Omega.{arith}
 use mathlib.Core.List.{List, _++_, append-assoc}
 use lib.ListN.{length, take, drop, length-append, length-drop}
-use lib.Seq.{take-at}
+use lib.Seq.{take-at, drop-at}
 use Rattle.keys.specs.BoolLaws.{true-false}
 use Rattle.format.specs.Update.{Update}
 use Rattle.rules.specs.Report.{reportOf}

@@ -1,6 +1,6 @@
 -- Rows of pieces: one row after another, and a row with one piece more.
 use Prim.Native.Nat.{ℕ}
-use mathlib.Core.List.{List, _++_, append-assoc, append-nil}
+use mathlib.Core.List.{List, [], _++_, append-assoc, append-nil}
 use lib.ListN.{take}
 use Rattle.state.specs.declared.Ledger.{Ledger}
 use Rattle.session.specs.declared.Fed.{Fed}

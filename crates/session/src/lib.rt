@@ -1,14 +1,13 @@
 // The command's work on slices: input bytes to lines, lines to answers, and the report at the end. The input may come in pieces of any length.
 ghost use mathlib.Core.Path.{_≡_};
-ghost use Prim.Native.Nat.{_+_, _≤_};
+ghost use Prim.Native.Nat.{_≤_};
 ghost use lib.ListN.{length};
 ghost use Rattle.state.specs.View.{bookOf};
-ghost use Rattle.answers.specs.Answers.{maxAnswer};
-ghost use Rattle.session.specs.Answering.{Answers};
-ghost use Rattle.session.specs.Feeding.{endValues, putOut, Feeding, ReportsAt, Finishes};
+ghost use Rattle.session.specs.Feeding.{endValues, putOut, Feeds, Feeding, ReportsAt, Finishes};
 use answers::Begun;
 use answers::begin_answer;
 use answers::print_answer;
+use copying::copy;
 use input::take_line;
 use ledger::Ledger;
 use ledger::Refusal;
@@ -58,46 +57,53 @@ impl Finished {
     }
 }
 
-// What the answer to a line comes to: the ledger, and where the output ends.
-struct Answered {
-    ledger: Ledger,
-    written: usize,
-}
-
-// Answers a line of so many bytes, and puts the answer after the first `at` bytes of the output buffer.
-fn answer_line(
-    ledger: Ledger,
+// Takes a piece of the input, up to its end or to where the output buffer has no room for another answer.
+fn feed_lines(
+    mut ledger: Ledger,
     store: &mut [u8],
-    line: &[u8],
+    line: &mut [u8],
     fill: usize,
-    update: &mut [u8],
+    input: &[u8],
     out: &mut [u8],
-    at: usize,
-) -> Answered
-    requires { ⌜ (996 ≤ length (now update)) × (at + maxAnswer ≤ length (now out)) ⌝ }
-    ensures { λ r. ⌜ Answers ledger (now (store .entry)) (now (line .entry)) fill (now (out .entry)) at r (now (store .exit)) (now (out .exit)) ⌝ }
+) -> Fed
+    ensures { λ r. ⌜ Feeds ledger (now (store .entry)) (now (line .entry)) fill (now (input .entry)) (now (out .entry)) r (now (store .exit)) (now (line .exit)) (now (out .exit)) ⌝ }
 {
-    match begin_answer(line, fill, update, &mut out[at..]) {
-        Begun::Unread(n) => Answered {
-            ledger: ledger,
-            written: at + n,
-        },
-        Begun::Offers(n) => {
-            let o = ledger::offer(ledger, store, &update[..n]);
-            let next = o.ledger;
-            let answer = o.answer;
-            let n = print_answer(&mut out[at..], answer);
-            Answered {
-                ledger: next,
-                written: at + n,
+    let mut update = [0u8; MAX_OFFERED];
+    let mut length = fill;
+    let mut consumed: usize = 0;
+    let mut written: usize = 0;
+    while consumed < input.len() && MAX_ANSWER <= out.len() - written {
+        let t = take_line(line, length, &input[consumed..]);
+        consumed += t.consumed;
+        length = t.fill;
+        if t.ended {
+            match begin_answer(line, length, &mut update, &mut out[written..]) {
+                Begun::Unread(n) => {
+                    written += n;
+                }
+                Begun::Offers(n) => {
+                    let o = ledger::offer(ledger, store, &update[..n]);
+                    let next = o.ledger;
+                    ledger = next;
+                    let answer = o.answer;
+                    written += print_answer(&mut out[written..], answer);
+                }
             }
+            length = 0;
         }
+    }
+    Fed {
+        ledger: ledger,
+        fill: length,
+        consumed: consumed,
+        written: written,
+        refused: false,
     }
 }
 
-// Takes a piece of the input, up to its end or to where the output buffer has no room for another answer.
+// Feeds a piece of the input. A line buffer of another length is refused, and nothing changes.
 pub fn feed(
-    mut ledger: Ledger,
+    ledger: Ledger,
     store: &mut [u8],
     line: &mut [u8],
     fill: usize,
@@ -115,29 +121,7 @@ pub fn feed(
             refused: true,
         };
     }
-    let mut update = [0u8; MAX_OFFERED];
-    let mut length = fill;
-    let mut consumed: usize = 0;
-    let mut written: usize = 0;
-    while consumed < input.len() && MAX_ANSWER <= out.len() - written {
-        let t = take_line(line, length, &input[consumed..]);
-        consumed += t.consumed;
-        length = t.fill;
-        if t.ended {
-            let a = answer_line(ledger, store, line, length, &mut update, out, written);
-            let next = a.ledger;
-            ledger = next;
-            written = a.written;
-            length = 0;
-        }
-    }
-    Fed {
-        ledger: ledger,
-        fill: length,
-        consumed: consumed,
-        written: written,
-        refused: false,
-    }
+    feed_lines(ledger, store, line, fill, input, out)
 }
 
 // Puts the report after the first `at` bytes of the output buffer.
@@ -151,7 +135,7 @@ fn report_at(ledger: Ledger, store: &[u8], out: &mut [u8], at: usize) -> Finishe
     }
 }
 
-// The end of the input: the answer to a last line that lacks its newline, and the report.
+// The end of the input: the answer to a last line that lacks its newline, and the report. A copy of that line is fed a newline.
 pub fn finish(
     ledger: Ledger,
     store: &mut [u8],
@@ -171,8 +155,16 @@ pub fn finish(
     if fill == 0 {
         return report_at(ledger, store, out, 0);
     }
-    let mut update = [0u8; MAX_OFFERED];
-    let a = answer_line(ledger, store, line, fill, &mut update, out, 0);
-    let last = a.ledger;
-    report_at(last, store, out, a.written)
+    let mut last = [0u8; MAX_LINE];
+    copy(&mut last, line);
+    let f = feed_lines(
+        ledger,
+        store,
+        &mut last,
+        fill,
+        b"\n",
+        &mut out[..MAX_ANSWER],
+    );
+    let next = f.ledger;
+    report_at(next, store, out, f.written)
 }
