@@ -7,12 +7,12 @@ cd "$(dirname "${BASH_SOURCE[0]}")/.."
 mkdir -p target
 folder=$(mktemp -d target/bench.XXXXXX)
 trap 'rm -rf "$folder"' EXIT
-rt staticlib sha256 >"$folder/staticlib.log" 2>&1 || { cat "$folder/staticlib.log"; exit 1; }
+rt staticlib sha256_digest >"$folder/staticlib.log" 2>&1 || { cat "$folder/staticlib.log"; exit 1; }
 for file in plain unrolled; do
     gcc -O3 -Wall -Wextra -Werror -c -o "$folder/$file.o" "bench/$file.c"
 done
 rustc --edition 2021 -O -D warnings -o "$folder/sha256" bench/sha256.rs \
-    -L native=target/staticlib -l static=sha256 \
+    -L native=target/staticlib -l static=sha256_digest \
     -C "link-arg=$folder/plain.o" -C "link-arg=$folder/unrolled.o" -l dl
 
 sed -n '/^model name/ { s/^[^:]*: /CPU: /p; q }' /proc/cpuinfo

@@ -1,5 +1,5 @@
 // SHA-256 from FIPS 180-4, apart from the proved code: the whole message is padded into blocks, one
-// after the other, and nothing is shared with crates/sha256.
+// after the other, and nothing is shared with crates/sha256_digest.
 
 // 4.2.2
 const K: [u32; 64] = [

@@ -4,11 +4,11 @@ use Prim.Native.Nat.{ℕ}
 use mathlib.Core.List.{List}
 use mathlib.Core.Option.{none, some}
 use mathlib.Core.Bool.{true, false}
-use Rattle.format.specs.Update.{Id}
-use Rattle.state.specs.State.{Book, placeAt, findIn}
-use Rattle.state.specs.Row1.{sound}
-use Rattle.state.specs.Verdicts.{verdictOf}
-use Rattle.refusals.specs.Numbers.{row1}
+use Rattle.update_format.specs.Update.{Id}
+use Rattle.ledger_state.specs.State.{Book, placeAt, findIn}
+use Rattle.ledger_state.specs.Row1.{sound}
+use Rattle.ledger_state.specs.Verdicts.{verdictOf}
+use Rattle.ledger_refusals.specs.Numbers.{row1}
 use Rattle.ledger.specs.Ask.{standsAs, unknownId, refusedAs, askedOf}
 
 -- the standing of an id

@@ -5,12 +5,12 @@ use native.Mathlib.Nat.{zero-add}
 use mathlib.Core.List.{List, _++_}
 use mathlib.Core.Bool.{true}
 use lib.ListN.{length, drop}
-use Rattle.state.specs.Row1.{sound}
-use Rattle.state.specs.State.{Book}
-use Rattle.report.specs.Text.{textOf}
-use Rattle.printing.specs.Page.{Prints}
-use Rattle.report.specs.TextRight.{text-right}
-use Rattle.refusals.specs.declared.Refusal.the-variants.{Short}
+use Rattle.ledger_state.specs.Row1.{sound}
+use Rattle.ledger_state.specs.State.{Book}
+use Rattle.report_text.specs.Text.{textOf}
+use Rattle.bytes_print.specs.Page.{Prints}
+use Rattle.report_text.specs.TextRight.{text-right}
+use Rattle.ledger_refusals.specs.declared.Refusal.the-variants.{Short}
 use Rattle.ledger.specs.declared.Reported.the-variants.{Written, Refused}
 use Rattle.ledger.specs.Report.{ReportText, Reporting, short, written}
 

@@ -5,19 +5,19 @@ use native.Mathlib.Omega.{arith}
 use mathlib.Core.List.{List}
 use lib.ListN.{length, take, drop}
 use lib.Seq.{take-append-seam}
-use Rattle.format.specs.Update.{Update}
-use Rattle.format.specs.Decode.{decode}
+use Rattle.update_format.specs.Update.{Update}
+use Rattle.update_format.specs.Decode.{decode}
 use Rattle.rules.specs.Parts.{Parts, ReadFrom}
 use Rattle.rules.specs.Settle.{partsOf}
 use Rattle.rules.specs.Report.{reportText, reportOf}
 use Rattle.rules.specs.PartsLaws.{read-right}
-use Rattle.state.specs.declared.Ledger.{Ledger}
-use Rattle.state.specs.View.{bookOf, freshLedger}
-use Rattle.state.specs.State.{storeLength, Book}
-use Rattle.state.specs.Stands.{ident, Stands}
-use Rattle.refusals.specs.Numbers.{Output, putBytes}
-use Rattle.offering.specs.Values.{OfferValues}
-use Rattle.offering.specs.Offer.{OfferRow}
+use Rattle.ledger_state.specs.declared.Ledger.{Ledger}
+use Rattle.ledger_state.specs.View.{bookOf, freshLedger}
+use Rattle.ledger_state.specs.State.{storeLength, Book}
+use Rattle.ledger_state.specs.Stands.{ident, Stands}
+use Rattle.ledger_refusals.specs.Numbers.{Output, putBytes}
+use Rattle.ledger_offering.specs.Values.{OfferValues}
+use Rattle.ledger_offering.specs.Offer.{OfferRow}
 use Rattle.ledger.specs.declared.Reported.the-variants.{Written}
 use Rattle.ledger.specs.Report.{ReportRow, unfit, short, written, Reporting}
 use Rattle.ledger.specs.Calls.{Calls, stored, offers-stand, AnswersFor, stands-answers}

@@ -10,33 +10,33 @@ use lib.Seq.{getD-append-seam}
 use lib.Dec.{ltb}
 use borrow.Author.Tests.{le-ltb, lt-ltb}
 use native.Mathlib.Nat.{le-of-eq}
-use Rattle.keys.specs.Order.{same}
-use Rattle.keys.specs.Member.{_∈_, member, keep, any}
-use Rattle.keys.specs.BoolLaws.{true-false, not-true→false, and-true→}
-use Rattle.keys.specs.OrderLaws.{same→eq}
-use Rattle.keys.specs.MemberLaws.{any→∈}
-use Rattle.keys.specs.DistinctLaws.{distinct-eq}
-use Rattle.fips180.specs.Fips180.{SHA-256}
-use Rattle.format.specs.Update.{Id, Update}
-use Rattle.format.specs.Decode.{Decoded, refused, update, decode}
-use Rattle.keys.specs.Distinct.{Distinct}
+use Rattle.bytes_order.specs.Order.{same}
+use Rattle.bytes_order.specs.Member.{_∈_, member, keep, any}
+use Rattle.bytes_order.specs.BoolLaws.{true-false, not-true→false, and-true→}
+use Rattle.bytes_order.specs.OrderLaws.{same→eq}
+use Rattle.bytes_order.specs.MemberLaws.{any→∈}
+use Rattle.bytes_order.specs.DistinctLaws.{distinct-eq}
+use Rattle.sha256_fips180.specs.Fips180.{SHA-256}
+use Rattle.update_format.specs.Update.{Id, Update}
+use Rattle.update_format.specs.Decode.{Decoded, refused, update, decode}
+use Rattle.bytes_order.specs.Distinct.{Distinct}
 use Rattle.rules.specs.Standing.{Held, Void, Waiting}
 use Rattle.rules.specs.Settle.{Row, Table, Verdict, held, waiting, void, isHeld, isVoid, heldIn, voidIn, settled}
 use Rattle.rules.specs.SettlingTable.{held-in, void-in}
 use Rattle.rules.specs.Settling.{settled-decides}
 use Rattle.rules.specs.Decides.{Decides}
-use Rattle.state.specs.declared.Ledger.{Ledger}
-use Rattle.state.specs.View.{bookOf}
-use Rattle.state.specs.State.{places, Book, placeAt, countOf, isHeld as stateHeld, isVoid as stateVoid}
-use Rattle.state.specs.Stands.{ident, noUpdate, updateAt, Stands}
-use Rattle.state.specs.FindLaws.{stored-at, find-right}
-use Rattle.state.specs.TakeLaws.{stands-sound}
-use Rattle.state.specs.CountLaws.{held-count, void-count}
-use Rattle.state.specs.Verdicts.{verdictOf}
-use Rattle.refusals.specs.Numbers.{row10}
-use Rattle.offering.specs.Values.{OfferValues, takenAs, knownAs, refusedAs}
-use Rattle.offering.specs.Words.{valuesText}
-use Rattle.offering.specs.Offer.{OfferRow, unfit, malformed, known, full, taken}
+use Rattle.ledger_state.specs.declared.Ledger.{Ledger}
+use Rattle.ledger_state.specs.View.{bookOf}
+use Rattle.ledger_state.specs.State.{places, Book, placeAt, countOf, isHeld as stateHeld, isVoid as stateVoid}
+use Rattle.ledger_state.specs.Stands.{ident, noUpdate, updateAt, Stands}
+use Rattle.ledger_state.specs.FindLaws.{stored-at, find-right}
+use Rattle.ledger_state.specs.TakeLaws.{stands-sound}
+use Rattle.ledger_state.specs.CountLaws.{held-count, void-count}
+use Rattle.ledger_state.specs.Verdicts.{verdictOf}
+use Rattle.ledger_refusals.specs.Numbers.{row10}
+use Rattle.ledger_offering.specs.Values.{OfferValues, takenAs, knownAs, refusedAs}
+use Rattle.ledger_offering.specs.Words.{valuesText}
+use Rattle.ledger_offering.specs.Offer.{OfferRow, unfit, malformed, known, full, taken}
 use Rattle.ledger.specs.Calls.{says, only-held, only-waiting, only-void, decoded-id, found-known, none-new}
 
 -- the standing of an id in a settled table

@@ -3,12 +3,12 @@ use Prim.Native.Nat.{ℕ}
 use mathlib.Core.List.{List}
 use mathlib.Core.Option.{Option, none, some}
 use mathlib.Core.Bool.{cond}
-use Rattle.format.specs.Update.{Id}
+use Rattle.update_format.specs.Update.{Id}
 use Rattle.rules.specs.Settle.{Verdict}
-use Rattle.state.specs.State.{Book, placeAt, findIn}
-use Rattle.state.specs.Row1.{sound}
-use Rattle.state.specs.Verdicts.{verdictOf}
-use Rattle.refusals.specs.Numbers.{row1, refusalNumber}
+use Rattle.ledger_state.specs.State.{Book, placeAt, findIn}
+use Rattle.ledger_state.specs.Row1.{sound}
+use Rattle.ledger_state.specs.Verdicts.{verdictOf}
+use Rattle.ledger_refusals.specs.Numbers.{row1, refusalNumber}
 use Rattle.ledger.specs.declared.Asked.{Asked}
 use Rattle.ledger.specs.declared.Asked.the-variants.{Is, Unknown, Refused}
 

@@ -8,27 +8,27 @@ use mathlib.Core.List.{List, [], _∷_, _++_, map}
 use mathlib.Core.Bool.{true, false, cond}
 use lib.ListN.{length}
 use lib.Dec.{ltb}
-use Rattle.keys.specs.Member.{_∈_, member}
-use Rattle.keys.specs.BoolLaws.{true-false}
-use Rattle.keys.specs.MemberLaws.{∈-cast, ∈-map, map-∈, ∈→member, member-false}
-use Rattle.fips180.specs.Fips180.{SHA-256}
-use Rattle.format.specs.Update.{Id, Update}
-use Rattle.format.specs.Decode.{Decoded, refused, update, decode}
-use Rattle.format.specs.Laws.{decode-sound}
+use Rattle.bytes_order.specs.Member.{_∈_, member}
+use Rattle.bytes_order.specs.BoolLaws.{true-false}
+use Rattle.bytes_order.specs.MemberLaws.{∈-cast, ∈-map, map-∈, ∈→member, member-false}
+use Rattle.sha256_fips180.specs.Fips180.{SHA-256}
+use Rattle.update_format.specs.Update.{Id, Update}
+use Rattle.update_format.specs.Decode.{Decoded, refused, update, decode}
+use Rattle.update_format.specs.Laws.{decode-sound}
 use Rattle.rules.specs.Standing.{Held, Void, Waiting}
 use Rattle.rules.specs.Settle.{held, waiting, void}
 use Rattle.rules.specs.LeastSets.{held-stored, void-stored, held-not-void}
-use Rattle.state.specs.declared.Ledger.{Ledger}
-use Rattle.state.specs.declared.Standing.the-variants.{Held as IsHeld, Waiting as IsWaiting, Void as IsVoid}
-use Rattle.state.specs.declared.Standing.{Standing}
-use Rattle.state.specs.State.{places, storeLength, Book, placeAt, findIn}
-use Rattle.state.specs.View.{bookOf, freshLedger}
-use Rattle.state.specs.Verdicts.{verdictOf}
-use Rattle.state.specs.Stands.{ident, updateAt, Stands}
-use Rattle.state.specs.FindLaws.{stored-at, place-of, find-right, find-all, find-none}
-use Rattle.state.specs.TakeLaws.{stands-sound, fresh-stands}
-use Rattle.offering.specs.Values.{OfferValues}
-use Rattle.offering.specs.Offer.{OfferRow, unfit, malformed, known, full, taken}
+use Rattle.ledger_state.specs.declared.Ledger.{Ledger}
+use Rattle.ledger_state.specs.declared.Standing.the-variants.{Held as IsHeld, Waiting as IsWaiting, Void as IsVoid}
+use Rattle.ledger_state.specs.declared.Standing.{Standing}
+use Rattle.ledger_state.specs.State.{places, storeLength, Book, placeAt, findIn}
+use Rattle.ledger_state.specs.View.{bookOf, freshLedger}
+use Rattle.ledger_state.specs.Verdicts.{verdictOf}
+use Rattle.ledger_state.specs.Stands.{ident, updateAt, Stands}
+use Rattle.ledger_state.specs.FindLaws.{stored-at, place-of, find-right, find-all, find-none}
+use Rattle.ledger_state.specs.TakeLaws.{stands-sound, fresh-stands}
+use Rattle.ledger_offering.specs.Values.{OfferValues}
+use Rattle.ledger_offering.specs.Offer.{OfferRow, unfit, malformed, known, full, taken}
 use Rattle.ledger.specs.Ask.{standsAs, unknownId, askedAt, askedOf}
 
 -- "Each offer is handed the ledger and store that the one before left": offers of the byte strings, one after the other, each with what the entry

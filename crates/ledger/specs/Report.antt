@@ -4,12 +4,12 @@ use Prim.Native.Nat.{ℕ, _≤_, _<_}
 use mathlib.Core.List.{List, _++_}
 use mathlib.Core.Bool.{true, false}
 use lib.ListN.{length, drop}
-use Rattle.format.specs.Update.{Update}
+use Rattle.update_format.specs.Update.{Update}
 use Rattle.rules.specs.Report.{reportOf}
-use Rattle.state.specs.Row1.{sound}
-use Rattle.state.specs.Stands.{ident, Stands}
-use Rattle.state.specs.State.{Book}
-use Rattle.refusals.specs.Numbers.{row1, row11, refusalNumber, Output, putBytes, refusedBy}
+use Rattle.ledger_state.specs.Row1.{sound}
+use Rattle.ledger_state.specs.Stands.{ident, Stands}
+use Rattle.ledger_state.specs.State.{Book}
+use Rattle.ledger_refusals.specs.Numbers.{row1, row11, refusalNumber, Output, putBytes, refusedBy}
 use Rattle.ledger.specs.declared.Reported.{Reported}
 use Rattle.ledger.specs.declared.Reported.the-variants.{Written, Refused}
 

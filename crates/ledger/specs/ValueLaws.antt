@@ -2,9 +2,9 @@
 use mathlib.Core.Path.{_≡_, refl, ap}
 use Prim.Native.Nat.{ℕ}
 use native.Mathlib.Omega.{arith}
-use Rattle.state.specs.Verdicts.{verdictOf, verdict-one}
-use Rattle.refusals.specs.Numbers.{refusalNumber}
-use Rattle.refusals.specs.NumberLaws.{refusal-one}
+use Rattle.ledger_state.specs.Verdicts.{verdictOf, verdict-one}
+use Rattle.ledger_refusals.specs.Numbers.{refusalNumber}
+use Rattle.ledger_refusals.specs.NumberLaws.{refusal-one}
 use Rattle.ledger.specs.declared.Asked.{Asked}
 use Rattle.ledger.specs.declared.Asked.the-variants.{Is, Unknown, Refused as NotAsked}
 use Rattle.ledger.specs.declared.Reported.{Reported}

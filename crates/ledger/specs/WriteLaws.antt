@@ -7,36 +7,36 @@ use mathlib.Core.List.{List, [], _∷_, _++_}
 use mathlib.Core.Bool.{Bool, true, false, cond}
 use lib.ListN.{length, take, drop, length-append}
 use lib.Seq.{take-at, getD-append-seam}
-use Rattle.keys.specs.Member.{_∈_}
-use Rattle.keys.specs.BoolLaws.{true-false}
-use Rattle.fips180.specs.Fips180.{SHA-256}
-use Rattle.format.specs.Update.{Id, maxAuthor, maxLength, Operation, Update, encode, WellFormed}
-use Rattle.format.specs.Decode.{refused, decode, update}
-use Rattle.format.specs.Laws.{decode-complete}
+use Rattle.bytes_order.specs.Member.{_∈_}
+use Rattle.bytes_order.specs.BoolLaws.{true-false}
+use Rattle.sha256_fips180.specs.Fips180.{SHA-256}
+use Rattle.update_format.specs.Update.{Id, maxAuthor, maxLength, Operation, Update, encode, WellFormed}
+use Rattle.update_format.specs.Decode.{refused, decode, update}
+use Rattle.update_format.specs.Laws.{decode-complete}
 use Rattle.rules.specs.Standing.{Ancestor, Held}
 use Rattle.rules.specs.Settle.{held}
 use Rattle.rules.specs.ReadOff.{Marked}
 use Rattle.rules.specs.Writing.{writtenOf, writableOf}
 use Rattle.rules.specs.WritingLaws.{written-held, written-no-fork, add-writable}
-use Rattle.bits.specs.Below.{countBelow}
-use Rattle.bits.specs.BelowLaws.{countBelow-more, countBelow-mono}
-use Rattle.state.specs.declared.Standing.{Standing}
-use Rattle.state.specs.declared.Standing.the-variants.{Held as IsHeld, Waiting as IsWaiting}
-use Rattle.state.specs.declared.Ledger.{Ledger}
-use Rattle.state.specs.View.{bookOf}
-use Rattle.state.specs.State.{places, Place, Book, placeAt, countOf, isHeld, isVoid}
-use Rattle.state.specs.Verdicts.{verdictOf}
-use Rattle.state.specs.Stands.{ident, noUpdate, updateAt, Stands}
-use Rattle.state.specs.FindLaws.{stored-at, find-right}
-use Rattle.state.specs.TakeLaws.{stands-sound}
-use Rattle.operations.specs.declared.Kind.{Kind}
-use Rattle.operations.specs.declared.Kind.the-variants.{Add as AnAdd}
-use Rattle.operations.specs.Operations.{operationFor, badNamed, unorderedNamed}
-use Rattle.refusals.specs.Numbers.{row11, row12, Output, putBytes, refusedBy}
-use Rattle.offering.specs.Values.{OfferValues, takenAs}
-use Rattle.offering.specs.Offer.{OfferRow, unfit as not-fit, malformed, known, full, taken}
+use Rattle.bitset.specs.Below.{countBelow}
+use Rattle.bitset.specs.BelowLaws.{countBelow-more, countBelow-mono}
+use Rattle.ledger_state.specs.declared.Standing.{Standing}
+use Rattle.ledger_state.specs.declared.Standing.the-variants.{Held as IsHeld, Waiting as IsWaiting}
+use Rattle.ledger_state.specs.declared.Ledger.{Ledger}
+use Rattle.ledger_state.specs.View.{bookOf}
+use Rattle.ledger_state.specs.State.{places, Place, Book, placeAt, countOf, isHeld, isVoid}
+use Rattle.ledger_state.specs.Verdicts.{verdictOf}
+use Rattle.ledger_state.specs.Stands.{ident, noUpdate, updateAt, Stands}
+use Rattle.ledger_state.specs.FindLaws.{stored-at, find-right}
+use Rattle.ledger_state.specs.TakeLaws.{stands-sound}
+use Rattle.write_operations.specs.declared.Kind.{Kind}
+use Rattle.write_operations.specs.declared.Kind.the-variants.{Add as AnAdd}
+use Rattle.write_operations.specs.Operations.{operationFor, badNamed, unorderedNamed}
+use Rattle.ledger_refusals.specs.Numbers.{row11, row12, Output, putBytes, refusedBy}
+use Rattle.ledger_offering.specs.Values.{OfferValues, takenAs}
+use Rattle.ledger_offering.specs.Offer.{OfferRow, unfit as not-fit, malformed, known, full, taken}
 use Rattle.ledger.specs.Calls.{says, only-held}
-use Rattle.writing.specs.Write.{WrittenUpdate, Writing, unfit, author, layout, unordered, invalid, short, written}
+use Rattle.write_asking.specs.Write.{WrittenUpdate, Writing, unfit, author, layout, unordered, invalid, short, written}
 
 -- the writer's answers taken apart
 module _ (l : Book) (s : List ℕ) (a : ℕ) (k : Kind) (t : List ℕ) (i : Id) (named o : List ℕ) where

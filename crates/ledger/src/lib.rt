@@ -1,28 +1,28 @@
 // The hours ledger: the public library. Copies of the ledger take updates in any order; each stored update is held, waiting or void by its ancestors
 // alone. The bookkeeping goes in by value and the new one comes back; the updates' bytes lie in a store that the caller lends.
 ghost use mathlib.Core.Path.{_≡_};
-ghost use Rattle.state.specs.View.{bookOf};
-ghost use Rattle.offering.specs.Offer.{Offering};
+ghost use Rattle.ledger_state.specs.View.{bookOf};
+ghost use Rattle.ledger_offering.specs.Offer.{Offering};
 ghost use Rattle.ledger.specs.Ask.{askedValues, askedOf};
 ghost use Rattle.ledger.specs.Report.{Reporting};
-ghost use Rattle.writing.specs.Write.{wroteValues, Writing};
-use format::Malformed;
-use format::Reading;
-use format::bounds::MAX_AUTHOR;
-pub use offering::Answer;
-pub use offering::Offered;
-use offering::left;
-use offering::offer_formed;
-pub use operations::Kind;
-pub use refusals::Refusal;
-use state::Found;
-pub use state::Ledger;
-pub use state::Standing;
-use state::find::find;
-pub use state::fresh;
-use survey::sound;
-pub use writing::Wrote;
-use writing::write_asked;
+ghost use Rattle.write_asking.specs.Write.{wroteValues, Writing};
+pub use ledger_offering::Answer;
+pub use ledger_offering::Offered;
+use ledger_offering::left;
+use ledger_offering::offer_formed;
+pub use ledger_refusals::Refusal;
+use ledger_row1::sound;
+use ledger_state::Found;
+pub use ledger_state::Ledger;
+pub use ledger_state::Standing;
+use ledger_state::find::find;
+pub use ledger_state::fresh;
+use update_format::Malformed;
+use update_format::Reading;
+use update_format::bounds::MAX_AUTHOR;
+pub use write_asking::Wrote;
+use write_asking::write_asked;
+pub use write_operations::Kind;
 
 // How an id stands.
 pub enum Asked {
@@ -39,7 +39,7 @@ pub fn offer(ledger: Ledger, store: &mut [u8], update: &[u8]) -> Offered
     if !sound(ledger, store) {
         return left(ledger, Answer::Refused(Refusal::Unfit));
     }
-    match parsing::read(update) {
+    match update_parsing::read(update) {
         Reading::Refused(m) => left(ledger, Answer::Refused(Refusal::Malformed(m))),
         Reading::Update(_) => offer_formed(ledger, store, update),
     }
@@ -76,11 +76,11 @@ pub fn report(ledger: Ledger, store: &[u8], out: &mut [u8]) -> Reported
         return Reported::Refused(Refusal::Unfit);
     }
     let mut page = [0u8; 1];
-    let length = report::print(ledger, store, &mut page);
+    let length = report_text::print(ledger, store, &mut page);
     if out.len() < length {
         return Reported::Refused(Refusal::Short);
     }
-    report::print(ledger, store, out);
+    report_text::print(ledger, store, out);
     Reported::Written(length)
 }
 
@@ -104,10 +104,10 @@ pub fn write(
     if MAX_AUTHOR < author {
         return Wrote::Refused(Refusal::Malformed(Malformed::Author));
     }
-    if operations::bad_named(named) {
+    if write_operations::bad_named(named) {
         return Wrote::Refused(Refusal::Malformed(Malformed::Layout));
     }
-    if operations::unordered_named(named) {
+    if write_operations::unordered_named(named) {
         return Wrote::Refused(Refusal::Malformed(Malformed::Unordered));
     }
     write_asked(ledger, store, author, kind, tag, id, named, out)

@@ -1,9 +1,9 @@
 -- What a settled table says of its set: a row for each update, with the verdict and the ancestors that `Standing` gives it.
 use mathlib.Core.Path.{_≡_}
 use mathlib.Core.List.{List}
-use Rattle.keys.specs.Member.{_∈_}
-use Rattle.keys.specs.Distinct.{Distinct}
-use Rattle.format.specs.Update.{Id, Update}
+use Rattle.bytes_order.specs.Member.{_∈_}
+use Rattle.bytes_order.specs.Distinct.{Distinct}
+use Rattle.update_format.specs.Update.{Id, Update}
 use Rattle.rules.specs.Standing.{Ancestor, Held, Void, Waiting}
 use Rattle.rules.specs.Settle.{Row, Table, held, waiting, void}
 

@@ -4,15 +4,15 @@ use mathlib.Core.Path.{_≡_, sym, subst}
 use mathlib.Core.Logic.{_⊎_, inl, inr, ⊎-elim}
 use mathlib.Core.List.{List, [], _∷_, _++_}
 use Prim.Native.Nat.{ℕ}
-use Rattle.keys.specs.Member.{_∈_, SameMembers}
-use Rattle.keys.specs.MemberLaws.{∈-singleton, ∈-append-left, append-∈}
-use Rattle.keys.specs.Distinct.{Distinct}
-use Rattle.keys.specs.DistinctLaws.{distinct-eq}
-use Rattle.format.specs.Update.{Id, Operation, Add, Remove, Insert, Delete, Update}
+use Rattle.bytes_order.specs.Member.{_∈_, SameMembers}
+use Rattle.bytes_order.specs.MemberLaws.{∈-singleton, ∈-append-left, append-∈}
+use Rattle.bytes_order.specs.Distinct.{Distinct}
+use Rattle.bytes_order.specs.DistinctLaws.{distinct-eq}
+use Rattle.update_format.specs.Update.{Id, Operation, Add, Remove, Insert, Delete, Update}
 use Rattle.rules.specs.Standing.{Ancestor, AddAncestor, InsertAncestor, Valid, Known, Fine, Held, Void, Waiting}
 use Rattle.rules.specs.ReadOff.{Rank}
 use Rattle.rules.specs.LeastSets.{held-stored, void-stored}
-use Rattle.keys.specs.ListLaws.{all-or}
+use Rattle.bytes_order.specs.ListLaws.{all-or}
 
 -- every predecessor of u that is in the set is held
 abbrev pub PredsHeld : (Update → Id) → List Update → Update → Type 0

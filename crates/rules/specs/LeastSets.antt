@@ -4,8 +4,8 @@ use mathlib.Core.Path.{_≡_, refl, sym, _∙_, ap}
 use mathlib.Core.Logic.{_⊎_, inl, inr, ⊎-elim}
 use mathlib.Core.Bool.{true≢false}
 use mathlib.Core.List.{List}
-use Rattle.keys.specs.Member.{_∈_}
-use Rattle.format.specs.Update.{Id, Update}
+use Rattle.bytes_order.specs.Member.{_∈_}
+use Rattle.update_format.specs.Update.{Id, Update}
 use Rattle.rules.specs.Standing.{Ancestor, Known, Held, Void, Waiting}
 use Rattle.rules.specs.Settle.{Verdict, held, waiting, void, isWaiting}
 

@@ -6,21 +6,21 @@ use mathlib.Core.Path.{_≡_, refl, sym, _∙_, ap, subst}
 use mathlib.Core.Logic.{_⊎_, inl, inr, ⊎-elim}
 use mathlib.Core.List.{List, _∷_, tail-eq-of-cons-eq, List·Memᴰ·head, List·Memᴰ·tail, List·Memᴰ·not-nil}
 use mathlib.Core.Bool.{Bool, true, not, _&&_}
-use Rattle.keys.specs.Order.{same}
-use Rattle.keys.specs.Member.{_∈_, keep, concatMap}
-use Rattle.keys.specs.MemberLaws.{∈-cases, ∈-cast, ∈-reverse, reverse-∈, ∈-concatMap, concatMap-∈}
-use Rattle.keys.specs.BoolLaws.{true-false, and-true→, and-true}
-use Rattle.keys.specs.OrderLaws.{same→eq, eq→same, decEq}
-use Rattle.keys.specs.Distinct.{Distinct, distinct-nil, distinct-cons, Identifies}
-use Rattle.keys.specs.DistinctLaws.{distinct-append}
-use Rattle.keys.specs.Sort.{sort}
-use Rattle.keys.specs.SortLaws.{sort-∈, ∈-sort, sort-distinct}
-use Rattle.format.specs.Update.{Id, Insert, Update}
+use Rattle.bytes_order.specs.Order.{same}
+use Rattle.bytes_order.specs.Member.{_∈_, keep, concatMap}
+use Rattle.bytes_order.specs.MemberLaws.{∈-cases, ∈-cast, ∈-reverse, reverse-∈, ∈-concatMap, concatMap-∈}
+use Rattle.bytes_order.specs.BoolLaws.{true-false, and-true→, and-true}
+use Rattle.bytes_order.specs.OrderLaws.{same→eq, eq→same, decEq}
+use Rattle.bytes_order.specs.Distinct.{Distinct, distinct-nil, distinct-cons, Identifies}
+use Rattle.bytes_order.specs.DistinctLaws.{distinct-append}
+use Rattle.bytes_order.specs.Sort.{sort}
+use Rattle.bytes_order.specs.SortLaws.{sort-∈, ∈-sort, sort-distinct}
+use Rattle.update_format.specs.Update.{Id, Insert, Update}
 use Rattle.rules.specs.Standing.{beginning, InsertAncestor}
 use Rattle.rules.specs.Settle.{Row, Table, heldRow, rank, anchored, siblings, under, walk, siblingKey}
 use Rattle.rules.specs.Decides.{Decides}
 use Rattle.rules.specs.LeastSets.{held-ancestors}
-use Rattle.keys.specs.ListLaws.{distinct-reverse, distinct-rekey}
+use Rattle.bytes_order.specs.ListLaws.{distinct-reverse, distinct-rekey}
 use Rattle.rules.specs.TableLaws.{not-true→, not-true, anchored→, →anchored, insert-anchor, HeldRow, keep-held→, →keep-held, row-eq, row-held, row-id, held-row, rank-less, anchor-above}
 
 -- a held Insert

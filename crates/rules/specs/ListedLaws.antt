@@ -6,16 +6,16 @@ use mathlib.Core.Logic.{_⊎_, inl, inr, ⊎-elim}
 use mathlib.Core.List.{List, [], _∷_, _++_, reverseAux, map-append, List·Memᴰ·head, List·Memᴰ·tail, List·Memᴰ·not-nil}
 use mathlib.Core.Bool.{Bool, true, false, cond, not, _&&_}
 use lib.ListN.{length}
-use Rattle.keys.specs.Order.{before}
-use Rattle.keys.specs.Member.{_∈_, keep, concatMap, SameMembers}
-use Rattle.keys.specs.MemberLaws.{∈-cases, ∈-cast, ∈-map, map-∈}
-use Rattle.keys.specs.BoolLaws.{true-false}
-use Rattle.keys.specs.OrderLaws.{same→eq, eq→same, before-asym}
-use Rattle.keys.specs.Distinct.{Distinct}
-use Rattle.keys.specs.DistinctLaws.{distinct-same-length}
-use Rattle.keys.specs.Ascending.{Ascending, ascending-nil, ascending-cons}
-use Rattle.keys.specs.SortLaws.{sort-∈, sort-ascending}
-use Rattle.format.specs.Update.{Id, Delete, Update}
+use Rattle.bytes_order.specs.Order.{before}
+use Rattle.bytes_order.specs.Member.{_∈_, keep, concatMap, SameMembers}
+use Rattle.bytes_order.specs.MemberLaws.{∈-cases, ∈-cast, ∈-map, map-∈}
+use Rattle.bytes_order.specs.BoolLaws.{true-false}
+use Rattle.bytes_order.specs.OrderLaws.{same→eq, eq→same, before-asym}
+use Rattle.bytes_order.specs.Distinct.{Distinct}
+use Rattle.bytes_order.specs.DistinctLaws.{distinct-same-length}
+use Rattle.bytes_order.specs.Ascending.{Ascending, ascending-nil, ascending-cons}
+use Rattle.bytes_order.specs.SortLaws.{sort-∈, sort-ascending}
+use Rattle.update_format.specs.Update.{Id, Delete, Update}
 use Rattle.rules.specs.Standing.{beginning}
 use Rattle.rules.specs.ReadOff.{Deleted, Rank, InsertAt, Sooner, Ordered, Siblings, First, Under, Walk, Shown}
 use Rattle.rules.specs.Settle.{Row, Table, heldRow, rank, anchored, siblings, under, walk, deletes, deleted, valuesOf, siblingKey, updatesIn}

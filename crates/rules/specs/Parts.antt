@@ -1,9 +1,9 @@
 -- The parts of the report, and what it is for them to be those of a set of updates, by `Standing` and `ReadOff` alone.
 use Prim.Native.Nat.{ℕ}
 use mathlib.Core.List.{List, [], _∷_}
-use Rattle.keys.specs.Member.{_∈_}
-use Rattle.keys.specs.Ascending.{Ascending}
-use Rattle.format.specs.Update.{Id, Update}
+use Rattle.bytes_order.specs.Member.{_∈_}
+use Rattle.bytes_order.specs.Ascending.{Ascending}
+use Rattle.update_format.specs.Update.{Id, Update}
 use Rattle.rules.specs.Standing.{Held, Void, Waiting}
 use Rattle.rules.specs.ReadOff.{Head, Marked, Present, Listed}
 

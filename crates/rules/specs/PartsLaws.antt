@@ -4,14 +4,14 @@ use Prim.Native.Nat.{ℕ}
 use mathlib.Core.Path.{_≡_, refl, sym, subst, subst₂}
 use mathlib.Core.List.{List, [], _∷_}
 use mathlib.Core.Bool.{Bool, true, not, _&&_}
-use Rattle.keys.specs.Order.{before}
-use Rattle.keys.specs.Member.{_∈_, keep}
-use Rattle.keys.specs.MemberLaws.{∈-cast, ∈-map, map-∈, ∈-keep, keep-∈}
-use Rattle.keys.specs.Distinct.{Distinct}
-use Rattle.keys.specs.Ascending.{Ascending}
-use Rattle.keys.specs.SortLaws.{ascending-distinct, ascending-keep, ascending-rekey, ascending-unique, sort-ascending}
-use Rattle.keys.specs.ListLaws.{ascending-map}
-use Rattle.format.specs.Update.{Id, Update}
+use Rattle.bytes_order.specs.Order.{before}
+use Rattle.bytes_order.specs.Member.{_∈_, keep}
+use Rattle.bytes_order.specs.MemberLaws.{∈-cast, ∈-map, map-∈, ∈-keep, keep-∈}
+use Rattle.bytes_order.specs.Distinct.{Distinct}
+use Rattle.bytes_order.specs.Ascending.{Ascending}
+use Rattle.bytes_order.specs.SortLaws.{ascending-distinct, ascending-keep, ascending-rekey, ascending-unique, sort-ascending}
+use Rattle.bytes_order.specs.ListLaws.{ascending-map}
+use Rattle.update_format.specs.Update.{Id, Update}
 use Rattle.rules.specs.Standing.{Held, Void, Waiting}
 use Rattle.rules.specs.ReadOff.{Head, Marked, Present}
 use Rattle.rules.specs.Parts.{Parts, Exactly, ReadFrom}

@@ -4,10 +4,10 @@ use mathlib.Core.List.{List, [], _∷_, _++_}
 use Prim.Native.Nat.{ℕ}
 use mathlib.Core.Bool.{true}
 use lib.ListN.{length}
-use Rattle.keys.specs.Order.{before}
-use Rattle.keys.specs.Member.{_∈_}
-use Rattle.keys.specs.Distinct.{Distinct}
-use Rattle.format.specs.Update.{Id, Add, Remove, Insert, Delete, Update}
+use Rattle.bytes_order.specs.Order.{before}
+use Rattle.bytes_order.specs.Member.{_∈_}
+use Rattle.bytes_order.specs.Distinct.{Distinct}
+use Rattle.update_format.specs.Update.{Id, Add, Remove, Insert, Delete, Update}
 use Rattle.rules.specs.Standing.{beginning, Ancestor, Held}
 
 module _ (ident : Update → Id) (S : List Update) where

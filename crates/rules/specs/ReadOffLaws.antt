@@ -7,14 +7,14 @@ use mathlib.Core.Bool.{Bool, true, not, _&&_}
 use lib.ListN.{length}
 use lib.Dec.{eqb}
 use borrow.Author.Tests.{eqb-true, eq-eqb}
-use Rattle.keys.specs.Order.{same}
-use Rattle.keys.specs.Member.{_∈_, member, keep, any, concatMap}
-use Rattle.keys.specs.MemberLaws.{∈-cast, ∈-map, map-∈, member→∈, ∈→member, ∈-concatMap, concatMap-∈}
-use Rattle.keys.specs.BoolLaws.{true-false}
-use Rattle.keys.specs.OrderLaws.{same→eq, eq→same}
-use Rattle.keys.specs.SortLaws.{sort-∈, ∈-sort}
-use Rattle.keys.specs.Distinct.{Distinct}
-use Rattle.format.specs.Update.{Id, Update}
+use Rattle.bytes_order.specs.Order.{same}
+use Rattle.bytes_order.specs.Member.{_∈_, member, keep, any, concatMap}
+use Rattle.bytes_order.specs.MemberLaws.{∈-cast, ∈-map, map-∈, member→∈, ∈→member, ∈-concatMap, concatMap-∈}
+use Rattle.bytes_order.specs.BoolLaws.{true-false}
+use Rattle.bytes_order.specs.OrderLaws.{same→eq, eq→same}
+use Rattle.bytes_order.specs.SortLaws.{sort-∈, ∈-sort}
+use Rattle.bytes_order.specs.Distinct.{Distinct}
+use Rattle.update_format.specs.Update.{Id, Update}
 use Rattle.rules.specs.Standing.{beginning, Ancestor, Held}
 use Rattle.rules.specs.ReadOff.{Head, Marked, Removed, Present, Rank, InsertAt, Walk, Shown, Listed}
 use Rattle.rules.specs.Settle.{Row, Table, held, heldRow, covered, heads, forkedBy, marks, removed, names, tagsOf, tags, list, entries, rank, updatesIn}

@@ -5,8 +5,8 @@ use Prim.Native.Char.{code}
 use mathlib.Core.List.{List, [], _∷_, _++_}
 use mathlib.Core.Bool.{cond}
 use lib.Dec.{ltb}
-use Rattle.keys.specs.Member.{concatMap}
-use Rattle.format.specs.Update.{Id, Update}
+use Rattle.bytes_order.specs.Member.{concatMap}
+use Rattle.update_format.specs.Update.{Id, Update}
 use Rattle.rules.specs.Parts.{Parts}
 use Rattle.rules.specs.Settle.{partsOf}
 

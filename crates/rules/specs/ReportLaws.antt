@@ -6,13 +6,13 @@ use mathlib.Core.List.{List, [], map}
 use Prim.Native.Nat.{_≤_}
 use native.Mathlib.Omega.{arith}
 use lib.ListN.{length, length-map}
-use Rattle.keys.specs.Member.{_∈_, SameMembers, keep, concatMap}
-use Rattle.keys.specs.MemberLaws.{∈-cast, ∈-map, map-∈}
-use Rattle.keys.specs.Distinct.{Distinct}
-use Rattle.keys.specs.DistinctLaws.{distinct-identifies, distinct-same-length, distinct-length}
-use Rattle.keys.specs.Sort.{sort}
-use Rattle.keys.specs.SortLaws.{same-sort}
-use Rattle.format.specs.Update.{Id, idLength, Update, Bounded}
+use Rattle.bytes_order.specs.Member.{_∈_, SameMembers, keep, concatMap}
+use Rattle.bytes_order.specs.MemberLaws.{∈-cast, ∈-map, map-∈}
+use Rattle.bytes_order.specs.Distinct.{Distinct}
+use Rattle.bytes_order.specs.DistinctLaws.{distinct-identifies, distinct-same-length, distinct-length}
+use Rattle.bytes_order.specs.Sort.{sort}
+use Rattle.bytes_order.specs.SortLaws.{same-sort}
+use Rattle.update_format.specs.Update.{Id, idLength, Update, Bounded}
 use Rattle.rules.specs.Standing.{Held, Void, Waiting}
 use Rattle.rules.specs.Parts.{Parts, ReadFrom}
 use Rattle.rules.specs.Settle.{isInsert, rounds, start, startAll, settled, heads, marks, tags, walk, entries, list, partsIn, partsOf}

@@ -10,13 +10,13 @@ use mathlib.Core.Bool.{Bool, true, false, cond}
 use lib.ListN.{length, length-append, length-map}
 use lib.Dec.{ltb}
 use borrow.Author.Tests.{lt-ltb}
-use Rattle.keys.specs.Member.{_∈_, keep, concatMap}
-use Rattle.keys.specs.MemberLaws.{∈-singleton, map-∈, ∈-keep, keep-∈, keep-length, concatMap-∈}
-use Rattle.keys.specs.Distinct.{Distinct}
-use Rattle.keys.specs.DistinctLaws.{distinct-length, distinct-subset-length}
-use Rattle.keys.specs.SortLaws.{sort-∈, sort-length, sort-distinct}
-use Rattle.format.specs.Update.{Id, idLength, tagLength, maxAuthor, Operation, Add, Remove, Insert, Delete, BoundedOperation, add, remove, insert, delete, Update, Bounded}
-use Rattle.keys.specs.ListLaws.{concatMap-length, keep-concatMap-length}
+use Rattle.bytes_order.specs.Member.{_∈_, keep, concatMap}
+use Rattle.bytes_order.specs.MemberLaws.{∈-singleton, map-∈, ∈-keep, keep-∈, keep-length, concatMap-∈}
+use Rattle.bytes_order.specs.Distinct.{Distinct}
+use Rattle.bytes_order.specs.DistinctLaws.{distinct-length, distinct-subset-length}
+use Rattle.bytes_order.specs.SortLaws.{sort-∈, sort-length, sort-distinct}
+use Rattle.update_format.specs.Update.{Id, idLength, tagLength, maxAuthor, Operation, Add, Remove, Insert, Delete, BoundedOperation, add, remove, insert, delete, Update, Bounded}
+use Rattle.bytes_order.specs.ListLaws.{concatMap-length, keep-concatMap-length}
 use Rattle.rules.specs.Settle.{Row, Table, Verdict, held, waiting, void, isHeld, isWaiting, isVoid, isInsert, heads, marks, tagsOf, tags, entries, valuesOf, list, updatesIn, partsIn}
 use Rattle.rules.specs.Report.{codes, ascii, digit, hexByte, hex, decimalIn, decimal, updateLine, bytesLine, idLine, markLine, part, reportText}
 

@@ -5,10 +5,10 @@ use mathlib.Core.List.{List, [], _∷_, map, reverse}
 use mathlib.Core.Bool.{Bool, true, false, not, _&&_, _||_}
 use lib.ListN.{length}
 use lib.Dec.{eqb}
-use Rattle.keys.specs.Order.{same}
-use Rattle.keys.specs.Member.{member, keep, any, all, concatMap}
-use Rattle.keys.specs.Sort.{sort}
-use Rattle.format.specs.Update.{Id, Operation, Add, Remove, Insert, Delete, Update}
+use Rattle.bytes_order.specs.Order.{same}
+use Rattle.bytes_order.specs.Member.{member, keep, any, all, concatMap}
+use Rattle.bytes_order.specs.Sort.{sort}
+use Rattle.update_format.specs.Update.{Id, Operation, Add, Remove, Insert, Delete, Update}
 use Rattle.rules.specs.Standing.{beginning}
 use Rattle.rules.specs.Parts.{Parts}
 

@@ -6,22 +6,22 @@ use mathlib.Core.Logic.{_⊎_, inl, inr, ⊎-elim}
 use mathlib.Core.List.{List, [], _∷_}
 use mathlib.Core.Bool.{Bool, true, false, cond}
 use lib.ListN.{length, length-map}
-use Rattle.keys.specs.Order.{same}
-use Rattle.keys.specs.Member.{_∈_}
-use Rattle.keys.specs.Distinct.{Distinct, distinct-nil, distinct-cons}
-use Rattle.keys.specs.BoolLaws.{true-false}
-use Rattle.keys.specs.OrderLaws.{eq→same, ne→same-false}
-use Rattle.keys.specs.Sort.{sort}
-use Rattle.keys.specs.Ascending.{Ascending}
-use Rattle.keys.specs.MemberLaws.{∈-cases, ∈-cast, ∈-map, map-∈, keep-length, ∈→any, ∈→all}
-use Rattle.keys.specs.DistinctLaws.{distinct-eq, distinct-identifies, distinct-map}
-use Rattle.keys.specs.SortLaws.{sort-∈, ∈-sort, sort-ascending, sort-distinct, sort-length}
-use Rattle.format.specs.Update.{Id, Update}
+use Rattle.bytes_order.specs.Order.{same}
+use Rattle.bytes_order.specs.Member.{_∈_}
+use Rattle.bytes_order.specs.Distinct.{Distinct, distinct-nil, distinct-cons}
+use Rattle.bytes_order.specs.BoolLaws.{true-false}
+use Rattle.bytes_order.specs.OrderLaws.{eq→same, ne→same-false}
+use Rattle.bytes_order.specs.Sort.{sort}
+use Rattle.bytes_order.specs.Ascending.{Ascending}
+use Rattle.bytes_order.specs.MemberLaws.{∈-cases, ∈-cast, ∈-map, map-∈, keep-length, ∈→any, ∈→all}
+use Rattle.bytes_order.specs.DistinctLaws.{distinct-eq, distinct-identifies, distinct-map}
+use Rattle.bytes_order.specs.SortLaws.{sort-∈, ∈-sort, sort-ascending, sort-distinct, sort-length}
+use Rattle.update_format.specs.Update.{Id, Update}
 use Rattle.rules.specs.Standing.{Held, Void, Waiting}
 use Rattle.rules.specs.Settle.{Verdict, held, waiting, void, Row, Table, isWaiting, heldIn, voidIn, ruled, judge, round, rounds, start, startAll, settled}
 use Rattle.rules.specs.Decides.{Decides}
 use Rattle.rules.specs.LeastSets.{Sound, Stable, settled-waiting}
-use Rattle.keys.specs.ListLaws.{count, map-lowers, ascending-map}
+use Rattle.bytes_order.specs.ListLaws.{count, map-lowers, ascending-map}
 use Rattle.rules.specs.SettlingTable.{SoundRow, SoundTable, Undecided, Outcome, stays, rules, judge-outcome, judge-id}
 use Rattle.rules.specs.SettlingTable.{round-sound, held-in, void-in, row-of, right-as}
 

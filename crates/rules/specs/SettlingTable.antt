@@ -5,14 +5,14 @@ use mathlib.Core.Logic.{_⊎_, inl, inr, ⊎-elim}
 use mathlib.Core.List.{List, [], map}
 use mathlib.Core.Bool.{Bool, true, false, not, _&&_, _||_, true≢false, false≢true}
 use Prim.Native.Nat.{ℕ}
-use Rattle.keys.specs.Order.{same}
-use Rattle.keys.specs.Member.{_∈_, member, keep, any, all}
-use Rattle.keys.specs.Distinct.{Distinct}
-use Rattle.keys.specs.BoolLaws.{true-false, not-true→false, or-true→, or-left, or-right, and-true→, and-true}
-use Rattle.keys.specs.OrderLaws.{same→eq, eq→same}
-use Rattle.keys.specs.MemberLaws.{∈-cast, ∈-map, map-∈, ∈→member, member→∈, ∈-keep, keep-∈, any→∈, ∈→any, all→∈, ∈→all}
-use Rattle.keys.specs.DistinctLaws.{distinct-eq, distinct-keep, distinct-keys, distinct-map}
-use Rattle.format.specs.Update.{Id, Operation, Add, Remove, Insert, Delete, Update}
+use Rattle.bytes_order.specs.Order.{same}
+use Rattle.bytes_order.specs.Member.{_∈_, member, keep, any, all}
+use Rattle.bytes_order.specs.Distinct.{Distinct}
+use Rattle.bytes_order.specs.BoolLaws.{true-false, not-true→false, or-true→, or-left, or-right, and-true→, and-true}
+use Rattle.bytes_order.specs.OrderLaws.{same→eq, eq→same}
+use Rattle.bytes_order.specs.MemberLaws.{∈-cast, ∈-map, map-∈, ∈→member, member→∈, ∈-keep, keep-∈, any→∈, ∈→any, all→∈, ∈→all}
+use Rattle.bytes_order.specs.DistinctLaws.{distinct-eq, distinct-keep, distinct-keys, distinct-map}
+use Rattle.update_format.specs.Update.{Id, Operation, Add, Remove, Insert, Delete, Update}
 use Rattle.rules.specs.Standing.{beginning, Ancestor, InsertAncestor, Valid, Known, Fine, Held, Void}
 use Rattle.rules.specs.Settle.{Verdict, held, waiting, void, Row, Table, isHeld, isWaiting, isVoid, isAdd, isInsert, heldIn, voidIn}
 use Rattle.rules.specs.Settle.{addIn, insertIn, aboveIn, ancestorsOf, antichain, validOp, fineBy, ruled, judgeFine, judgeKnown, judgeBy, judgeFrom, judge, round}

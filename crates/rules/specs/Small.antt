@@ -12,10 +12,10 @@ use Prim.Native.Nat.{ℕ}
 use mathlib.Core.Path.{_≡_, refl}
 use mathlib.Core.List.{List, [], _∷_, map, _++_}
 use mathlib.Core.Bool.{Bool, true, cond, not, _&&_}
-use Rattle.keys.specs.Order.{same, before}
-use Rattle.keys.specs.Member.{member, keep, any, all, concatMap}
-use Rattle.keys.specs.Sort.{insert, sort}
-use Rattle.format.specs.Update.{Id, Operation, Add, Remove, Insert, Delete, Update, encode, encodeOperation}
+use Rattle.bytes_order.specs.Order.{same, before}
+use Rattle.bytes_order.specs.Member.{member, keep, any, all, concatMap}
+use Rattle.bytes_order.specs.Sort.{insert, sort}
+use Rattle.update_format.specs.Update.{Id, Operation, Add, Remove, Insert, Delete, Update, encode, encodeOperation}
 use Rattle.rules.specs.Standing.{beginning}
 use Rattle.rules.specs.Parts.{Parts}
 use Rattle.rules.specs.Settle.{isHeld, isWaiting, isVoid, isAdd, isInsert, heldIn, voidIn, addIn, insertIn, aboveIn, ancestorsOf, antichain, validOp, fineBy, ruled, judgeFine, judgeKnown, judgeBy, judgeFrom, judge, round, rounds, start, startAll, settled, heldRow, covered, heads, forkedBy, marks, names, removed, tagsOf, tags, rank, anchored, siblings, under, walk, entries, deletes, deleted, valuesOf, list, partsIn, partsOf}

@@ -5,10 +5,10 @@ use mathlib.Core.Logic.{⊎-elim}
 use mathlib.Core.List.{List, [], _∷_, map, head-eq-of-cons-eq, tail-eq-of-cons-eq, List·Memᴰ·not-nil}
 use mathlib.Core.Bool.{true, not}
 use Prim.Native.Nat.{ℕ}
-use Rattle.keys.specs.Member.{_∈_, member}
-use Rattle.keys.specs.MemberLaws.{∈-cases, ∈-cast, ∈-map, member-false→, all→∈}
-use Rattle.keys.specs.BoolLaws.{and-true→}
-use Rattle.keys.specs.Distinct.{Distinct, distinct-nil, distinct-cons}
+use Rattle.bytes_order.specs.Member.{_∈_, member}
+use Rattle.bytes_order.specs.MemberLaws.{∈-cases, ∈-cast, ∈-map, member-false→, all→∈}
+use Rattle.bytes_order.specs.BoolLaws.{and-true→}
+use Rattle.bytes_order.specs.Distinct.{Distinct, distinct-nil, distinct-cons}
 use Rattle.rules.specs.Parts.{ReadFrom}
 use Rattle.rules.specs.Settle.{partsOf}
 use Rattle.rules.specs.Small.{Small, identOf, setOf, table, computed, apart, ids-apart}

@@ -5,8 +5,8 @@ use mathlib.Core.Logic.{_⊎_}
 use mathlib.Core.List.{List}
 use Prim.Native.Nat.{ℕ}
 use lib.ListN.{replicate}
-use Rattle.keys.specs.Member.{_∈_}
-use Rattle.format.specs.Update.{Id, idLength, Operation, Add, Remove, Insert, Delete, Update}
+use Rattle.bytes_order.specs.Member.{_∈_}
+use Rattle.update_format.specs.Update.{Id, idLength, Operation, Add, Remove, Insert, Delete, Update}
 
 -- "An anchor of 32 zero bytes means the list's beginning; elsewhere a zero id is an ordinary id."
 abbrev pub beginning : Id

@@ -5,13 +5,13 @@ use mathlib.Core.Logic.{_⊎_}
 use mathlib.Core.List.{List, [], _∷_, map, List·Memᴰ·head, List·Memᴰ·not-nil}
 use mathlib.Core.Bool.{Bool, true, false, not, _&&_, false≢true}
 use lib.ListN.{length, length-map}
-use Rattle.keys.specs.Member.{_∈_, keep, any}
-use Rattle.keys.specs.MemberLaws.{∈-cast, ∈-singleton, ∈-map, ∈-keep, keep-∈, any→∈, ∈→any, member→∈, ∈→member}
-use Rattle.keys.specs.BoolLaws.{not-true→false, and-true→, and-true}
-use Rattle.keys.specs.OrderLaws.{same→eq, eq→same}
-use Rattle.keys.specs.Distinct.{Distinct}
-use Rattle.keys.specs.DistinctLaws.{distinct-eq, distinct-length-lt}
-use Rattle.format.specs.Update.{Id, Operation, Add, Remove, Insert, Delete, Update}
+use Rattle.bytes_order.specs.Member.{_∈_, keep, any}
+use Rattle.bytes_order.specs.MemberLaws.{∈-cast, ∈-singleton, ∈-map, ∈-keep, keep-∈, any→∈, ∈→any, member→∈, ∈→member}
+use Rattle.bytes_order.specs.BoolLaws.{not-true→false, and-true→, and-true}
+use Rattle.bytes_order.specs.OrderLaws.{same→eq, eq→same}
+use Rattle.bytes_order.specs.Distinct.{Distinct}
+use Rattle.bytes_order.specs.DistinctLaws.{distinct-eq, distinct-length-lt}
+use Rattle.update_format.specs.Update.{Id, Operation, Add, Remove, Insert, Delete, Update}
 use Rattle.rules.specs.Standing.{beginning, Ancestor, Fine, Held, Valid, InsertAncestor}
 use Rattle.rules.specs.ReadOff.{Rank}
 use Rattle.rules.specs.Settle.{Verdict, held, waiting, void, Row, Table, isHeld, heldRow, rank, tagsOf, names, deletes, anchored, valuesOf}

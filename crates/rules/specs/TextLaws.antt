@@ -8,9 +8,9 @@ use mathlib.Core.List.{List, [], _∷_, _++_, map, append-assoc, append-cancel-l
 use mathlib.Core.Bool.{Bool, true, false, cond}
 use lib.Dec.{ltb}
 use borrow.Author.Tests.{ltb-true}
-use Rattle.keys.specs.Member.{_∈_, concatMap}
-use Rattle.keys.specs.MemberLaws.{∈-cases, append-∈}
-use Rattle.format.specs.Update.{Id, Update}
+use Rattle.bytes_order.specs.Member.{_∈_, concatMap}
+use Rattle.bytes_order.specs.MemberLaws.{∈-cases, append-∈}
+use Rattle.update_format.specs.Update.{Id, Update}
 use Rattle.rules.specs.Parts.{Parts}
 use Rattle.rules.specs.Report.{codes, ascii, digit, hexByte, hex, decimalIn, decimal, updateLine, bytesLine, idLine, part, reportText}
 

@@ -4,10 +4,10 @@ use mathlib.Core.List.{List, [], _∷_, _++_, map, reverse}
 use mathlib.Core.Bool.{Bool, cond, not, _&&_, _||_}
 use lib.ListN.{length, take}
 use lib.Dec.{leb, eqb}
-use Rattle.keys.specs.Order.{same}
-use Rattle.keys.specs.Member.{member, keep}
-use Rattle.keys.specs.Sort.{sort}
-use Rattle.format.specs.Update.{Id, maxPredecessors, Operation, Update}
+use Rattle.bytes_order.specs.Order.{same}
+use Rattle.bytes_order.specs.Member.{member, keep}
+use Rattle.bytes_order.specs.Sort.{sort}
+use Rattle.update_format.specs.Update.{Id, maxPredecessors, Operation, Update}
 use Rattle.rules.specs.Settle.{Row, Table, heldRow, heads, rankKey, ancestorsOf, validOp, settled}
 
 -- the held updates of an author

@@ -5,13 +5,13 @@ use Prim.Native.Nat.{ℕ, _≤_}
 use mathlib.Core.List.{List, [], _∷_, _++_, List·Memᴰ·head, List·Memᴰ·not-nil}
 use mathlib.Core.Bool.{true, false}
 use lib.ListN.{length, length-map}
-use Rattle.keys.specs.Member.{_∈_}
-use Rattle.keys.specs.BoolLaws.{true-false}
-use Rattle.keys.specs.MemberLaws.{∈-singleton, ∈-cast, ∈-append-right, ∈-map, map-∈}
-use Rattle.keys.specs.Distinct.{Distinct, distinct-nil, distinct-cons}
-use Rattle.keys.specs.DistinctLaws.{distinct-eq, distinct-append}
-use Rattle.keys.specs.SortLaws.{Ascending→ascending}
-use Rattle.format.specs.Update.{Id, idLength, maxAuthor, maxPredecessors, Operation, Add, Update, Bounded, BoundedOperation}
+use Rattle.bytes_order.specs.Member.{_∈_}
+use Rattle.bytes_order.specs.BoolLaws.{true-false}
+use Rattle.bytes_order.specs.MemberLaws.{∈-singleton, ∈-cast, ∈-append-right, ∈-map, map-∈}
+use Rattle.bytes_order.specs.Distinct.{Distinct, distinct-nil, distinct-cons}
+use Rattle.bytes_order.specs.DistinctLaws.{distinct-eq, distinct-append}
+use Rattle.bytes_order.specs.SortLaws.{Ascending→ascending}
+use Rattle.update_format.specs.Update.{Id, idLength, maxAuthor, maxPredecessors, Operation, Add, Update, Bounded, BoundedOperation}
 use Rattle.rules.specs.Standing.{Ancestor, Known, Fine, Held, Void}
 use Rattle.rules.specs.ReadOff.{Head, Marked}
 use Rattle.rules.specs.Settle.{Verdict, held, waiting, void, Row, Table, settled, heads, validOp}

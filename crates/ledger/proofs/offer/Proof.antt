@@ -3,7 +3,7 @@ use mathlib.Core.Path.{sym, _∙_}
 use borrow.Author.Needs.{needs}
 use borrow.Author.Tests.{not-true, not-false}
 use denote.Ref.{now}
-use Rattle.offering.proofs.OfferLaws.{offered-unfit, offered-malformed, read-formed}
+use Rattle.ledger_offering.proofs.OfferLaws.{offered-unfit, offered-malformed, read-formed}
 use Rattle.ledger.proofs.offer.Statement.{statement}
 use Rattle.ledger.proofs.offer.Tie as tie
 

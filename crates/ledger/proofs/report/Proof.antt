@@ -3,8 +3,8 @@ use mathlib.Core.Path.{sym, _∙_}
 use borrow.Author.Needs.{needs}
 use borrow.Author.Tests.{not-true, not-false}
 use denote.Ref.{now}
-use Rattle.state.specs.View.{bookOf}
-use Rattle.state.specs.Row1Laws.{sound→}
+use Rattle.ledger_state.specs.View.{bookOf}
+use Rattle.ledger_state.specs.Row1Laws.{sound→}
 use Rattle.ledger.specs.Report.{unfit}
 use Rattle.ledger.proofs.ReportLaws.{reported-short, reported-written}
 use Rattle.ledger.proofs.report.Statement.{statement}

@@ -5,11 +5,11 @@ use native.Mathlib.Omega.{arith}
 use borrow.Author.Needs.{needs}
 use borrow.Author.Tests.{not-true, not-false}
 use denote.Ref.{now}
-use Rattle.state.specs.View.{bookOf}
-use Rattle.state.specs.State.{findIn}
-use Rattle.state.specs.Row1Laws.{sound→}
-use Rattle.state.specs.FindLaws.{find-taken}
-use Rattle.state.proofs.FindLaws.{found-at, found-nowhere}
+use Rattle.ledger_state.specs.View.{bookOf}
+use Rattle.ledger_state.specs.State.{findIn}
+use Rattle.ledger_state.specs.Row1Laws.{sound→}
+use Rattle.ledger_state.specs.FindLaws.{find-taken}
+use Rattle.ledger_state.proofs.FindLaws.{found-at, found-nowhere}
 use Rattle.ledger.proofs.AskLaws.{asked-unfit, asked-at, asked-nowhere}
 use Rattle.ledger.proofs.standing.Statement.{statement}
 use Rattle.ledger.proofs.standing.Tie as tie

@@ -3,7 +3,7 @@ use mathlib.Core.Path.{_≡_, sym, _∙_}
 use mathlib.Core.Bool.{Bool, true, false, not}
 use borrow.Author.Needs.{needs}
 use borrow.Author.Tests.{not-true, not-false}
-use Rattle.writing.specs.Write.{unfit, author, layout, unordered}
+use Rattle.write_asking.specs.Write.{unfit, author, layout, unordered}
 use Rattle.ledger.proofs.write.Statement.{statement}
 use Rattle.ledger.proofs.write.Tie as tie
 

@@ -1,0 +1,100 @@
+// Answers: what is printed for a line.
+ghost use Prim.Native.Nat.{_+_, _≤_, _<_};
+ghost use lib.ListN.{length};
+ghost use Rattle.bytes_print.specs.Page.{Prints};
+ghost use Rattle.ledger_offering.specs.Values.{offerValues};
+ghost use Rattle.ledger_offering.specs.Words.{standingWord, answerText};
+ghost use Rattle.ledger_offering.specs.declared.Answer.the-variants.{Taken, Known, Refused};
+ghost use Rattle.command_answers.specs.Answers.{maxAnswer, Printable, Begins};
+use bytes_print::digits::decimal;
+use bytes_print::put;
+use command_syntax::Line;
+use command_syntax::read_line;
+use command_syntax::unhex;
+use ledger_offering::Answer;
+use ledger_refusals::Refusal;
+use ledger_state::Standing;
+
+// What a line comes to before any offer: it is not read, and its answer takes so many bytes; or it offers so many bytes.
+pub enum Begun {
+    Unread(usize),
+    Offers(usize),
+}
+
+// The word of a standing.
+fn print_standing(page: &mut [u8], at: usize, standing: Standing) -> usize
+    requires { ⌜ at ≤ 100 ⌝ }
+    ensures prints { λ r. ⌜ Prints (now (page .entry)) at (standingWord standing) (now (page .exit)) r ⌝ }
+    ensures small { λ r. ⌜ r ≤ at + 7 ⌝ }
+{
+    match standing {
+        Standing::Held => put(page, at, b"held"),
+        Standing::Waiting => put(page, at, b"waiting"),
+        Standing::Void => put(page, at, b"void"),
+    }
+}
+
+// The answer of an update that took a place.
+fn print_taken(page: &mut [u8], standing: Standing, held: usize, void: usize) -> usize
+    requires { ⌜ (held < 100) × (void < 100) ⌝ }
+    ensures prints { λ r. ⌜ Prints (now (page .entry)) 0 (answerText (Taken standing held void)) (now (page .exit)) r ⌝ }
+    ensures small { λ r. ⌜ r ≤ maxAnswer ⌝ }
+{
+    let mut at = put(page, 0, b"(taken ");
+    at = print_standing(page, at, standing);
+    at = put(page, at, b" ");
+    at = decimal(page, at, held as u8);
+    at = put(page, at, b" ");
+    at = decimal(page, at, void as u8);
+    put(page, at, b")\n")
+}
+
+// The answer of an update that was stored before.
+fn print_known(page: &mut [u8], standing: Standing) -> usize
+    ensures prints { λ r. ⌜ Prints (now (page .entry)) 0 (answerText (Known standing)) (now (page .exit)) r ⌝ }
+    ensures small { λ r. ⌜ r ≤ maxAnswer ⌝ }
+{
+    let mut at = put(page, 0, b"(known ");
+    at = print_standing(page, at, standing);
+    put(page, at, b")\n")
+}
+
+// The answer of an offer that was refused.
+fn print_refused(page: &mut [u8], refusal: Refusal) -> usize
+    ensures prints { λ r. ⌜ Prints (now (page .entry)) 0 (answerText (Refused refusal)) (now (page .exit)) r ⌝ }
+    ensures small { λ r. ⌜ r ≤ maxAnswer ⌝ }
+{
+    let mut at = put(page, 0, b"(refused ");
+    at = decimal(page, at, refusal.number());
+    put(page, at, b")\n")
+}
+
+// The text of an answer.
+pub fn print_answer(page: &mut [u8], answer: Answer) -> usize
+    requires { ⌜ Printable (offerValues answer) ⌝ }
+    ensures prints { λ r. ⌜ Prints (now (page .entry)) 0 (answerText answer) (now (page .exit)) r ⌝ }
+    ensures small { λ r. ⌜ r ≤ maxAnswer ⌝ }
+{
+    match answer {
+        Answer::Taken {
+            standing,
+            held,
+            void,
+        } => print_taken(page, standing, held, void),
+        Answer::Known(standing) => print_known(page, standing),
+        Answer::Refused(refusal) => print_refused(page, refusal),
+    }
+}
+
+// Begins the answer to a line of so many bytes: prints `(unread)`, or gives how many bytes are offered.
+pub fn begin_answer(line: &[u8], fill: usize, update: &mut [u8], out: &mut [u8]) -> Begun
+    requires { ⌜ 996 ≤ length (now update) ⌝ }
+    ensures { λ r. ⌜ Begins (now (line .entry)) fill (now (out .entry)) r (now (update .exit)) (now (out .exit)) ⌝ }
+{
+    let read = read_line(line, fill);
+    let Line::Offered(n) = read else {
+        return Begun::Unread(put(out, 0, b"(unread)\n"));
+    };
+    unhex(line, n, update);
+    Begun::Offers(n)
+}

@@ -1,0 +1,44 @@
+-- `command::run` meets its contract: what it lends to the loop is as long as the loop needs it.
+use borrow.Author.Needs.{needs}
+use Rattle.command_loop.proofs.run.Statement.{statement}
+use Rattle.command_loop.proofs.run.Tie as tie
+
+slice-aggregate-run-on : tie.Need-slice-aggregate-run-on
+slice-aggregate-run-on c = search needs
+
+slice-aggregate-run-on-2 : tie.Need-slice-aggregate-run-on-2
+slice-aggregate-run-on-2 c = search needs
+
+slice-aggregate-run-on-3 : tie.Need-slice-aggregate-run-on-3
+slice-aggregate-run-on-3 c = search needs
+
+slice-aggregate-run-on-4 : tie.Need-slice-aggregate-run-on-4
+slice-aggregate-run-on-4 c = search needs
+
+run-on-requires : tie.Need-run-on-requires
+run-on-requires c κs = search needs
+
+returns : tie.Need-returns
+returns c =
+    let r = c .before .before .before .before in
+    record {
+      store = _;
+      line = _;
+      out = _;
+      lent = run-on-requires (r .before) (r .run-on .lifetimes);
+      last-store = _;
+      last-line = _;
+      last-out = _;
+      runs = r .run-on .ensures;
+    }
+
+pub run-spec : {M : Type 1} → statement M
+run-spec =
+    tie.close
+    (tie.spec
+    slice-aggregate-run-on
+    slice-aggregate-run-on-2
+    slice-aggregate-run-on-3
+    slice-aggregate-run-on-4
+    run-on-requires
+    returns)

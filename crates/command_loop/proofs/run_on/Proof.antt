@@ -1,0 +1,127 @@
+-- `command::run_on` meets its contract. The loop's invariant: what was fed so far, what was read last and what is left make up the limit. The measure is what is left, with
+-- what was read last.
+use mathlib.Core.Path.{_≡_, refl, sym, subst, _∙_}
+use Prim.Native.Nat.{ℕ, _+_, _≤_}
+use native.Mathlib.Omega.{arith}
+use lib.ListN.{length}
+use Rattle.command_session.specs.Feeding.{maxEnd}
+use Rattle.command_loop.specs.Command.{stopped, ended}
+use Rattle.command_loop.proofs.RunLaws.{Running, above-zero, running-begun, running-less, running-step}
+use Rattle.command_loop.proofs.run_on.Statement.{statement}
+use Rattle.command_loop.proofs.run_on.Tie as tie
+
+abbrev Inv-loop : tie.InvT-loop
+Inv-loop store₀ line₀ chunk₀ out₀ state₀ store line chunk out state =
+    Running store₀ line₀ state store line chunk
+    × (length store ≡ length store₀) × (length line ≡ length line₀) × (length chunk ≡ length chunk₀) × (length out ≡ length out₀)
+
+abbrev μ-loop : tie.MeasureT-loop
+μ-loop store₀ line₀ chunk₀ out₀ state₀ store line chunk out state = state .got + state .left
+
+begin-requires : tie.Need-begin-requires Inv-loop μ-loop
+begin-requires c κs = tt
+
+loop-holds : tie.Need-loop-holds Inv-loop μ-loop
+loop-holds c = (running-begun (c .before .before .begin .ensures), refl, refl, refl, refl)
+
+-- the places of the loop's head and of the function's entry
+abbrev at-start : tie.At-loop Inv-loop μ-loop → tie.Start Inv-loop μ-loop
+at-start c = c .before .before .before .before .before .before .before .before .before
+
+room : (c : tie.At-loop Inv-loop μ-loop) → maxEnd ≤ length (c .loop .out)
+room c = subst (λ (n : ℕ). maxEnd ≤ n) (sym (c .loop .inv .4)) (at-start c .pre .room)
+
+chunk-kept : (c : tie.At-loop Inv-loop μ-loop) → length (c .loop .chunk) ≡ length (at-start c .args .chunk .now)
+chunk-kept c = c .loop .inv .3 ∙ c .before .before .before .begin .kept .0
+
+step-requires : tie.Need-step-requires Inv-loop μ-loop
+step-requires c κs =
+    let l = c .before .before .before .before .before .before in
+    record { within = l .loop .inv .0 .within; lent = record { line-long = l .loop .inv .2 ∙ at-start l .pre .line-long; room = omega (arith, room l) } }
+
+-- the places of a turn's call of `step` and of the turn
+abbrev at-step : tie.After-slice-known9 Inv-loop μ-loop → tie.After-step Inv-loop μ-loop
+at-step c = c .before .before .before .before .before .before .before .before
+
+abbrev at-turn : tie.After-slice-known9 Inv-loop μ-loop → tie.Then1 Inv-loop μ-loop
+at-turn c = at-step c .before .before .before .before .before
+
+loop-less : tie.Need-loop-less Inv-loop μ-loop
+loop-less c = running-less (at-turn c .before .before .loop .inv .0) (at-turn c .if1 .taken) (at-step c .step .ensures)
+
+loop-again : tie.Need-loop-again Inv-loop μ-loop
+loop-again c = (
+  running-step (at-turn c .before .before .loop .inv .0) (at-turn c .if1 .taken) (at-step c .step .ensures),
+  at-step c .step .kept .1 .0 ∙ at-turn c .before .before .loop .inv .1,
+  at-step c .step .kept .1 .1 .0 ∙ at-turn c .before .before .loop .inv .2,
+  at-step c .step .kept .1 .1 .1 .0 ∙ at-turn c .before .before .loop .inv .3,
+  at-step c .step .kept .1 .1 .1 .1 .0 ∙ at-turn c .before .before .loop .inv .4,
+)
+
+same-length : tie.Need-same-length Inv-loop μ-loop
+same-length c = c .before .before .before .before .loop .inv .1
+
+same-length-2 : tie.Need-same-length-2 Inv-loop μ-loop
+same-length-2 c = c .before .before .before .before .loop .inv .2
+
+same-length-3 : tie.Need-same-length-3 Inv-loop μ-loop
+same-length-3 c = chunk-kept (c .before .before .before .before)
+
+same-length-4 : tie.Need-same-length-4 Inv-loop μ-loop
+same-length-4 c = c .before .before .before .before .loop .inv .4
+
+returns : tie.Need-returns Inv-loop μ-loop
+returns c =
+    let l = c .before .before .before .before in
+    stopped (l .loop .state) (l .loop .inv .0 .ran) (above-zero (c .if2 .taken)) refl
+
+end-requires : tie.Need-end-requires Inv-loop μ-loop
+end-requires c κs = tt
+
+-- the places of the call of `end`, and of the loop's head before it
+abbrev at-end : tie.After-slice-known11 Inv-loop μ-loop → tie.After-end Inv-loop μ-loop
+at-end c = c .before .before .before .before
+
+abbrev at-loop : tie.After-slice-known11 Inv-loop μ-loop → tie.At-loop Inv-loop μ-loop
+at-loop c = at-end c .before .before .before .before .before .before .before .before .before
+
+same-length-5 : tie.Need-same-length-5 Inv-loop μ-loop
+same-length-5 c = at-end c .end .kept .1 .0 ∙ at-loop c .loop .inv .1
+
+same-length-6 : tie.Need-same-length-6 Inv-loop μ-loop
+same-length-6 c = at-loop c .loop .inv .2
+
+same-length-7 : tie.Need-same-length-7 Inv-loop μ-loop
+same-length-7 c = chunk-kept (at-loop c)
+
+same-length-8 : tie.Need-same-length-8 Inv-loop μ-loop
+same-length-8 c = at-end c .end .kept .1 .1 .1 .1 .0 ∙ at-loop c .loop .inv .4
+
+returns-2 : tie.Need-returns-2 Inv-loop μ-loop
+returns-2 c =
+    let l = at-loop c in
+    let k = at-end c .before .before .before .before .before in
+    ended (l .loop .state) (l .loop .store) (l .loop .out) (l .loop .inv .0 .ran) (omega (arith, k .before .before .if1 .left)) (k .if2 .left) refl (room l) (at-end c .end .ensures)
+
+pub run-on-spec : {M : Type 1} → statement M
+run-on-spec =
+    tie.close
+    (tie.spec
+    Inv-loop
+    μ-loop
+    begin-requires
+    loop-holds
+    step-requires
+    loop-less
+    loop-again
+    same-length
+    same-length-2
+    same-length-3
+    same-length-4
+    returns
+    end-requires
+    same-length-5
+    same-length-6
+    same-length-7
+    same-length-8
+    returns-2)

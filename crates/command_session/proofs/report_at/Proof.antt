@@ -1,0 +1,77 @@
+-- `report_at` meets its contract, by what the report answers.
+use mathlib.Core.Path.{ap}
+use native.Mathlib.Omega.{arith}
+use denote.Ref.{now}
+use borrow.Author.Needs.{needs}
+use Rattle.ledger.specs.Report.{reportValues}
+use Rattle.command_session.proofs.ReportLaws.{at-within, at-reported, at-refused}
+use Rattle.command_session.proofs.report_at.Statement.{statement}
+use Rattle.command_session.proofs.report_at.Tie as tie
+
+-- the places of the call of `report` and of the entry
+abbrev at-report : tie.After-slice-known2 → tie.After-report
+at-report c = c .before .before
+
+abbrev at-start : tie.After-report → tie.Start
+at-start c = c .before .before .before .before
+
+sub-report : tie.Need-sub-report
+sub-report c = search needs
+
+part-report-start : tie.Need-part-report-start
+part-report-start c = search needs
+
+part-report-end : tie.Need-part-report-end
+part-report-end c = search needs
+
+report-requires : tie.Need-report-requires
+report-requires c κs = search needs
+
+enum-known-n : tie.Need-enum-known-n
+enum-known-n c = search needs
+
+add-written : tie.Need-add-t13
+add-written c =
+    let n = c .before in
+    let r = at-report (n .before .before) in
+    let s = at-start r in
+    omega (arith, at-within (now (s .args .out)) (s .args .at) (s .pre) (r .report .ensures) _ (ap reportValues (n .n .given .1)), s .good)
+
+enum-known-refusal : tie.Need-enum-known-refusal
+enum-known-refusal c = search needs
+
+same-length : tie.Need-same-length
+same-length c = search needs
+
+returns-written : tie.Need-returns
+returns-written c =
+    let n = c .before in
+    let r = at-report (n .before .before) in
+    let s = at-start r in
+    at-reported (now (s .args .out)) (s .args .at) (s .pre) (r .report .ensures) _ (ap reportValues (n .n .given .1))
+
+same-length-2 : tie.Need-same-length-2
+same-length-2 c = search needs
+
+returns-refused : tie.Need-returns-2
+returns-refused c =
+    let n = c .before in
+    let r = at-report (n .before .before) in
+    let s = at-start r in
+    at-refused (now (s .args .out)) (s .args .at) (s .pre) (r .report .ensures) _ (ap reportValues (n .refusal .given .1))
+
+pub report-at-spec : {M : Type 1} → statement M
+report-at-spec =
+    tie.close
+    (tie.spec
+    sub-report
+    part-report-start
+    part-report-end
+    report-requires
+    enum-known-n
+    add-written
+    enum-known-refusal
+    same-length
+    returns-written
+    same-length-2
+    returns-refused)

@@ -1,0 +1,38 @@
+-- Lines answered one after the other, for every ledger and store: each offer with what the entry `offer` ensures, row 1 included.
+use Prim.Native.Nat.{ℕ}
+use mathlib.Core.List.{List, [], _∷_, _++_}
+use mathlib.Core.Option.{Option, none, some}
+use mathlib.Core.Bool.{cond}
+use lib.Dec.{eqb}
+use Rattle.rules.specs.Report.{ascii}
+use Rattle.ledger_state.specs.declared.Ledger.{Ledger}
+use Rattle.ledger_offering.specs.Values.{OfferValues}
+use Rattle.ledger_offering.specs.Offer.{OfferRow}
+use Rattle.ledger_offering.specs.Words.{valuesText}
+use Rattle.command_syntax.specs.Reading.{readLine}
+
+-- A line that reads so is answered: the ledger and the store after it, and the text of the answer.
+pub data AnswersLine (l : Ledger) (s : List ℕ) : Option (List ℕ) → Ledger → List ℕ → List ℕ → Type 0 where
+  unread : AnswersLine l s none l s (ascii "(unread)\n")
+  offered : {b : List ℕ} {v : OfferValues} {r : Ledger} {s′ : List ℕ} → OfferRow l s b v r s′ → AnswersLine l s (some b) r s′ (valuesText v)
+
+-- Lines that read so, each answered with the ledger and the store that the one before left; and the texts of the answers.
+pub data AnswersLines : Ledger → List ℕ → List (Option (List ℕ)) → Ledger → List ℕ → List ℕ → Type 0 where
+  done : {l : Ledger} {s : List ℕ} → AnswersLines l s [] l s []
+  next : {l l₁ l′ : Ledger} {s s₁ s′ t ts : List ℕ} {o : Option (List ℕ)} {os : List (Option (List ℕ))}
+      → AnswersLine l s o l₁ s₁ t → AnswersLines l₁ s₁ os l′ s′ ts → AnswersLines l s (o ∷ os) l′ s′ (t ++ ts)
+
+-- how the lines that end in a text read, the first of them begun by the line so far
+unfoldable pub linesOf : List ℕ → List ℕ → List (Option (List ℕ))
+linesOf line [] = []
+linesOf line (b ∷ bs) = cond (eqb b 10) (readLine line ∷ linesOf [] bs) (linesOf (line ++ (b ∷ [])) bs)
+
+-- the line that the text leaves begun
+unfoldable pub lineAfter : List ℕ → List ℕ → List ℕ
+lineAfter line [] = line
+lineAfter line (b ∷ bs) = cond (eqb b 10) (lineAfter [] bs) (lineAfter (line ++ (b ∷ [])) bs)
+
+-- at the end of the input: the line so far, if one is begun ("A last line may lack its newline.")
+unfoldable pub lastOf : List ℕ → List (Option (List ℕ))
+lastOf [] = []
+lastOf (c ∷ cs) = readLine (c ∷ cs) ∷ []

@@ -1,0 +1,63 @@
+-- Where a ledger, its store and a line buffer are where a machine is: what a call, or a row of calls, of `feed` does to them. And for every ledger: the ledger and the
+-- store that come back are those of calls of `offer`.
+use mathlib.Core.Path.{_≡_, refl, sym, subst}
+use Prim.Native.Nat.{ℕ}
+use mathlib.Core.List.{List, [], _++_}
+use mathlib.Core.Option.{Option}
+use lib.ListN.{length}
+use Rattle.ledger_state.specs.declared.Ledger.{Ledger}
+use Rattle.ledger_state.specs.View.{bookOf}
+use Rattle.ledger_state.specs.Stands.{Stands}
+use Rattle.ledger.specs.Calls.{Calls}
+use Rattle.command_syntax.specs.Reading.{maxLine}
+use Rattle.command_lines.specs.Lines.{Keeps}
+use Rattle.command_lines.specs.KeepLaws.{keeps-some}
+use Rattle.command_session.specs.declared.Fed.{Fed}
+use Rattle.command_session.specs.Session.{Machine, feed}
+use Rattle.command_session.specs.Answering.{AnswersLines, done, linesOf, lineAfter}
+use Rattle.command_session.specs.AnsweringLaws.{answers-then, answers-calls, lines-append, feed-begins, feed-answers}
+use Rattle.command_session.specs.Feeding.{Moves, Feeds, Feeding, refused, fed}
+
+-- a line buffer of maxLine bytes is not refused
+pub feeding-feeds : {l : Ledger} {s buffer input out s′ buffer′ out′ : List ℕ} {fill : ℕ} {r : Fed} → Feeding l s buffer fill input out r s′ buffer′ out′
+    → length buffer ≡ maxLine → Feeds l s buffer fill input out r s′ buffer′ out′
+feeding-feeds (refused n) e = absurd (n e)
+feeding-feeds (fed r s′ buffer′ out′ e f) _ = f
+
+pub moves-none : {l : Ledger} {s buffer : List ℕ} {fill : ℕ} → Moves l s buffer fill [] [] l s buffer fill
+unfolding linesOf lineAfter
+moves-none = record { answers = λ line k. done; keeps = λ line k. k }
+
+pub moves-then : {l l₁ l′ : Ledger} {s s₁ s′ buffer buffer₁ buffer′ xs xs′ ys ys′ : List ℕ} {fill fill₁ fill′ : ℕ}
+    → Moves l s buffer fill xs ys l₁ s₁ buffer₁ fill₁ → Moves l₁ s₁ buffer₁ fill₁ xs′ ys′ l′ s′ buffer′ fill′
+    → Moves l s buffer fill (xs ++ xs′) (ys ++ ys′) l′ s′ buffer′ fill′
+moves-then {l} {l′ = l′} {s} {s′ = s′} {buffer′ = buffer′} {xs = xs} {xs′ = xs′} {ys = ys} {ys′ = ys′} {fill′ = fill′} a b =
+    record {
+      answers = λ line k.
+          subst (λ (os : List (Option (List ℕ))). AnswersLines l s os l′ s′ (ys ++ ys′)) (sym (lines-append line xs xs′ .0))
+          (answers-then (a .answers line k) (b .answers (lineAfter line xs) (a .keeps line k)));
+      keeps = λ line k. subst (Keeps buffer′ fill′) (sym (lines-append line xs xs′ .1)) (b .keeps (lineAfter line xs) (a .keeps line k));
+    }
+
+-- For every ledger and store, and a line buffer of maxLine bytes: the ledger and the store that come back are those of calls of `offer`.
+pub moves-calls : {l l′ : Ledger} {s s′ buffer buffer′ xs ys : List ℕ} {fill fill′ : ℕ} → length buffer ≡ maxLine
+    → Moves l s buffer fill xs ys l′ s′ buffer′ fill′ → (bs : List (List ℕ)) × Calls l s bs l′ s′
+moves-calls {buffer = buffer} {fill = fill} e m = let k = keeps-some buffer fill e in (_, answers-calls (m .answers (k .0) (k .1)))
+
+-- the ledger, its store and the line so far are where the machine is
+pub record Follows (l : Ledger) (s buffer : List ℕ) (fill : ℕ) (m : Machine) : Type 0 where
+  pub stands : Stands (bookOf l) s (m .stored)
+  pub keeps : Keeps buffer fill (m .line)
+
+-- they stay where it is, and the machine puts out the same
+module _ {l l′ : Ledger} {s s′ buffer buffer′ xs ys : List ℕ} {fill fill′ : ℕ} (m : Machine) (f : Follows l s buffer fill m)
+    (v : Moves l s buffer fill xs ys l′ s′ buffer′ fill′) where
+  pub moves-follows : Follows l′ s′ buffer′ fill′ (feed m xs)
+  moves-follows =
+      record {
+        stands = feed-answers m xs (f .stands) (v .answers (m .line) (f .keeps)) .0;
+        keeps = subst (Keeps buffer′ fill′) (sym (feed-begins m xs)) (v .keeps (m .line) (f .keeps));
+      }
+
+  pub moves-out : feed m xs .out ≡ m .out ++ ys
+  moves-out = feed-answers m xs (f .stands) (v .answers (m .line) (f .keeps)) .1

@@ -1,0 +1,94 @@
+-- The command's work in pieces: what feeding a piece of the input promises, and the end of the input, for every ledger, store, line buffer, piece and output
+-- buffer. Left free: how much of a piece is consumed once there is no room for another answer; and the bytes of the line buffer that are not of the line so far.
+use mathlib.Core.Path.{_≡_}
+use Prim.Native.Nat.{ℕ, _+_, _≤_, _<_}
+use mathlib.Core.List.{List, _++_}
+use mathlib.Core.Bool.{true, false}
+use lib.ListN.{length, take, drop}
+use Rattle.ledger_state.specs.declared.Ledger.{Ledger}
+use Rattle.ledger_state.specs.State.{Book}
+use Rattle.ledger_state.specs.View.{bookOf}
+use Rattle.ledger_refusals.specs.Numbers.{refusalNumber, putBytes, refusedBy}
+use Rattle.ledger.specs.Report.{ReportRow}
+use Rattle.command_syntax.specs.Reading.{maxLine}
+use Rattle.command_lines.specs.Lines.{Keeps}
+use Rattle.command_answers.specs.Answers.{maxAnswer}
+use Rattle.command_session.specs.declared.Fed.{Fed}
+use Rattle.command_session.specs.declared.Finished.{Finished}
+use Rattle.command_session.specs.declared.Finished.the-variants.{Written, Unreported, Short, UnfitLine}
+use Rattle.command_session.specs.Answering.{AnswersLines, linesOf, lineAfter, lastOf}
+
+-- the longest end of an output: an answer and a report
+abbrev pub maxEnd : ℕ
+maxEnd = maxAnswer + 12000
+
+-- The values for each case of the end: how many bytes of output, with the report; how many without it, and document 01's number of its refusal; an output buffer
+-- shorter than the longest end; a line buffer that has not maxLine bytes.
+pub data EndValues : Type 0 where
+  withReport : ℕ → EndValues
+  withoutReport : ℕ → ℕ → EndValues
+  shortOutput : EndValues
+  unfitLine : EndValues
+
+abbrev pub endValues : Finished → EndValues
+endValues (Written n) = withReport n
+endValues (Unreported n r) = withoutReport n (refusalNumber r)
+endValues Short = shortOutput
+endValues UnfitLine = unfitLine
+
+-- how many bytes of output that is
+abbrev pub putOut : EndValues → ℕ
+putOut (withReport n) = n
+putOut (withoutReport n k) = n
+putOut shortOutput = 0
+putOut unfitLine = 0
+
+-- From a ledger, store, line buffer and length to others, by a text: whatever line the buffer keeps, the lines that end in the text are answered one after the
+-- other; what they put out; and the buffer keeps the line that the text leaves begun. (A line buffer of maxLine bytes always keeps one: `keeps-some`.)
+pub record Moves (l : Ledger) (s buffer : List ℕ) (fill : ℕ) (text put : List ℕ) (l′ : Ledger) (s′ buffer′ : List ℕ) (fill′ : ℕ) : Type 0 where
+  pub answers : (line : List ℕ) → Keeps buffer fill line → AnswersLines l s (linesOf line text) l′ s′ put
+  pub keeps : (line : List ℕ) → Keeps buffer fill line → Keeps buffer′ fill′ (lineAfter line text)
+
+-- Feeding the piece `input`, with the output buffer `out`.
+pub record Feeds (l : Ledger) (s buffer : List ℕ) (fill : ℕ) (input out : List ℕ) (r : Fed) (s′ buffer′ out′ : List ℕ) : Type 0 where
+  pub accepted : r .refused ≡ false
+  pub within-input : r .consumed ≤ length input
+  pub within-out : r .written ≤ length out
+  -- all is consumed, unless there is no room for another answer; something is, where there was room for one
+  pub goes-on : r .written + maxAnswer ≤ length out → r .consumed ≡ length input
+  pub some-consumed : maxAnswer ≤ length out → 0 < length input → 0 < r .consumed
+  -- the bytes after the output keep their values
+  pub rest-kept : drop (r .written) out′ ≡ drop (r .written) out
+  -- what was consumed is answered, and the answers are what was written
+  pub moves : Moves l s buffer fill (take (r .consumed) input) (take (r .written) out′) (r .ledger) s′ buffer′ (r .fill)
+
+-- What the function `feed` promises: a line buffer that has not maxLine bytes is refused, and nothing changes; with any other the piece is fed.
+pub data Feeding (l : Ledger) (s buffer : List ℕ) (fill : ℕ) (input out : List ℕ) : Fed → List ℕ → List ℕ → List ℕ → Type 0 where
+  refused : (length buffer ≡ maxLine → ⊥)
+      → Feeding l s buffer fill input out (record { ledger = l; fill = fill; consumed = 0; written = 0; refused = true }) s buffer out
+  fed : (r : Fed) (s′ buffer′ out′ : List ℕ) → length buffer ≡ maxLine → Feeds l s buffer fill input out r s′ buffer′ out′
+      → Feeding l s buffer fill input out r s′ buffer′ out′
+
+-- A report after the first `at` bytes of the output buffer: what the entry `report` ensures, of the rest of the buffer.
+pub data ReportsAt (l : Book) (s : List ℕ) (at : ℕ) (out : List ℕ) : EndValues → List ℕ → Type 0 where
+  reported : (n : ℕ) (o : List ℕ) → ReportRow l s (drop at out) (putBytes n) o → ReportsAt l s at out (withReport (at + n)) (take at out ++ o)
+  unreported : (k : ℕ) (o : List ℕ) → ReportRow l s (drop at out) (refusedBy k) o → ReportsAt l s at out (withoutReport at k) (take at out ++ o)
+
+-- The last line, if one is begun, is answered; and what that puts out.
+pub record LastLine (l : Ledger) (s buffer : List ℕ) (fill : ℕ) (l′ : Ledger) (s′ put : List ℕ) : Type 0 where
+  pub short : length put ≤ maxAnswer
+  pub answers : (line : List ℕ) → Keeps buffer fill line → AnswersLines l s (lastOf line) l′ s′ put
+
+-- The end of the input, with the output buffer `out`: a line buffer that has not maxLine bytes is refused, and so is an output buffer with no room for the longest end;
+-- nothing changes then. With others, the last line is answered, and then comes what the entry `report` ensures: the report, or else the number of its refusal beside
+-- the answer.
+pub data FinishRow (l : Ledger) (s buffer : List ℕ) (fill : ℕ) (out : List ℕ) : EndValues → List ℕ → List ℕ → Type 0 where
+  unfit-line : (length buffer ≡ maxLine → ⊥) → FinishRow l s buffer fill out unfitLine s out
+  short : length buffer ≡ maxLine → length out < maxEnd → FinishRow l s buffer fill out shortOutput s out
+  ended : (v : EndValues) (l′ : Ledger) (s′ put out′ : List ℕ) → length buffer ≡ maxLine → maxEnd ≤ length out
+      → LastLine l s buffer fill l′ s′ put → ReportsAt (bookOf l′) s′ (length put) (put ++ drop (length put) out) v out′
+      → FinishRow l s buffer fill out v s′ out′
+
+-- the promise of `finish`
+abbrev pub Finishes : Ledger → List ℕ → List ℕ → ℕ → List ℕ → Finished → List ℕ → List ℕ → Type 0
+Finishes l s buffer fill out r s′ out′ = FinishRow l s buffer fill out (endValues r) s′ out′

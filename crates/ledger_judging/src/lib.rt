@@ -1,0 +1,243 @@
+// Judging a waiting update: by its predecessors, its ancestors and its operation.
+ghost use mathlib.Core.Path.{_≡_};
+ghost use mathlib.Core.Option.{some};
+ghost use mathlib.Core.Bool.{Bool};
+ghost use Prim.Native.Nat.{_≤_, _<_};
+ghost use Rattle.bytes_order.specs.Member.{all};
+ghost use Rattle.update_format.specs.Update as U;
+ghost use Rattle.update_format.specs.Decode.{idsAt, firstPredecessor, decode};
+ghost use Rattle.update_format.specs.Reading.{operationAt, valueOf};
+ghost use Rattle.rules.specs.Settle.{isAdd, isInsert};
+ghost use Rattle.update_fields.specs.Fields.{testOf};
+ghost use Rattle.ledger_state.specs.State.{Book, placeAt};
+ghost use Rattle.ledger_state.specs.View.{placeOf, bookOf};
+ghost use Rattle.ledger_judging.specs.Judge.{nothingGathered, gatherAt, gather as gatherAll, names, valid as validOperation, judgeReady, judgeGathered, judgeDecoded, judge as judgeAt};
+use ledger_state::Found;
+use ledger_state::Ledger;
+use ledger_state::Place;
+use ledger_state::Standing;
+use ledger_state::find::find;
+use ledger_state::store::stored;
+use update_format::Operation;
+use update_format::Parsed;
+use update_format::Reading;
+
+// What the predecessors of an update say: whether all are held, whether some is void, their places, and their ancestors.
+pub struct Gathered {
+    pub ready: bool,
+    pub void: bool,
+    pub direct: u64,
+    pub above: u64,
+}
+
+// How a waiting update is judged: it holds, with these ancestors; it fails; it goes on waiting.
+pub enum Judgement {
+    Holds(u64),
+    Fails,
+    Waits,
+}
+
+// What is gathered with a predecessor at place j, which is p.
+fn gather_by(p: Place, g: Gathered, j: usize) -> Gathered
+    requires { ⌜ j < 64 ⌝ }
+    ensures { λ r. ⌜ ((l : Book) → placeAt l j ≡ placeOf p → r ≡ gatherAt l g (some j)) ⌝ }
+{
+    let standing = p.standing;
+    match standing {
+        Standing::Held => Gathered {
+            ready: g.ready,
+            void: g.void,
+            direct: bitset::including(g.direct, j),
+            above: bitset::join(g.above, p.ancestors),
+        },
+        Standing::Waiting => Gathered {
+            ready: false,
+            void: g.void,
+            direct: g.direct,
+            above: g.above,
+        },
+        Standing::Void => Gathered {
+            ready: g.ready,
+            void: true,
+            direct: g.direct,
+            above: g.above,
+        },
+    }
+}
+
+// What the count predecessors of the update b say.
+fn gather(l: Ledger, b: &[u8], count: usize) -> Gathered
+    requires { ⌜ bookOf l .used ≤ 64 ⌝ }
+    ensures { λ r. ⌜ r ≡ gatherAll (bookOf l) nothingGathered (idsAt (now (b .entry)) firstPredecessor count) ⌝ }
+{
+    let mut g = Gathered {
+        ready: true,
+        void: false,
+        direct: 0,
+        above: 0,
+    };
+    let mut k: usize = 0;
+    while k < count {
+        match find(l, update_format::predecessor(b, k)) {
+            Found::At(j) => {
+                g = gather_by(l.places[j], g, j);
+            }
+            Found::Nowhere => {
+                g.ready = false;
+            }
+        }
+        k += 1;
+    }
+    g
+}
+
+// The bytes of the place in the set `up` with this id, or no bytes.
+fn bytes_in<'a>(l: Ledger, store: &'a [u8], up: u64, id: &[u8]) -> &'a [u8]
+    requires { ⌜ bookOf l .used ≤ 64 ⌝ }
+    ensures { λ r. ⌜ ((p : U.Operation → Bool) → testOf p (decode (now r)) ≡ names (bookOf l) (now (store .entry)) p up (now (id .entry))) ⌝ }
+{
+    match find(l, id) {
+        Found::At(j) => {
+            if bitset::has(up, j) {
+                let p = l.places[j];
+                stored(store, j, p.length)
+            } else {
+                &store[..0]
+            }
+        }
+        Found::Nowhere => &store[..0],
+    }
+}
+
+// Whether an id is that of an Add of the tag in the set `up`.
+fn names_add(l: Ledger, store: &[u8], up: u64, id: &[u8], tag: &[u8]) -> bool
+    requires { ⌜ bookOf l .used ≤ 64 ⌝ }
+    ensures { λ r. ⌜ r ≡ names (bookOf l) (now (store .entry)) (isAdd (now (tag .entry))) up (now (id .entry)) ⌝ }
+{
+    update_fields::adds(bytes_in(l, store, up, id), tag)
+}
+
+// Whether an id is that of an Insert in the set `up`.
+fn names_insert(l: Ledger, store: &[u8], up: u64, id: &[u8]) -> bool
+    requires { ⌜ bookOf l .used ≤ 64 ⌝ }
+    ensures { λ r. ⌜ r ≡ names (bookOf l) (now (store .entry)) isInsert up (now (id .entry)) ⌝ }
+{
+    update_fields::is_insert(bytes_in(l, store, up, id))
+}
+
+// Whether each of the count ids from byte at on is that of an Add of the tag in the set `up`.
+fn names_adds(
+    l: Ledger,
+    store: &[u8],
+    up: u64,
+    b: &[u8],
+    at: usize,
+    count: usize,
+    tag: &[u8],
+) -> bool
+    requires { ⌜ bookOf l .used ≤ 64 ⌝ }
+    ensures { λ r. ⌜ r ≡ all (names (bookOf l) (now (store .entry)) (isAdd (now (tag .entry))) up) (idsAt (now (b .entry)) at count) ⌝ }
+{
+    let mut k: usize = 0;
+    while k < count {
+        if !names_add(l, store, up, update_format::named(b, at, k), tag) {
+            return false;
+        }
+        k += 1;
+    }
+    true
+}
+
+// Whether the operation is valid for the ancestors `up`.
+fn valid(l: Ledger, store: &[u8], up: u64, b: &[u8], operation: Operation) -> bool
+    requires { ⌜ bookOf l .used ≤ 64 ⌝ }
+    ensures { λ r. ⌜ r ≡ validOperation (bookOf l) (now (store .entry)) up (operationAt (now (b .entry)) operation) ⌝ }
+{
+    match operation {
+        Operation::Add { tag: _ } => true,
+        Operation::Remove { tag, named, count } => names_adds(
+            l,
+            store,
+            up,
+            b,
+            named,
+            count,
+            update_format::part_of(b, tag, 16),
+        ),
+        Operation::Insert { anchor, value: _ } => {
+            let a = update_format::part_of(b, anchor, 32);
+            let zero = [0u8; 32];
+            if bytes_order::same(a, &zero) {
+                true
+            } else {
+                names_insert(l, store, up, a)
+            }
+        }
+        Operation::Delete { deleted } => names_insert(
+            l,
+            store,
+            up,
+            update_format::part_of(b, deleted, 32),
+        ),
+    }
+}
+
+// The judgement of an update whose predecessors are all held.
+fn judge_ready(
+    l: Ledger,
+    store: &[u8],
+    b: &[u8],
+    operation: Operation,
+    direct: u64,
+    above: u64,
+) -> Judgement
+    requires { ⌜ bookOf l .used ≤ 64 ⌝ }
+    ensures { λ r. ⌜ r ≡ judgeReady (bookOf l) (now (store .entry)) (operationAt (now (b .entry)) operation) direct above ⌝ }
+{
+    if bitset::meet(direct, above) != 0 {
+        return Judgement::Fails;
+    }
+    let up = bitset::join(direct, above);
+    if valid(l, store, up, b, operation) {
+        Judgement::Holds(up)
+    } else {
+        Judgement::Fails
+    }
+}
+
+// The judgement of an update, from what its predecessors say.
+fn judge_update(l: Ledger, store: &[u8], b: &[u8], u: Parsed) -> Judgement
+    requires { ⌜ bookOf l .used ≤ 64 ⌝ }
+    ensures { λ r. ⌜ r ≡ judgeGathered (bookOf l) (now (store .entry)) (valueOf (now (b .entry)) u .op) (gatherAll (bookOf l) nothingGathered (valueOf (now (b .entry)) u .preds)) ⌝ }
+{
+    let g = gather(l, b, u.count);
+    if g.void {
+        return Judgement::Fails;
+    }
+    if g.ready {
+        let operation = u.operation;
+        judge_ready(l, store, b, operation, g.direct, g.above)
+    } else {
+        Judgement::Waits
+    }
+}
+
+// The judgement of the bytes b as an update; bytes that are none wait.
+pub fn judge_bytes(l: Ledger, store: &[u8], b: &[u8]) -> Judgement
+    requires { ⌜ bookOf l .used ≤ 64 ⌝ }
+    ensures { λ r. ⌜ r ≡ judgeDecoded (bookOf l) (now (store .entry)) (decode (now (b .entry))) ⌝ }
+{
+    match update_parsing::read(b) {
+        Reading::Update(u) => judge_update(l, store, b, u),
+        Reading::Refused(_) => Judgement::Waits,
+    }
+}
+
+// The judgement of the update at place k.
+pub fn judge(l: Ledger, store: &[u8], k: usize) -> Judgement
+    requires { ⌜ (bookOf l .used ≤ 64) × (k < 64) ⌝ }
+    ensures { λ r. ⌜ r ≡ judgeAt (bookOf l) (now (store .entry)) k ⌝ }
+{
+    let p = l.places[k];
+    judge_bytes(l, store, stored(store, k, p.length))
+}

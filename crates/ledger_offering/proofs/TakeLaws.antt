@@ -1,0 +1,134 @@
+-- Taking the next place: the ledger with the place taken, and what it is once settled.
+use mathlib.Core.Path.{_≡_, refl, sym, ap, subst, _∙_}
+use Prim.Native.Nat.{ℕ, _+_, _*_, _≤_, _<_}
+use native.Mathlib.Nat.{eq-or-lt-of-le}
+use native.Mathlib.Omega.{arith}
+use mathlib.Core.Logic.{⊎-elim}
+use mathlib.Core.List.{List, [], _∷_, _++_}
+use mathlib.Core.Option.{none}
+use mathlib.Core.Bool.{Bool, true, false, cond}
+use lib.ListN.{length}
+use Rattle.bytes_order.specs.Member.{_∈_}
+use Rattle.bytes_order.specs.BoolLaws.{true-false}
+use Rattle.sha256_fips180.specs.Fips180.{SHA-256}
+use Rattle.update_format.specs.Update.{Id, Update, maxLength}
+use Rattle.update_format.specs.Decode.{update, decode}
+use Rattle.update_format.specs.Laws.{decode-sound, accepted}
+use Rattle.bitset.specs.Below.{countBelow}
+use Rattle.bitset.specs.BelowLaws.{countBelow-mono, countBelow-more}
+use Rattle.bitset.specs.BitsLaws.{within-more, within-none}
+use Rattle.ledger_state.specs.declared.Standing.{Standing}
+use Rattle.ledger_state.specs.declared.Standing.the-variants.{Waiting}
+use Rattle.ledger_state.specs.State.{places, Place, Book, placeAt, withTaken, written, findIn, isHeld, isVoid, countOf}
+use Rattle.ledger_state.specs.Row1.{sound}
+use Rattle.ledger_state.specs.Row1Laws.{SoundPlace, sound→, sound←}
+use Rattle.ledger_settling.specs.Settle.{OthersWait, SettledFrom}
+use Rattle.ledger_state.specs.Stands.{ident, Holds, Truthful, Stands}
+use Rattle.ledger_state.specs.FindLaws.{find-none}
+use Rattle.ledger_state.specs.TakeLaws.{taken-new, taken-old, take-holds, take-truthful}
+use Rattle.ledger_settling.specs.WaitLaws.{taken-others}
+use Rattle.ledger_settling.specs.SettleLaws.{settled-kept-all, settled-sound, settled-stands}
+use Rattle.ledger_offering.specs.Offer.{Took}
+
+-- the update u with bytes b is offered, and a place is free
+module _ (l : Book) (s b : List ℕ) (u : Update) (fits : sound l s ≡ true) (decodes : decode b ≡ update u) (free : l .used < places) where
+  abbrev place : Place
+  place = record { id = SHA-256 b; length = length b; ancestors = 0; standing = Waiting }
+
+  abbrev taken : Book
+  taken = withTaken l (SHA-256 b) (length b)
+
+  at-new : placeAt taken (l .used) ≡ place
+  at-new = taken-new l (SHA-256 b) (length b)
+
+  at-old : (k : ℕ) → (k ≡ l .used → ⊥) → placeAt taken k ≡ placeAt l k
+  at-old = taken-old l (SHA-256 b) (length b)
+
+  -- row 1 does not come up by taking the place
+  taken-sound : (s′ : List ℕ) → length s′ ≡ length s → sound taken s′ ≡ true
+  taken-sound s′ same =
+      let h = sound→ l s fits in
+      let sized = accepted b u decodes in
+      sound← taken s′
+      (record {
+        store = same ∙ h .store;
+        few = omega arith;
+        each = λ k g.
+            ⊎-elim
+            (λ (e : k ≡ l .used).
+            subst (SoundPlace (l .used + 1)) (sym (ap (placeAt taken) e ∙ at-new))
+            (record { long = sized .long; short = sized .short; inside = within-none (l .used + 1) }))
+            (λ (i : k < l .used).
+            let p = h .each k i in
+            subst (SoundPlace (l .used + 1)) (sym (at-old k (λ (e : k ≡ l .used). omega arith)))
+            (record {
+              long = p .long;
+              short = p .short;
+              inside = within-more (placeAt l k .ancestors) (l .used) (l .used + 1) (omega arith) (p .inside);
+            }))
+            (eq-or-lt-of-le (omega arith));
+      })
+
+  -- i is the id, t the ledger with the place taken, r what it is once settled, and s′ the store with the bytes written
+  module _ {i : Id} (hashed : i ≡ SHA-256 b) (unknown : findIn l i ≡ none) {t r : Book} (grown : t ≡ withTaken l i (length b)) {s′ : List ℕ}
+      (wrote : s′ ≡ written s (maxLength * l .used) b) (same : length s′ ≡ length s) (settling : SettledFrom t s′ r) where
+    settled : SettledFrom taken s′ r
+    settled = subst (λ (m : Book). SettledFrom m s′ r) (grown ∙ ap (λ (j : Id). withTaken l j (length b)) hashed) settling
+
+    taken-stands : (us : List Update) → Stands l s us → Stands r s′ (us ++ (u ∷ []))
+    unfolding ident
+    taken-stands us h =
+        let d = decode-sound b u decodes in
+        let room : length us < places = subst (λ (n : ℕ). n < places) (h .holds .number) free in
+        let new : (v : Update) → v ∈ us → ident v ≡ ident u → ⊥ =
+        λ v m e. find-none l s us (h .holds) i unknown v m (e ∙ ap SHA-256 (d .1) ∙ sym hashed) in
+        settled-stands taken s′ (us ++ (u ∷ [])) r
+        (subst (λ (x : List ℕ). Holds taken x (us ++ (u ∷ []))) (sym wrote)
+        (subst (λ (x : List ℕ). Holds (withTaken l (SHA-256 x) (length x)) (written s (maxLength * l .used) x) (us ++ (u ∷ []))) (d .1)
+        (take-holds l s us u h (d .0) room new)))
+        (subst (λ (x : List ℕ). Truthful (withTaken l (SHA-256 x) (length x)) (us ++ (u ∷ []))) (d .1)
+        (take-truthful l s us u h (d .0) room new))
+        (subst (OthersWait taken) (sym wrote) (taken-others l s us h (SHA-256 b) b free (accepted b u decodes .short)))
+        settled
+
+    pub took : Took l s b u r s′
+    took =
+        let kept = settled-kept-all taken s′ r settled in
+        record {
+          used-next = kept .used-kept;
+          new-id = kept .id-kept (l .used) ∙ ap (λ (p : Place). p .id) at-new;
+          new-length = kept .length-kept (l .used) ∙ ap (λ (p : Place). p .length) at-new;
+          old-id = λ k h. kept .id-kept k ∙ ap (λ (p : Place). p .id) (at-old k (λ (e : k ≡ l .used). omega arith));
+          old-length = λ k h. kept .length-kept k ∙ ap (λ (p : Place). p .length) (at-old k (λ (e : k ≡ l .used). omega arith));
+          old-settled = λ k h n.
+              let e = at-old k (λ (e : k ≡ l .used). omega arith) in
+              kept .settled-kept k (λ q. n (ap (λ (p : Place). p .standing) (sym e) ∙ q)) ∙ e;
+          untaken = λ k h. kept .untaken-kept k (omega arith) ∙ at-old k (λ (e : k ≡ l .used). omega arith);
+          still-sound = settled-sound taken s′ r settled (taken-sound s′ same);
+          settles = taken-stands;
+        }
+
+-- a standing other than waiting is as often there as before, or more often
+module _ {l : Book} {s b : List ℕ} {u : Update} {r : Book} {s′ : List ℕ} (t : Took l s b u r s′) where
+  one-more : (c : Bool) (n : ℕ) → n ≤ cond c (n + 1) n
+  one-more true n = omega arith
+  one-more false n = omega arith
+
+  count-grows : (p : Standing → Bool) → p Waiting ≡ false → countOf p l ≤ countOf p r
+  unfolding countOf
+  count-grows p w =
+      let before : ℕ → Bool = λ k. p (placeAt l k .standing) in
+      let after : ℕ → Bool = λ k. p (placeAt r k .standing) in
+      let stays : (k : ℕ) → k < l .used → before k ≡ true → after k ≡ true =
+      λ k h e. ap (λ (q : Place). p (q .standing)) (t .old-settled k h (λ q. true-false e (ap p q ∙ w))) ∙ e in
+      let last : countBelow (r .used) after ≡ cond (after (l .used)) (countBelow (l .used) after + 1) (countBelow (l .used) after) =
+      ap (λ (n : ℕ). countBelow n after) (t .used-next) ∙ countBelow-more (l .used) after in
+      omega (arith, countBelow-mono (l .used) before after stays, last, one-more (after (l .used)) (countBelow (l .used) after))
+
+  pub held-grows : countOf isHeld l ≤ countOf isHeld r
+  unfolding isHeld
+  held-grows = count-grows isHeld refl
+
+  pub void-grows : countOf isVoid l ≤ countOf isVoid r
+  unfolding isVoid
+  void-grows = count-grows isVoid refl

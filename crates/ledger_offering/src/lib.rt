@@ -1,0 +1,92 @@
+// An offer of a well-formed update.
+ghost use mathlib.Core.Path.{_≡_};
+ghost use mathlib.Core.Option.{none};
+ghost use Prim.Native.Nat.{_<_};
+ghost use Rattle.sha256_fips180.specs.Fips180.{SHA-256};
+ghost use Rattle.ledger_state.specs.State.{findIn};
+ghost use Rattle.ledger_state.specs.View.{bookOf};
+ghost use Rattle.ledger_offering.specs.Offer.{Offering, left as leftAs, Formed};
+use ledger_refusals::Refusal;
+use ledger_row1::held_count;
+use ledger_row1::void_count;
+use ledger_settling::settle;
+use ledger_state::Found;
+use ledger_state::Ledger;
+use ledger_state::PLACES;
+use ledger_state::Standing;
+use ledger_state::find::find;
+use ledger_state::store::write_at;
+
+// What an offer answers.
+pub enum Answer {
+    // The update took a place: how it stands, how many updates are newly held, and how many newly void.
+    Taken {
+        standing: Standing,
+        held: usize,
+        void: usize,
+    },
+    // The update was stored before, and stands so.
+    Known(Standing),
+    Refused(Refusal),
+}
+
+// An answer beside the ledger that the next call is handed.
+pub struct Offered {
+    pub answer: Answer,
+    pub ledger: Ledger,
+}
+
+// An answer that leaves the ledger as it was.
+pub fn left(ledger: Ledger, answer: Answer) -> Offered
+    ensures { λ r. ⌜ r ≡ leftAs ledger answer ⌝ }
+{
+    Offered {
+        answer: answer,
+        ledger: ledger,
+    }
+}
+
+// Takes the next place for an update whose id is not stored.
+fn take(ledger: Ledger, store: &mut [u8], update: &[u8], id: [u8; 32]) -> Offered
+    requires { ⌜ Formed (bookOf ledger) (now store) (now update) × (id ≡ SHA-256 (now update)) × (findIn (bookOf ledger) id ≡ none) × (bookOf ledger .used < 64) ⌝ }
+    ensures { λ r. ⌜ Offering ledger (now (store .entry)) (now (update .entry)) r (now (store .exit)) ⌝ }
+{
+    let k = ledger.used;
+    write_at(store, k, update);
+    let next = settle(ledger.taken(id, update.len()), store);
+    let p = next.places[k];
+    let standing = p.standing;
+    let held = held_count(next) - held_count(ledger);
+    let void = void_count(next) - void_count(ledger);
+    Offered {
+        answer: Answer::Taken {
+            standing: standing,
+            held: held,
+            void: void,
+        },
+        ledger: next,
+    }
+}
+
+// The offer of a well-formed update: hashed once, and looked up.
+pub fn offer_formed(ledger: Ledger, store: &mut [u8], update: &[u8]) -> Offered
+    requires { ⌜ Formed (bookOf ledger) (now store) (now update) ⌝ }
+    ensures { λ r. ⌜ Offering ledger (now (store .entry)) (now (update .entry)) r (now (store .exit)) ⌝ }
+{
+    let id = sha256_digest::digest(update);
+    match find(ledger, &id) {
+        Found::At(k) => {
+            let p = ledger.places[k];
+            let standing = p.standing;
+            left(ledger, Answer::Known(standing))
+        }
+        Found::Nowhere => {
+            let used = ledger.used;
+            if used == PLACES {
+                left(ledger, Answer::Refused(Refusal::Full))
+            } else {
+                take(ledger, store, update, id)
+            }
+        }
+    }
+}

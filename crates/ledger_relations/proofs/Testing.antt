@@ -1,0 +1,139 @@
+-- The tests of places, from what their parts answer.
+use Prim.Native.Nat.{ℕ, _+_, _≤_, _<_}
+use mathlib.Core.Path.{_≡_, refl, sym, ap, ap₂, _∙_}
+use mathlib.Core.List.{List}
+use mathlib.Core.Bool.{Bool, true, false, not, _&&_, _||_}
+use native.Mathlib.Numerals.{add-one}
+use native.Mathlib.Omega.{arith}
+use borrow.Author.Tests.{eq-eqb, ne-eqb}
+use lib.Dec.{eqb}
+use Rattle.rules.specs.Settle.{isInsert}
+use Rattle.bitset.specs.Below.{anyBelow}
+use Rattle.bitset.specs.BelowLaws.{anyBelow←}
+use Rattle.bitset.specs.Bits.{has, count}
+use Rattle.ledger_state.specs.declared.Standing.the-variants.{Held, Waiting, Void}
+use Rattle.ledger_state.specs.State.{Place, Book, placeAt, isHeld}
+use Rattle.ledger_state.specs.Number.{hasStanding}
+use Rattle.ledger_state.specs.NumberLaws.{is-held, is-waiting, is-void}
+use Rattle.update_fields.specs.Fields.{testOf, authorIn, isAnyAdd}
+use Rattle.ledger_relations.specs.declared.Relation.{Relation}
+use Rattle.ledger_relations.specs.declared.Relation.the-variants.{Removes, Deletes}
+use Rattle.ledger_relations.specs.PlaceTests.{idAt, decodedAt, heldAt, waitingAt, voidAt, removedAt, presentAt, deletedAt, shownAt}
+use Rattle.ledger_relations.specs.Related.{neither, decodedIn, forks, heldRelates, rankedIn, someHeld}
+
+-- a test of the numbers below n
+pub any-more : (n : ℕ) (p : ℕ → Bool) → anyBelow (n + 1) p ≡ anyBelow n p || p n
+unfolding anyBelow
+any-more n p = ap (λ (m : ℕ). anyBelow m p) (add-one n)
+
+pub any-zero : (p : ℕ → Bool) → anyBelow 0 p ≡ false
+unfolding anyBelow
+any-zero p = refl
+
+pub with-true : (x : Bool) → (x && true) ≡ x
+with-true true = refl
+with-true false = refl
+
+with-false : (x : Bool) → (x && false) ≡ false
+with-false true = refl
+with-false false = refl
+
+both-true : {a b c : Bool} → a ≡ true → b ≡ c → b ≡ (a && c)
+both-true {a} {b} {c} e f = f ∙ ap (λ (x : Bool). x && c) (sym e)
+
+first-false : {a : Bool} (c : Bool) → a ≡ false → false ≡ (a && c)
+first-false c e = ap (λ (x : Bool). x && c) (sym e)
+
+module _ (own : Place) (k : ℕ) (other : Place) (q : ℕ) where
+  pub apart-same : k ≡ q → false ≡ neither own k other q
+  apart-same e = sym (ap (λ (b : Bool). not b && (not (has (other .ancestors) k) && not (has (own .ancestors) q))) (eq-eqb k q e))
+
+  pub apart-above : {b : Bool} → (k ≡ q → ⊥) → b ≡ has (other .ancestors) k → b ≡ true → false ≡ neither own k other q
+  apart-above n e t = sym (ap₂ (λ (x y : Bool). not x && (not y && not (has (own .ancestors) q))) (ne-eqb k q n) (sym e ∙ t))
+
+  pub apart-below : {b c : Bool} → (k ≡ q → ⊥) → b ≡ has (other .ancestors) k → b ≡ false → c ≡ has (own .ancestors) q → not c ≡ neither own k other q
+  apart-below n e t f = ap not f ∙ sym (ap₂ (λ (x y : Bool). not x && (not y && not (has (own .ancestors) q))) (ne-eqb k q n) (sym e ∙ t))
+
+  module _ (s : List ℕ) where
+    abbrev sameAuthor : Bool
+    sameAuthor = eqb (authorIn (decodedIn s own k)) (authorIn (decodedIn s other q))
+
+    -- two updates of one author
+    pub fork-apart : {c : Bool} {a b : ℕ} → c ≡ neither own k other q → c ≡ true → a ≡ authorIn (decodedIn s own k) → b ≡ authorIn (decodedIn s other q) → eqb a b ≡ forks s own k other q
+    fork-apart e t f g = ap₂ eqb f g ∙ sym (ap (λ (x : Bool). sameAuthor && x) (sym e ∙ t) ∙ with-true sameAuthor)
+
+    pub fork-related : {c : Bool} → c ≡ neither own k other q → c ≡ false → false ≡ forks s own k other q
+    fork-related e t = sym (ap (λ (x : Bool). sameAuthor && x) (sym e ∙ t) ∙ with-false sameAuthor)
+
+-- a test of a place that is to be held, by the answer whether it is
+module _ (p : Place) {b : Bool} (h : b ≡ hasStanding Held (p .standing)) where
+  pub held-and : {c x : Bool} → b ≡ true → c ≡ x → c ≡ (isHeld (p .standing) && x)
+  held-and e f = both-true (sym (h ∙ is-held (p .standing)) ∙ e) f
+
+  pub held-not : (x : Bool) → b ≡ false → false ≡ (isHeld (p .standing) && x)
+  held-not x e = first-false x (sym (h ∙ is-held (p .standing)) ∙ e)
+
+module _ (s : List ℕ) (p : Place) (k : ℕ) {b : Bool} (h : b ≡ hasStanding Held (p .standing)) where
+  -- a held Insert of a rank
+  abbrev holdsInsert : Bool
+  holdsInsert = isHeld (p .standing) && testOf isInsert (decodedIn s p k)
+
+  pub ranked-none : (n : ℕ) → b ≡ false → false ≡ rankedIn s n p k
+  ranked-none n e = ap (λ (x : Bool). x && eqb (count (p .ancestors)) n) (held-not p h (testOf isInsert (decodedIn s p k)) e)
+
+  pub ranked-other : (n : ℕ) {m : ℕ} → m ≡ count (p .ancestors) → (m ≡ n → ⊥) → false ≡ rankedIn s n p k
+  ranked-other n e f = sym (ap (λ (x : Bool). holdsInsert && x) (ne-eqb (count (p .ancestors)) n (λ g. f (e ∙ g))) ∙ with-false holdsInsert)
+
+  pub ranked-insert : (n : ℕ) {c : Bool} {m : ℕ} → b ≡ true → m ≡ count (p .ancestors) → m ≡ n → c ≡ testOf isInsert (decodedIn s p k) → c ≡ rankedIn s n p k
+  ranked-insert n {c} e f g i =
+      held-and p h e i ∙ sym (ap (λ (x : Bool). holdsInsert && x) (eq-eqb (count (p .ancestors)) n (sym f ∙ g)) ∙ with-true holdsInsert)
+
+module _ (l : Book) (s : List ℕ) (k : ℕ) where
+  -- the standings
+  pub held-is : {b : Bool} → b ≡ hasStanding Held (placeAt l k .standing) → b ≡ heldAt l s k
+  unfolding heldAt
+  held-is e = e ∙ is-held (placeAt l k .standing)
+
+  pub waiting-is : {b : Bool} → b ≡ hasStanding Waiting (placeAt l k .standing) → b ≡ waitingAt l s k
+  unfolding waitingAt
+  waiting-is e = e ∙ is-waiting (placeAt l k .standing)
+
+  pub void-is : {b : Bool} → b ≡ hasStanding Void (placeAt l k .standing) → b ≡ voidAt l s k
+  unfolding voidAt
+  void-is e = e ∙ is-void (placeAt l k .standing)
+
+  module _ {b : Bool} (h : b ≡ hasStanding Held (placeAt l k .standing)) where
+    pub present-none : b ≡ false → false ≡ presentAt l s k
+    unfolding presentAt heldAt
+    present-none e = held-not (placeAt l k) h (testOf isAnyAdd (decodedAt l s k) && not (removedAt l s (idAt l s k))) e
+
+    pub present-other : {c : Bool} → b ≡ true → c ≡ testOf isAnyAdd (decodedAt l s k) → c ≡ false → false ≡ presentAt l s k
+    unfolding presentAt heldAt
+    present-other e f g = held-and (placeAt l k) h e (first-false (not (removedAt l s (idAt l s k))) (sym f ∙ g))
+
+    pub present-add : {c d : Bool} → b ≡ true → c ≡ testOf isAnyAdd (decodedAt l s k) → c ≡ true → d ≡ someHeld l s Removes k → not d ≡ presentAt l s k
+    unfolding presentAt removedAt heldAt someHeld
+    present-add e f g r = held-and (placeAt l k) h e (both-true (sym f ∙ g) (ap not r))
+
+  pub shown-is : {c : Bool} → c ≡ someHeld l s Deletes k → not c ≡ shownAt l s k
+  unfolding shownAt deletedAt heldAt someHeld
+  shown-is e = ap not e
+
+  -- some held place, one after the other
+  module _ (r : Relation) where
+    abbrev passes : ℕ → Bool
+    passes q = heldRelates s r (placeAt l k) k (placeAt l q) q
+
+    pub some-start : anyBelow 0 passes ≡ false
+    some-start = any-zero passes
+
+    pub some-hit : (q : ℕ) {b : Bool} → q < l .used → b ≡ passes q → b ≡ true → true ≡ someHeld l s r k
+    unfolding someHeld
+    some-hit q h e t = sym (anyBelow← (l .used) passes q h (sym e ∙ t))
+
+    pub some-more : (q : ℕ) {b : Bool} → anyBelow q passes ≡ false → b ≡ passes q → b ≡ false → anyBelow (q + 1) passes ≡ false
+    some-more q i e t = any-more q passes ∙ ap₂ _||_ i (sym e ∙ t)
+
+    pub some-end : (q : ℕ) → q ≤ l .used → l .used ≤ q → anyBelow q passes ≡ false → false ≡ someHeld l s r k
+    unfolding someHeld
+    some-end q h g i = let e : q ≡ l .used = omega arith in sym i ∙ ap (λ (m : ℕ). anyBelow m passes) e

@@ -1,0 +1,70 @@
+-- What a ledger and its store say of its places, for every ledger: their order; and of one its standing, its rank, whether it is a head, whether it marks its
+-- author, and whether the set or the list shows it.
+use Prim.Native.Nat.{ℕ}
+use mathlib.Core.List.{List}
+use mathlib.Core.Bool.{Bool, not, _&&_}
+use lib.Dec.{eqb}
+use Rattle.bytes_order.specs.Sort.{sort}
+use Rattle.update_format.specs.Update.{Id}
+use Rattle.update_format.specs.Decode.{Decoded, decode}
+use Rattle.rules.specs.Settle.{names, deletes}
+use Rattle.bitset.specs.Below.{anyBelow, upTo}
+use Rattle.bitset.specs.Bits.{has, count}
+use Rattle.ledger_state.specs.State.{Book, placeAt, storedAt, isHeld, isWaiting, isVoid}
+use Rattle.update_fields.specs.Fields.{testOf, authorIn, isAnyAdd}
+
+module _ (l : Book) (s : List ℕ) where
+  abbrev pub idAt : ℕ → Id
+  idAt k = placeAt l k .id
+
+  abbrev pub decodedAt : ℕ → Decoded
+  decodedAt k = decode (storedAt l s k)
+
+  unfoldable pub heldAt : ℕ → Bool
+  heldAt k = isHeld (placeAt l k .standing)
+
+  unfoldable pub waitingAt : ℕ → Bool
+  waitingAt k = isWaiting (placeAt l k .standing)
+
+  unfoldable pub voidAt : ℕ → Bool
+  voidAt k = isVoid (placeAt l k .standing)
+
+  unfoldable pub authorAt : ℕ → ℕ
+  authorAt k = authorIn (decodedAt k)
+
+  unfoldable pub rankAt : ℕ → ℕ
+  rankAt k = count (placeAt l k .ancestors)
+
+  -- the taken places, ascending by id
+  unfoldable pub order : List ℕ
+  order = sort idAt (upTo (l .used))
+
+  -- heads
+  unfoldable pub coveredAt : ℕ → Bool
+  coveredAt k = anyBelow (l .used) (λ (q : ℕ). heldAt q && has (placeAt l q .ancestors) k)
+
+  unfoldable pub headAt : ℕ → Bool
+  headAt k = heldAt k && not (coveredAt k)
+
+  -- marks: q is another held place of r's author, neither an ancestor of the other
+  unfoldable pub forkedWith : ℕ → ℕ → Bool
+  forkedWith r q =
+      heldAt q && (eqb (authorAt r) (authorAt q)
+      && (not (eqb r q) && (not (has (placeAt l q .ancestors) r) && not (has (placeAt l r .ancestors) q))))
+
+  unfoldable pub forkedAt : ℕ → Bool
+  forkedAt r = heldAt r && anyBelow (l .used) (forkedWith r)
+
+  -- the set: an Add that no held Remove names
+  unfoldable pub removedAt : Id → Bool
+  removedAt i = anyBelow (l .used) (λ (q : ℕ). heldAt q && testOf (names i) (decodedAt q))
+
+  unfoldable pub presentAt : ℕ → Bool
+  presentAt k = heldAt k && (testOf isAnyAdd (decodedAt k) && not (removedAt (idAt k)))
+
+  -- the list: an entry that no held Delete names
+  unfoldable pub deletedAt : Id → Bool
+  deletedAt i = anyBelow (l .used) (λ (q : ℕ). heldAt q && testOf (deletes i) (decodedAt q))
+
+  unfoldable pub shownAt : ℕ → Bool
+  shownAt k = not (deletedAt (idAt k))

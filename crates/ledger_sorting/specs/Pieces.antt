@@ -1,0 +1,57 @@
+-- What the code works with: lists of places by value, and the keys that they go by.
+use mathlib.Core.Path.{_≡_}
+use Prim.Native.Nat.{ℕ, _≤_}
+use mathlib.Core.List.{List, _∷_, _++_}
+use mathlib.Core.Bool.{Bool, true}
+use lib.ListN.{length, take, drop}
+use lib.Dec.{ltb}
+use Rattle.bytes_order.specs.Member.{keep, all}
+use Rattle.bytes_order.specs.Sort.{sort}
+use Rattle.bitset.specs.Below.{upTo}
+use Rattle.update_fields.specs.Fields.{tagIn}
+use Rattle.ledger_state.specs.State.{places, Place, Book, placeAt}
+use Rattle.ledger_relations.specs.PlaceTests.{presentAt}
+use Rattle.ledger_relations.specs.Related.{decodedIn}
+use Rattle.ledger_sorting.specs.declared.Places.{Places}
+use Rattle.ledger_sorting.specs.declared.Key.{Key}
+use Rattle.ledger_sorting.specs.declared.Key.the-variants.{Id, Tag}
+
+-- the places of a list
+abbrev pub placesIn : Places → List ℕ
+placesIn o = take (o .count) (o .items)
+
+-- k put before the index n
+abbrev pub ins : ℕ → ℕ → List ℕ → List ℕ
+ins n k xs = take n xs ++ (k ∷ drop n xs)
+
+-- each is a place of a ledger
+abbrev pub small : List ℕ → Bool
+small xs = all (λ (k : ℕ). ltb k places) xs
+
+-- a list of places by value: as many items as a ledger has places, no more of them listed, and each listed one a place
+pub record Sound (o : Places) : Type 0 where
+  pub whole : length (o .items) ≡ places
+  pub room : o .count ≤ places
+  pub inside : small (placesIn o) ≡ true
+
+-- the list is sound, and its places are xs
+pub record Lists (o : Places) (xs : List ℕ) : Type 0 where
+  pub sound : Sound o
+  pub are : placesIn o ≡ xs
+
+-- what an ascending list goes by
+abbrev pub keyIn : List ℕ → Key → Place → ℕ → List ℕ
+keyIn s Id p k = p .id
+keyIn s Tag p k = tagIn (decodedIn s p k)
+
+module _ (l : Book) (s : List ℕ) where
+  -- what an ascending list goes by, the places that it lists, and the list
+  abbrev pub keyOf : Key → ℕ → List ℕ
+  keyOf y k = keyIn s y (placeAt l k) k
+
+  abbrev pub candidate : Key → ℕ → Bool
+  candidate Id k = true
+  candidate Tag k = presentAt l s k
+
+  unfoldable pub sortedBy : Key → List ℕ
+  sortedBy y = sort (keyOf y) (keep (candidate y) (upTo (l .used)))

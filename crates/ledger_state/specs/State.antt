@@ -1,0 +1,94 @@
+-- Document 01, "Ledger and store": the bookkeeping, as laws and contracts see it, and the lent store. How a ledger keeps its bookkeeping is not said here: `View` makes
+-- this of the declared struct.
+use Prim.Native.Nat.{ℕ, _+_, _*_}
+use mathlib.Core.List.{List, _++_}
+use mathlib.Core.Option.{Option, none, some}
+use mathlib.Core.Bool.{Bool, true, false, cond}
+use lib.ListN.{length, take, drop}
+use lib.Dec.{eqb}
+use Rattle.bytes_order.specs.Order.{same}
+use Rattle.update_format.specs.Update.{Id, maxLength}
+use Rattle.update_format.specs.Decode.{part}
+use Rattle.bitset.specs.Below.{countBelow, firstBelow}
+use Rattle.ledger_state.specs.declared.Found.{Found}
+use Rattle.ledger_state.specs.declared.Found.the-variants.{At, Nowhere}
+use Rattle.ledger_state.specs.declared.Standing.{Standing}
+use Rattle.ledger_state.specs.declared.Standing.the-variants.{Held, Waiting, Void}
+
+-- "There are 64 places. .. the lent store, which has 34,112 bytes"
+abbrev pub places : ℕ
+places = 64
+
+abbrev pub storeLength : ℕ
+storeLength = 34112
+
+-- one place: its update's id and length, the set of its ancestors' places as a number (bit k for place k), and how it stands
+pub record Place : Type 0 where
+  pub id : Id
+  pub length : ℕ
+  pub ancestors : ℕ
+  pub standing : Standing
+
+-- the bookkeeping: how many places are taken, and what each place keeps
+pub record Book : Type 0 where
+  pub used : ℕ
+  pub place : ℕ → Place
+
+abbrev pub placeAt : Book → ℕ → Place
+placeAt l k = l .place k
+
+-- a row of values with another one at k
+unfoldable pub replaced : {A : Type 0} → (ℕ → A) → ℕ → A → ℕ → A
+replaced f k a j = cond (eqb j k) a (f j)
+
+-- the bookkeeping with another place k
+abbrev pub withPlace : Book → ℕ → Place → Book
+withPlace l k p = record { used = l .used; place = replaced (l .place) k p }
+
+-- the bookkeeping with its next place taken, by an update that waits
+abbrev pub withTaken : Book → Id → ℕ → Book
+withTaken l i n =
+    record {
+      used = l .used + 1;
+      place = replaced (l .place) (l .used) (record { id = i; length = n; ancestors = 0; standing = Waiting });
+    }
+
+-- the bookkeeping with the place k settled: another standing and ancestor set
+abbrev pub withStanding : Book → ℕ → Standing → ℕ → Book
+withStanding l k v w =
+    withPlace l k (record { id = placeAt l k .id; length = placeAt l k .length; ancestors = w; standing = v })
+
+-- "Place k's update is written from byte 533 × k of the lent store"
+abbrev pub storedAt : Book → List ℕ → ℕ → List ℕ
+storedAt l s k = part s (maxLength * k) (placeAt l k .length)
+
+-- the store with the bytes b written from byte at on; "no other byte changes"
+abbrev pub written : List ℕ → ℕ → List ℕ → List ℕ
+written s at b = take at s ++ (b ++ drop (at + length b) s)
+
+-- the first taken place with this id
+unfoldable pub findIn : Book → Id → Option ℕ
+findIn l i = firstBelow (l .used) (λ (k : ℕ). same (placeAt l k .id) i)
+
+abbrev pub foundOf : Option ℕ → Found
+foundOf none = Nowhere
+foundOf (some k) = At k
+
+-- how many taken places have a standing
+unfoldable pub isHeld : Standing → Bool
+isHeld Held = true
+isHeld Waiting = false
+isHeld Void = false
+
+unfoldable pub isWaiting : Standing → Bool
+isWaiting Held = false
+isWaiting Waiting = true
+isWaiting Void = false
+
+unfoldable pub isVoid : Standing → Bool
+isVoid Held = false
+isVoid Waiting = false
+isVoid Void = true
+
+unfoldable pub countOf : (Standing → Bool) → Book → ℕ
+countOf p l = countBelow (l .used) (λ (k : ℕ). p (placeAt l k .standing))

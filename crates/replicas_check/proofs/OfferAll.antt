@@ -1,0 +1,34 @@
+-- Offers of a list, one after the other: the first i of them, and one more.
+use mathlib.Core.Path.{_≡_, _∙_, ap, subst}
+use Prim.Native.Nat.{ℕ, _+_, _<_, _≤_, suc}
+use native.Mathlib.Numerals.{add-one}
+use mathlib.Core.List.{List, [], _∷_, _++_, map}
+use denote.Ref.{RefT, now}
+use lib.ListN.{length, take, getD, length-map, List·getD-map}
+use lib.Seq.{take-suc, take-all}
+use Rattle.ledger_state.specs.declared.Ledger.{Ledger}
+use Rattle.ledger_offering.specs.Values.{OfferValues}
+use Rattle.ledger_offering.specs.Offer.{OfferRow}
+use Rattle.ledger.specs.Calls.{Calls, done, call}
+
+-- what a list of slices holds
+abbrev pub bytes : List (RefT (List ℕ)) → List (List ℕ)
+bytes xs = map (λ (x : RefT (List ℕ)). now x) xs
+
+calls-then : {l l′ r : Ledger} {s s′ t b : List ℕ} {bs : List (List ℕ)} {v : OfferValues}
+    → Calls l s bs l′ s′ → OfferRow l′ s′ b v r t → Calls l s (bs ++ (b ∷ [])) r t
+calls-then done o = call o done
+calls-then (call p c) o = call p (calls-then c o)
+
+bytes-at : (xs : List (RefT (List ℕ))) (i : ℕ) (d : RefT (List ℕ)) → i < length xs → take (suc i) (bytes xs) ≡ take i (bytes xs) ++ (now (getD xs i d) ∷ [])
+bytes-at xs i d h =
+    take-suc (bytes xs) i (now d) (rw length-map h)
+    ∙ ap (λ (b : List ℕ). take i (bytes xs) ++ (b ∷ [])) (List·getD-map (λ (x : RefT (List ℕ)). now x) xs i d)
+
+pub offered-next : {l l′ r : Ledger} {s s′ t : List ℕ} {v : OfferValues} (xs : List (RefT (List ℕ))) (i : ℕ) (d : RefT (List ℕ)) → i < length xs
+    → Calls l s (take i (bytes xs)) l′ s′ → OfferRow l′ s′ (now (getD xs i d)) v r t → Calls l s (take (i + 1) (bytes xs)) r t
+offered-next xs i d h c o = rw (add-one, bytes-at xs i d h) (calls-then c o)
+
+pub offered-all : {l l′ : Ledger} {s s′ : List ℕ} (xs : List (RefT (List ℕ))) (i : ℕ) → length xs ≤ i
+    → Calls l s (take i (bytes xs)) l′ s′ → Calls l s (bytes xs) l′ s′
+offered-all {l} {l′} {s} {s′} xs i h c = subst (λ (bs : List (List ℕ)). Calls l s bs l′ s′) (take-all i (bytes xs) (rw length-map h)) c

@@ -1,0 +1,132 @@
+-- What the answer of the copy check says of the two sets.
+use mathlib.Core.Path.{_≡_, refl, sym, _∙_, ap}
+use Prim.Native.Nat.{ℕ, _≤_}
+use native.Mathlib.Omega.{arith}
+use mathlib.Core.List.{List}
+use mathlib.Core.Bool.{Bool, true, false}
+use lib.ListN.{length, take}
+use Rattle.bytes_order.specs.Order.{same}
+use Rattle.bytes_order.specs.OrderLaws.{same→eq, eq→same}
+use Rattle.ledger_state.specs.declared.Ledger.{Ledger}
+use Rattle.ledger_state.specs.State.{storeLength}
+use Rattle.ledger_state.specs.View.{bookOf, freshLedger}
+use Rattle.ledger_refusals.specs.declared.Refusal.{Refusal}
+use Rattle.ledger_refusals.specs.Numbers.{refusalNumber}
+use Rattle.ledger.specs.declared.Reported.the-variants.{Written}
+use Rattle.ledger.specs.Calls.{Calls, stored, offers-stand}
+use Rattle.ledger.specs.Report.{Reporting}
+use Rattle.replicas_check.specs.declared.Compared.{Compared}
+use Rattle.replicas_check.specs.declared.Compared.the-variants.{Same, Different, FirstUnreported, SecondUnreported}
+use Rattle.replicas_theorem.specs.Sets.{setOf, reportFor, Fits, NoCollision}
+use Rattle.replicas_theorem.specs.Copies.{Copy, SideBySide, side-by-side}
+use Rattle.replicas_check.specs.LengthLaws.{reported-store, written-length}
+use Rattle.replicas_theorem.specs.FitLaws.{report-answers}
+use Rattle.replicas_check.specs.Check.{comparedOf, Checking, first-unreported, second-unreported, compared}
+
+-- the lengths of the two full reports, by the answer
+unfoldable pub firstLength : Compared → ℕ
+firstLength (Same n) = n
+firstLength (Different n k) = n
+firstLength (FirstUnreported e) = 0
+firstLength (SecondUnreported e) = 0
+
+unfoldable pub secondLength : Compared → ℕ
+secondLength (Same n) = n
+secondLength (Different n k) = k
+secondLength (FirstUnreported e) = 0
+secondLength (SecondUnreported e) = 0
+
+-- the answer is that of two reports
+pub record BothReported (r : Compared) : Type 0 where
+  pub first-reported : (e : Refusal) → r ≡ FirstUnreported e → ⊥
+  pub second-reported : (e : Refusal) → r ≡ SecondUnreported e → ⊥
+
+-- What such an answer says: "same" exactly when the sets are equal; and each buffer begins with the report that the rules give for its set.
+pub record CheckSays (xs ys : List (List ℕ)) (r : Compared) (out other-out : List ℕ) : Type 0 where
+  pub equal-sets-same : setOf xs ≡ setOf ys → (n : ℕ) × (r ≡ Same n)
+  pub same-equal-sets : (n : ℕ) → r ≡ Same n → setOf xs ≡ setOf ys
+  pub first-right : take (firstLength r) out ≡ reportFor (setOf xs)
+  pub second-right : take (secondLength r) other-out ≡ reportFor (setOf ys)
+
+-- the answer for two full reports
+module _ (first second : List ℕ) where
+  compared-lengths : (t : Bool) → same first second ≡ t
+      → (firstLength (comparedOf first second) ≡ length first) × (secondLength (comparedOf first second) ≡ length second)
+  unfolding comparedOf firstLength secondLength
+  compared-lengths true e = (rw e (ap length (sym (same→eq first second e))), rw e refl)
+  compared-lengths false e = (rw e refl, rw e refl)
+
+  compared-same : first ≡ second → comparedOf first second ≡ Same (length second)
+  unfolding comparedOf
+  compared-same e = rw (eq→same first second e) refl
+
+  same-compared : (t : Bool) → same first second ≡ t → (n : ℕ) → comparedOf first second ≡ Same n → first ≡ second
+  unfolding comparedOf
+  same-compared true e n q = same→eq first second e
+  same-compared false e n q =
+      let d : comparedOf first second ≡ Different (length first) (length second) = rw e refl in
+      let z : _≡_ {A = ℕ} 0 1 = cc in
+      absurd (omega arith)
+
+  compared-both : (t : Bool) → same first second ≡ t → BothReported (comparedOf first second)
+  unfolding comparedOf
+  compared-both true h =
+      let d : comparedOf first second ≡ Same (length second) = rw h refl in
+      record {
+        first-reported = λ e q. let z : _≡_ {A = ℕ} 0 1 = cc in omega arith;
+        second-reported = λ e q. let z : _≡_ {A = ℕ} 0 1 = cc in omega arith;
+      }
+  compared-both false h =
+      let d : comparedOf first second ≡ Different (length first) (length second) = rw h refl in
+      record {
+        first-reported = λ e q. let z : _≡_ {A = ℕ} 0 1 = cc in omega arith;
+        second-reported = λ e q. let z : _≡_ {A = ℕ} 0 1 = cc in omega arith;
+      }
+
+-- a copy that was reported
+reported-copy : {l : Ledger} {s s′ o o′ : List ℕ} {bs : List (List ℕ)} (n : ℕ) → Calls freshLedger s bs l s′ → Reporting (bookOf l) s′ o (Written n) o′
+    → Copy bs (take n o′)
+reported-copy {l} {s} {s′} {o} {o′} n c h =
+    record {
+      first-store = s;
+      store-length = reported-store c h;
+      ledger = l;
+      store = s′;
+      calls = c;
+      buffer = o;
+      buffer-after = o′;
+      answer = n;
+      reported = h;
+      shown = refl;
+    }
+
+compared-says : {l m : Ledger} {s s′ o o′ t t′ p p′ : List ℕ} {xs ys : List (List ℕ)} (n k : ℕ)
+    → Calls freshLedger s xs l s′ → Reporting (bookOf l) s′ o (Written n) o′
+    → Calls freshLedger t ys m t′ → Reporting (bookOf m) t′ p (Written k) p′
+    → Fits xs → Fits ys → NoCollision xs ys → CheckSays xs ys (comparedOf (take n o′) (take k p′)) o′ p′
+compared-says {o′ = o′} {p′ = p′} {xs = xs} {ys = ys} n k c h d q fits-first fits-second none =
+    let first = take n o′ in
+    let second = take k p′ in
+    let b : SideBySide xs ys first second = side-by-side xs ys first second (reported-copy n c h) (reported-copy k d q) fits-first fits-second none in
+    let e = compared-lengths first second (same first second) refl in
+    record {
+      equal-sets-same = λ w. (length second, compared-same first second (b .equal-sets-equal-reports w));
+      same-equal-sets = λ i w. b .equal-reports-equal-sets (same-compared first second (same first second) refl i w);
+      first-right = ap (λ (i : ℕ). take i o′) (e .0 ∙ written-length h n refl) ∙ b .first-right;
+      second-right = ap (λ (i : ℕ). take i p′) (e .1 ∙ written-length q k refl) ∙ b .second-right;
+    }
+
+-- Demand 3 of the copy check: where both copies gave a report, where neither list has more distinct well-formed updates than there are places, and no two
+-- different ones of both share a SHA-256
+pub check-says : {xs ys : List (List ℕ)} {s t o p s′ t′ o′ p′ : List ℕ} {r : Compared} → Checking xs ys s t o p r s′ t′ o′ p′
+    → BothReported r → Fits xs → Fits ys → NoCollision xs ys → CheckSays xs ys r o′ p′
+check-says (first-unreported e c h) both fits-first fits-second none = absurd (both .first-reported e refl)
+check-says (second-unreported n e c h d q) both fits-first fits-second none = absurd (both .second-reported e refl)
+check-says (compared n k c h d q) both fits-first fits-second none = compared-says n k c h d q fits-first fits-second none
+
+-- Both give one where the stores have the stated length and the buffers 12,000 bytes.
+pub check-answers : {xs ys : List (List ℕ)} {s t o p s′ t′ o′ p′ : List ℕ} {r : Compared} → Checking xs ys s t o p r s′ t′ o′ p′
+    → length s ≡ storeLength → length t ≡ storeLength → 12000 ≤ length o → 12000 ≤ length p → BothReported r
+check-answers {xs = xs} (first-unreported f c h) u v a b = absurd (report-answers (stored xs) (offers-stand u c) h a (refusalNumber f) refl)
+check-answers {ys = ys} (second-unreported n f c h d q) u v a b = absurd (report-answers (stored ys) (offers-stand v d) q b (refusalNumber f) refl)
+check-answers (compared {o′ = o′} {p′ = p′} n k c h d q) u v a b = compared-both (take n o′) (take k p′) (same (take n o′) (take k p′)) refl

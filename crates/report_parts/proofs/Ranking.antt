@@ -1,0 +1,198 @@
+-- The list's entries, put rank by rank: never more than there are places.
+use Prim.Native.Nat.{ℕ, zero, suc, _+_, _≤_, _<_}
+use mathlib.Core.Path.{_≡_, refl, sym, ap, ap₂, subst, _∙_}
+use mathlib.Core.Logic.{_⊎_, inl, inr, ⊎-elim}
+use mathlib.Core.List.{List, [], _∷_, _++_}
+use mathlib.Core.Bool.{Bool, true, false, cond, _&&_}
+use native.Mathlib.Numerals.{add-one}
+use native.Mathlib.Omega.{arith}
+use borrow.Author.Tests.{eq-eqb, ne-eqb, lt-ltb, le-ltb, ltb-true, ltb-false}
+use lib.Dec.{eqb, ltb}
+use lib.ListN.{length, drop, length-append}
+use Rattle.bytes_order.specs.BoolLaws.{bool-cases}
+use Rattle.bytes_order.specs.Order.{same}
+use Rattle.bytes_order.specs.Member.{keep}
+use Rattle.bytes_order.specs.MemberLaws.{keep-append, keep-length}
+use Rattle.rules.specs.Standing.{beginning}
+use Rattle.ledger_state.specs.State.{Book, placeAt}
+use Rattle.ledger_relations.specs.PlaceTests.{decodedAt, heldAt, rankAt, order}
+use Rattle.ledger_relations.specs.Related.{rankedIn}
+use Rattle.report_parts.specs.Board.{insertAt, byRank, after, putBy, put, putAll, entriesOf}
+use Rattle.update_fields.specs.Fields.{anchorIn}
+use Rattle.ledger_sorting.specs.declared.Places.{Places}
+use Rattle.ledger_sorting.specs.Pieces.{placesIn, ins, Sound, Lists}
+use Rattle.report_parts.specs.Ranked.{ranked}
+use Rattle.ledger_sorting.proofs.Inserting.{renamed}
+use Rattle.ledger_sorting.proofs.Keeping.{keep-no, keep-one}
+
+counted : (b : Bool) (x : ℕ) (xs : List ℕ) → length (cond b (x ∷ xs) xs) ≡ cond b (suc (length xs)) (length xs)
+counted true x xs = refl
+counted false x xs = refl
+
+-- a number below n + 1 is below n or equal to n, and not both
+numbers : (b : Bool) (y n m a c : ℕ) → m ≡ a + c →
+    cond (b && ltb y (suc n)) (suc m) m ≡ cond (b && ltb y n) (suc a) a + cond (b && eqb y n) (suc c) c
+numbers false y n m a c e = e
+numbers true y n m a c e = ⊎-elim low (⊎-elim mid high) three
+  where
+    low : y < n → cond (ltb y (suc n)) (suc m) m ≡ cond (ltb y n) (suc a) a + cond (eqb y n) (suc c) c
+    low h =
+        let g : y < suc n = omega arith in
+        rw (lt-ltb y (suc n) g, lt-ltb y n h, ne-eqb y n (λ q. omega arith)) (omega arith)
+
+    mid : y ≡ n → cond (ltb y (suc n)) (suc m) m ≡ cond (ltb y n) (suc a) a + cond (eqb y n) (suc c) c
+    mid h =
+        let g : y < suc n = omega arith in
+        let k : n ≤ y = omega arith in
+        rw (lt-ltb y (suc n) g, le-ltb y n k, eq-eqb y n h) (omega arith)
+
+    high : n < y → cond (ltb y (suc n)) (suc m) m ≡ cond (ltb y n) (suc a) a + cond (eqb y n) (suc c) c
+    high h =
+        let g : suc n ≤ y = omega arith in
+        let k : n ≤ y = omega arith in
+        rw (le-ltb y (suc n) g, le-ltb y n k, ne-eqb y n (λ q. omega arith)) (omega arith)
+
+    three : (y < n) ⊎ ((y ≡ n) ⊎ (n < y))
+    three =
+        ⊎-elim
+        (λ (q : ltb y n ≡ true). inl (ltb-true y n q))
+        (λ (q : ltb y n ≡ false).
+        ⊎-elim
+        (λ (g : ltb n y ≡ true). inr (inr (ltb-true n y g)))
+        (λ (g : ltb n y ≡ false). inr (inl (omega (arith, ltb-false y n q, ltb-false n y g))))
+        (bool-cases (ltb n y)))
+        (bool-cases (ltb y n))
+
+module _ (p : ℕ → Bool) (f : ℕ → ℕ) (n : ℕ) where
+  abbrev lower : ℕ → ℕ → Bool
+  lower m k = p k && ltb (f k) m
+
+  abbrev equal : ℕ → Bool
+  equal k = p k && eqb (f k) n
+
+  -- of those below n + 1, those below n and those equal to n
+  pub split : (xs : List ℕ) → length (keep (lower (suc n)) xs) ≡ length (keep (lower n) xs) + length (keep equal xs)
+  unfolding keep
+  split [] = refl
+  split (x ∷ xs) =
+      counted (lower (suc n) x) x (keep (lower (suc n)) xs)
+      ∙ numbers (p x) (f x) n (length (keep (lower (suc n)) xs)) (length (keep (lower n) xs)) (length (keep equal xs)) (split xs)
+      ∙ sym (ap₂ _+_ (counted (lower n x) x (keep (lower n) xs)) (counted (equal x) x (keep equal xs)))
+
+  pub none : n ≡ 0 → (xs : List ℕ) → length (keep (lower n) xs) ≡ 0
+  unfolding keep
+  none e [] = refl
+  none e (x ∷ xs) =
+      let h : n ≤ f x = omega arith in
+      rw (le-ltb (f x) n h) (go (p x) (none e xs))
+    where
+      go : (b : Bool) → length (keep (lower n) xs) ≡ 0 → length (cond (b && false) (x ∷ keep (lower n) xs) (keep (lower n) xs)) ≡ 0
+      go true i = i
+      go false i = i
+
+module _ (l : Book) (s : List ℕ) where
+  pub ranked-is : (k n : ℕ) {b : Bool} → b ≡ rankedIn s n (placeAt l k) k → b ≡ ranked l s n k
+  unfolding ranked
+  ranked-is k n e = e
+
+  by-rank-length : (n : ℕ) → length (byRank l s n) ≡ length (keep (λ (k : ℕ). insertAt l s k && ltb (rankAt l s k) n) (order l s))
+  unfolding byRank
+  by-rank-length zero = sym (none (insertAt l s) (rankAt l s) 0 refl (order l s))
+  by-rank-length (suc n) =
+      length-append (byRank l s n) (keep (λ (k : ℕ). insertAt l s k && eqb (rankAt l s k) n) (order l s))
+      ∙ ap (λ (m : ℕ). m + length (keep (λ (k : ℕ). insertAt l s k && eqb (rankAt l s k) n) (order l s))) (by-rank-length n)
+      ∙ sym (split (insertAt l s) (rankAt l s) n (order l s))
+
+  pub by-rank-most : (n : ℕ) → length (byRank l s n) ≤ length (order l s)
+  by-rank-most n = omega (arith, by-rank-length n, keep-length (λ (k : ℕ). insertAt l s k && ltb (rankAt l s k) n) (order l s))
+
+  pub by-rank-more : (n : ℕ) → byRank l s (n + 1) ≡ byRank l s n ++ keep (ranked l s n) (order l s)
+  unfolding byRank insertAt heldAt rankAt ranked
+  by-rank-more n = ap (byRank l s) (add-one n)
+
+  pub put-append : (xs es fs : List ℕ) → putAll l s xs (es ++ fs) ≡ putAll l s (putAll l s xs es) fs
+  unfolding putAll
+  put-append xs [] fs = refl
+  put-append xs (e ∷ es) fs = put-append (put l s e xs) es fs
+
+  -- the room for one more rank
+  pub rank-room : (n : ℕ) (os : List ℕ) → os ≡ order l s → length os ≤ 64 → length (byRank l s n) + length (keep (ranked l s n) os) ≤ 64
+  rank-room n os e h =
+      let f = ap (λ (x : List ℕ). length (keep (ranked l s n) x)) e in
+      let g = ap length e in
+      omega (arith, f, g, ap length (by-rank-more n), length-append (byRank l s n) (keep (ranked l s n) (order l s)), by-rank-most (n + 1))
+
+  pub rank-zero : length (byRank l s 0) ≡ 0
+  unfolding byRank
+  rank-zero = refl
+
+  pub rank-count : (n : ℕ) (os : List ℕ) → os ≡ order l s → length (byRank l s n) + length (keep (ranked l s n) os) ≡ length (byRank l s (n + 1))
+  rank-count n os e =
+      ap (λ (x : List ℕ). length (byRank l s n) + length (keep (ranked l s n) x)) e
+      ∙ sym (ap length (by-rank-more n) ∙ length-append (byRank l s n) (keep (ranked l s n) (order l s)))
+
+  pub rank-start : [] ≡ putAll l s [] (byRank l s 0)
+  unfolding byRank putAll
+  rank-start = refl
+
+  pub rank-next : (n : ℕ) (os xs : List ℕ) → os ≡ order l s → xs ≡ putAll l s [] (byRank l s n) → putAll l s xs (keep (ranked l s n) os) ≡ putAll l s [] (byRank l s (n + 1))
+  rank-next n os xs e f =
+      ap₂ (λ (x o : List ℕ). putAll l s x (keep (ranked l s n) o)) f e
+      ∙ sym (ap (putAll l s []) (by-rank-more n) ∙ put-append [] (byRank l s n) (keep (ranked l s n) (order l s)))
+
+  pub rank-end : (n : ℕ) → n ≤ 64 → 64 ≤ n → putAll l s [] (byRank l s n) ≡ entriesOf l s
+  unfolding entriesOf
+  rank-end n h g = let e : n ≡ 64 = omega arith in ap (λ (m : ℕ). putAll l s [] (byRank l s m)) e
+
+  -- those of a list from the i-th on that pass
+  module _ (q : ℕ → Bool) (xs : List ℕ) (i k : ℕ) (d : drop i xs ≡ k ∷ drop (i + 1) xs) where
+    keep-here : keep q (drop i xs) ≡ keep q (k ∷ []) ++ keep q (drop (i + 1) xs)
+    keep-here = ap (keep q) d ∙ keep-append q (k ∷ []) (drop (i + 1) xs)
+
+    pub put-next : (all all′ : List ℕ) → all′ ≡ putAll l s all (keep q (k ∷ [])) → putAll l s all (keep q (drop i xs)) ≡ putAll l s all′ (keep q (drop (i + 1) xs))
+    put-next all all′ e =
+        ap (putAll l s all) keep-here ∙ put-append all (keep q (k ∷ [])) (keep q (drop (i + 1) xs))
+        ∙ ap (λ (x : List ℕ). putAll l s x (keep q (drop (i + 1) xs))) (sym e)
+
+    pub room-next : length (keep q (drop i xs)) ≡ length (keep q (k ∷ [])) + length (keep q (drop (i + 1) xs))
+    room-next = ap length keep-here ∙ length-append (keep q (k ∷ [])) (keep q (drop (i + 1) xs))
+
+  pub room-end : (q : ℕ → Bool) (xs : List ℕ) (i : ℕ) → drop i xs ≡ [] → length (keep q (drop i xs)) ≡ 0
+  unfolding keep
+  room-end q xs i e = ap (λ (r : List ℕ). length (keep q r)) e
+
+  pub put-end : (q : ℕ → Bool) (xs all : List ℕ) (i : ℕ) → drop i xs ≡ [] → putAll l s all (keep q (drop i xs)) ≡ all
+  unfolding putAll keep
+  put-end q xs all i e = ap (λ (r : List ℕ). putAll l s all (keep q r)) e
+
+  pub put-one : (xs : List ℕ) (k : ℕ) {ks : List ℕ} → k ∷ [] ≡ ks → put l s k xs ≡ putAll l s xs ks
+  unfolding putAll
+  put-one xs k e = ap (putAll l s xs) e
+
+  pub put-none : (xs : List ℕ) {ks : List ℕ} → [] ≡ ks → xs ≡ putAll l s xs ks
+  unfolding putAll
+  put-none xs e = ap (putAll l s xs) e
+
+  -- the entries once place k is met: with it put among them, if it passes
+  module _ (q : ℕ → Bool) (es : Places) (k : ℕ) {b : Bool} (e : b ≡ q k) where
+    abbrev pub Met : Places → Type 0
+    Met es′ = Lists es′ (putAll l s (placesIn es) (keep q (k ∷ []))) × (es′ .count ≡ es .count + length (keep q (k ∷ [])))
+
+    pub met-put : {es′ r : Places} → b ≡ true → Lists r (put l s k (placesIn es)) × (r .count ≡ es .count + 1) → es′ ≡ r → Met es′
+    met-put t h a =
+        let f = keep-one q k e t in
+        subst Met (sym a) (renamed (put-one (placesIn es) k f) (h .0), omega (arith, h .1, ap length f))
+
+    pub met-left : {es′ : Places} → b ≡ false → Sound es → es′ ≡ es → Met es′
+    met-left t h a =
+        let f = keep-no q k e t in
+        subst Met (sym a) (record { sound = h; are = put-none (placesIn es) f }, omega (arith, ap length f))
+
+  -- one entry
+  pub put-first : (k : ℕ) (xs a : List ℕ) {b : Bool} → a ≡ anchorIn (decodedAt l s k) → b ≡ same a beginning → b ≡ true → ins 0 k xs ≡ put l s k xs
+  unfolding put putBy
+  put-first k xs a e f t = sym (ap (λ (x : List ℕ). cond (same x beginning) (k ∷ xs) (after l s x k xs)) (sym e) ∙ ap (λ (b : Bool). cond b (k ∷ xs) (after l s a k xs)) (sym f ∙ t))
+
+  pub put-after : (k : ℕ) (xs a : List ℕ) {b : Bool} → a ≡ anchorIn (decodedAt l s k) → b ≡ same a beginning → b ≡ false → after l s a k xs ≡ put l s k xs
+  unfolding put putBy
+  put-after k xs a e f t = sym (ap (λ (x : List ℕ). cond (same x beginning) (k ∷ xs) (after l s x k xs)) (sym e) ∙ ap (λ (b : Bool). cond b (k ∷ xs) (after l s a k xs)) (sym f ∙ t))

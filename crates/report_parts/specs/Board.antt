@@ -1,0 +1,63 @@
+-- What is read from a ledger and its store, by places: the parts of the report as the code finds them, for every ledger. The theorem `text-right` says
+-- that for a ledger that stands these are the rules' parts.
+use Prim.Native.Nat.{ℕ, zero, suc}
+use mathlib.Core.List.{List, [], _∷_, _++_}
+use mathlib.Core.Bool.{Bool, cond, _&&_}
+use lib.Dec.{eqb}
+use Rattle.bytes_order.specs.Order.{same}
+use Rattle.bytes_order.specs.Member.{keep}
+use Rattle.bytes_order.specs.Sort.{sort}
+use Rattle.update_format.specs.Update.{Id, maxAuthor}
+use Rattle.rules.specs.Standing.{beginning}
+use Rattle.rules.specs.Settle.{isInsert}
+use Rattle.bitset.specs.Below.{anyBelow, upTo}
+use Rattle.update_fields.specs.Fields.{testOf, tagIn, valueIn, anchorIn}
+use Rattle.ledger_state.specs.State.{places, Book}
+use Rattle.ledger_relations.specs.PlaceTests.{idAt, decodedAt, heldAt, authorAt, rankAt, order, forkedAt, presentAt}
+
+module _ (l : Book) (s : List ℕ) where
+  -- marks
+  unfoldable pub markedAt : ℕ → Bool
+  markedAt a = anyBelow (l .used) (λ (r : ℕ). eqb (authorAt l s r) a && forkedAt l s r)
+
+  -- the marked authors, ascending
+  unfoldable pub marksOf : List ℕ
+  marksOf = keep markedAt (upTo (suc maxAuthor))
+
+  -- the set: the places of the Adds that no held Remove names, ascending by tag, of each tag one
+  unfoldable pub tagAt : ℕ → List ℕ
+  tagAt k = tagIn (decodedAt l s k)
+
+  unfoldable pub tagOrder : List ℕ
+  tagOrder = sort tagAt (keep (presentAt l s) (upTo (l .used)))
+
+  -- the list: the held Inserts, of lower rank first, then of smaller id; each put at the beginning or right after its anchor, so that a later one
+  -- stands before the siblings put there earlier and all that hangs under them
+  unfoldable pub insertAt : ℕ → Bool
+  insertAt k = heldAt l s k && testOf isInsert (decodedAt l s k)
+
+  -- those of rank below n
+  unfoldable pub byRank : ℕ → List ℕ
+  byRank zero = []
+  byRank (suc n) = byRank n ++ keep (λ (k : ℕ). insertAt k && eqb (rankAt l s k) n) (order l s)
+
+  -- e right after the first entry whose id is a; at the end where there is none
+  unfoldable pub after : Id → ℕ → List ℕ → List ℕ
+  after a e [] = e ∷ []
+  after a e (x ∷ xs) = cond (same (idAt l s x) a) (x ∷ e ∷ xs) (x ∷ after a e xs)
+
+  unfoldable pub putBy : Id → ℕ → List ℕ → List ℕ
+  putBy a e xs = cond (same a beginning) (e ∷ xs) (after a e xs)
+
+  unfoldable pub put : ℕ → List ℕ → List ℕ
+  put e xs = putBy (anchorIn (decodedAt l s e)) e xs
+
+  unfoldable pub putAll : List ℕ → List ℕ → List ℕ
+  putAll xs [] = xs
+  putAll xs (e ∷ es) = putAll (put e xs) es
+
+  unfoldable pub entriesOf : List ℕ
+  entriesOf = putAll [] (byRank places)
+
+  unfoldable pub valueAt : ℕ → List ℕ
+  valueAt k = valueIn (decodedAt l s k)

@@ -1,0 +1,66 @@
+-- `lines` meets its contract. The loop's invariant: what prints the lines from the i-th place on prints them all.
+use Prim.Native.Nat.{ℕ, _+_, _*_, _-_, _≤_}
+use mathlib.Core.Path.{_≡_, refl}
+use mathlib.Core.List.{List}
+use native.Mathlib.Omega.{arith}
+use borrow.Author.Needs.{needs}
+use lib.ListN.{length, getD, drop}
+use denote.Ref.{now}
+use Rattle.update_format.specs.Decode.{part}
+use Rattle.bytes_print.specs.Page.{Prints}
+use Rattle.ledger_sorting.specs.Pieces.{placesIn}
+use Rattle.ledger_state.specs.View.{bookOf}
+use Rattle.report_text.specs.Parts.{linesOf}
+use Rattle.bytes_print.proofs.Printing.{both, nothing, same-text}
+use Rattle.ledger_sorting.proofs.Inserting.{next, ended, below}
+use Rattle.report_text.proofs.TextLaws.{lines-next, lines-end}
+use Rattle.report_text.proofs.parts.lines.Statement.{statement}
+use Rattle.report_text.proofs.parts.lines.Tie as tie
+
+abbrev Inv-loop : tie.InvT-loop
+Inv-loop l store part page₀ at places count end₀ i₀ page end i =
+    (i ≤ count)
+    × (length page ≡ length page₀)
+    × (end ≤ at + 100 * i)
+    × ((p : List ℕ) (m : ℕ) → Prints page end (linesOf (bookOf l) store part (drop i (placesIn places))) p m → Prints page₀ at (linesOf (bookOf l) store part (placesIn places)) p m)
+
+abbrev μ-loop : tie.MeasureT-loop
+μ-loop l store part page₀ at places count end₀ i₀ page end i = count - i
+
+pub lines-spec : {M : Type 1} → statement M
+lines-spec =
+    tie.close
+    (tie.spec
+    Inv-loop
+    μ-loop
+    (λ c. (search needs, refl, omega arith, λ p m h. h))
+    (λ c. search needs)
+    (λ c. search needs)
+    (λ c κs.
+    let loop = c .before .before .before .loop in
+    let pre = c .before .before .before .before .before .before .pre in
+    let args = c .before .before .before .before .before .before .args in (
+      pre .0,
+      below (args .t4) (pre .1) (loop .i) (search needs),
+      omega (arith, loop .inv .2, pre .1 .room, pre .2),
+    ))
+    (λ c. search needs)
+    (λ c. search needs)
+    (λ c.
+    let args = c .before .before .before .before .before .before .before .before .before .args in
+    let loop = c .before .before .before .before .before .before .loop in
+    let pre = c .before .before .before .before .before .before .before .before .before .pre in
+    let shown-line = c .before .before .shown-line in (
+      search needs,
+      omega (arith, shown-line .kept .1 .1 .1 .1 .0, loop .inv .1),
+      omega (arith, shown-line .ensures .1, loop .inv .2),
+      λ p m h. loop .inv .3 p m (same-text (lines-next (bookOf (args .l)) (now (args .store)) (args .part) (placesIn (args .t4)) (loop .i) (getD (args .t4 .items) (loop .i) 0) (next (args .t4) (pre .1) (loop .i) (search needs))) (both (shown-line .ensures .0) h)),
+    ))
+    (λ c. c .before .loop .inv .1)
+    (λ c.
+    let args = c .before .before .before .before .args in
+    let loop = c .before .loop in
+    let pre = c .before .before .before .before .pre in (
+      loop .inv .3 (loop .page) (loop .end) (same-text (lines-end (bookOf (args .l)) (now (args .store)) (args .part) (placesIn (args .t4)) (loop .i) (ended (args .t4) (pre .1) (loop .i) (search needs))) (nothing (loop .page) (loop .end))),
+      omega (arith, loop .inv .2, pre .1 .room),
+    )))

@@ -1,0 +1,68 @@
+-- The lines and the words of the report in bytes, as they are printed.
+use Prim.Native.Nat.{ℕ}
+use mathlib.Core.Path.{_≡_, refl, sym, ap, _∙_}
+use mathlib.Core.List.{List, [], _∷_, _++_, append-assoc}
+use denote.Enum.Declared.{tagOf}
+use types.Run.{OneOf, miss}
+use Rattle.update_format.specs.Update.{Id}
+use Rattle.update_format.specs.Decode.{Decoded}
+use Rattle.rules.specs.Report.{codes, ascii, hex, decimal, bytesLine, markLine}
+use Rattle.update_fields.specs.Fields.{authorIn}
+use Rattle.report_wording.specs.declared.Part.{Part}
+use Rattle.report_wording.specs.declared.Part.the-variants.{Held, Heads, Waiting, Void, Marks, Set, List as Entries}
+use Rattle.report_wording.specs.Lines.{wordOf, updateLineBy, lineBy}
+use Rattle.report_wording.proofs.Part.{the-type}
+
+-- lines: 40, 41, 32 and 10 are the brackets, the space and the newline
+
+pub bytes-line : (bs : List ℕ) → (40 ∷ []) ++ (hex bs ++ (41 ∷ 10 ∷ [])) ≡ bytesLine bs
+unfolding bytesLine ascii codes
+bytes-line bs = refl
+
+pub open-bytes : (bs : List ℕ) → (40 ∷ []) ++ hex bs ≡ ascii "(" ++ hex bs
+unfolding ascii codes
+open-bytes bs = refl
+
+pub mark-line : (a : ℕ) → (40 ∷ []) ++ (decimal a ++ (41 ∷ 10 ∷ [])) ≡ markLine a
+unfolding markLine ascii codes
+mark-line a = refl
+
+pub update-line : (i : Id) (d : Decoded) (a : ℕ) → a ≡ authorIn d →
+    (ascii "(" ++ hex i) ++ ((32 ∷ []) ++ (decimal a ++ (41 ∷ 10 ∷ []))) ≡ updateLineBy i d
+unfolding ascii codes
+update-line i d a e =
+    append-assoc (40 ∷ []) (hex i) ((32 ∷ []) ++ (decimal a ++ (41 ∷ 10 ∷ [])))
+    ∙ ap (λ (x : ℕ). 40 ∷ (hex i ++ (32 ∷ (decimal x ++ (41 ∷ 10 ∷ []))))) e
+
+-- Held, Waiting and Void, the parts 0, 2 and 3, have lines of updates
+pub update-lines : (i : Id) (d : Decoded) (k : ℕ) (p : Part) → OneOf (0 ∷ 2 ∷ 3 ∷ []) (tagOf the-type p) → updateLineBy i d ≡ lineBy p i d k
+update-lines i d k Held n = refl
+update-lines i d k Waiting n = refl
+update-lines i d k Void n = refl
+update-lines i d k Heads n = absurd (miss (0 ∷ 2 ∷ 3 ∷ []) 1 tt n)
+update-lines i d k Marks n = absurd (miss (0 ∷ 2 ∷ 3 ∷ []) 4 tt n)
+update-lines i d k Set n = absurd (miss (0 ∷ 2 ∷ 3 ∷ []) 5 tt n)
+update-lines i d k Entries n = absurd (miss (0 ∷ 2 ∷ 3 ∷ []) 6 tt n)
+
+-- a part's word in bytes
+abbrev pub bytesOf : Part → List ℕ
+bytesOf Held = 40 ∷ 104 ∷ 101 ∷ 108 ∷ 100 ∷ 10 ∷ []
+bytesOf Heads = 40 ∷ 104 ∷ 101 ∷ 97 ∷ 100 ∷ 115 ∷ 10 ∷ []
+bytesOf Waiting = 40 ∷ 119 ∷ 97 ∷ 105 ∷ 116 ∷ 105 ∷ 110 ∷ 103 ∷ 10 ∷ []
+bytesOf Void = 40 ∷ 118 ∷ 111 ∷ 105 ∷ 100 ∷ 10 ∷ []
+bytesOf Marks = 40 ∷ 109 ∷ 97 ∷ 114 ∷ 107 ∷ 115 ∷ 10 ∷ []
+bytesOf Set = 40 ∷ 115 ∷ 101 ∷ 116 ∷ 10 ∷ []
+bytesOf Entries = 40 ∷ 108 ∷ 105 ∷ 115 ∷ 116 ∷ 10 ∷ []
+
+word-bytes : (p : Part) → bytesOf p ≡ wordOf p
+unfolding ascii codes
+word-bytes Held = refl
+word-bytes Heads = refl
+word-bytes Waiting = refl
+word-bytes Void = refl
+word-bytes Marks = refl
+word-bytes Set = refl
+word-bytes Entries = refl
+
+pub word-is : {p q : Part} → p ≡ q → bytesOf q ≡ wordOf p
+word-is {p} {q} e = word-bytes q ∙ ap wordOf (sym e)

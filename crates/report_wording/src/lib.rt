@@ -1,0 +1,98 @@
+// The words and the lines of the report, printed on a page that the caller lends.
+ghost use Prim.Native.Nat.{_+_, _≤_, _<_};
+ghost use lib.ListN.{length};
+ghost use mathlib.Core.List.{_++_};
+ghost use Rattle.update_format.specs.Decode.{decode};
+ghost use Rattle.rules.specs.Report.{ascii, hex, bytesLine, markLine};
+ghost use Rattle.bytes_print.specs.Page.{Prints, farthest};
+ghost use Rattle.report_wording.specs.Lines.{wordOf, updateLineBy, lineBy};
+use bytes_print::digits;
+use bytes_print::put;
+
+// The parts of the report.
+pub enum Part {
+    Held,
+    Heads,
+    Waiting,
+    Void,
+    Marks,
+    Set,
+    List,
+}
+
+// Prints the first line of a part.
+pub fn word(part: Part, page: &mut [u8], at: usize) -> usize
+    requires { ⌜ at ≤ farthest ⌝ }
+    ensures prints { λ r. ⌜ Prints (now (page .entry)) at (wordOf part) (now (page .exit)) r ⌝ }
+    ensures small { λ r. ⌜ r ≤ at + 10 ⌝ }
+{
+    match part {
+        Part::Held => put(page, at, b"(held\n"),
+        Part::Heads => put(page, at, b"(heads\n"),
+        Part::Waiting => put(page, at, b"(waiting\n"),
+        Part::Void => put(page, at, b"(void\n"),
+        Part::Marks => put(page, at, b"(marks\n"),
+        Part::Set => put(page, at, b"(set\n"),
+        Part::List => put(page, at, b"(list\n"),
+    }
+}
+
+// A line of bytes.
+fn bytes_line(bytes: &[u8], page: &mut [u8], at: usize) -> usize
+    requires { ⌜ (at + 100 ≤ farthest) × (length (now bytes) ≤ 32) ⌝ }
+    ensures prints { λ r. ⌜ Prints (now (page .entry)) at (bytesLine (now (bytes .entry))) (now (page .exit)) r ⌝ }
+    ensures small { λ r. ⌜ r ≤ at + 100 ⌝ }
+{
+    let opened = put(page, at, b"(");
+    let shown = digits::hex(page, opened, bytes);
+    put(page, shown, b")\n")
+}
+
+// The opening bracket and the id.
+fn open_id(id: &[u8], page: &mut [u8], at: usize) -> usize
+    requires { ⌜ (at + 100 ≤ farthest) × (length (now id) ≤ 32) ⌝ }
+    ensures prints { λ r. ⌜ Prints (now (page .entry)) at (ascii "(" ++ hex (now (id .entry))) (now (page .exit)) r ⌝ }
+    ensures small { λ r. ⌜ r ≤ at + 65 ⌝ }
+{
+    let opened = put(page, at, b"(");
+    digits::hex(page, opened, id)
+}
+
+// The id and the author of an update's bytes.
+fn update_line(id: &[u8], b: &[u8], page: &mut [u8], at: usize) -> usize
+    requires { ⌜ (at + 100 ≤ farthest) × (length (now id) ≤ 32) ⌝ }
+    ensures prints { λ r. ⌜ Prints (now (page .entry)) at (updateLineBy (now (id .entry)) (decode (now (b .entry)))) (now (page .exit)) r ⌝ }
+    ensures small { λ r. ⌜ r ≤ at + 100 ⌝ }
+{
+    let author = update_fields::author_of(b);
+    let identified = open_id(id, page, at);
+    let spaced = put(page, identified, b" ");
+    let named = digits::decimal(page, spaced, author);
+    put(page, named, b")\n")
+}
+
+// A marked author.
+fn mark_line(author: usize, page: &mut [u8], at: usize) -> usize
+    requires { ⌜ (at + 100 ≤ farthest) × (author < 64) ⌝ }
+    ensures prints { λ r. ⌜ Prints (now (page .entry)) at (markLine author) (now (page .exit)) r ⌝ }
+    ensures small { λ r. ⌜ r ≤ at + 100 ⌝ }
+{
+    let opened = put(page, at, b"(");
+    let named = digits::decimal(page, opened, author as u8);
+    put(page, named, b")\n")
+}
+
+// The line in a part of an update with this id and these bytes, or of author k.
+pub fn line_by(id: &[u8], b: &[u8], part: Part, k: usize, page: &mut [u8], at: usize) -> usize
+    requires { ⌜ (at + 100 ≤ farthest) × (length (now id) ≤ 32) × (k < 64) ⌝ }
+    ensures prints { λ r. ⌜ Prints (now (page .entry)) at (lineBy part (now (id .entry)) (decode (now (b .entry))) k) (now (page .exit)) r ⌝ }
+    ensures small { λ r. ⌜ r ≤ at + 100 ⌝ }
+{
+    match part {
+        Part::Held | Part::Waiting | Part::Void => update_line(id, b, page, at),
+        Part::Heads => bytes_line(id, page, at),
+        Part::Marks => mark_line(k, page, at),
+        Part::Set => bytes_line(update_fields::tag_of(b), page, at),
+        Part::List => bytes_line(update_fields::value_of(b), page, at),
+    }
+}

@@ -1,0 +1,16 @@
+-- What the contracts say besides the standard's definitions: of the code's words and its schedule.
+use Rattle.sha256_compression.specs.declared.State.{State}
+use Prim.Native.Nat.{ℕ, _+_}
+use mathlib.Core.List.{List}
+use mathlib.Core.Path.{_≡_}
+use lib.ListN.{length, take}
+use Rattle.sha256_fips180.specs.Fips180.{Working, schedule}
+
+-- the code's eight words as the standard's
+abbrev pub working : State → Working
+working s = record { a = s .a; b = s .b; c = s .c; d = s .d; e = s .e; f = s .f; g = s .g; h = s .h }
+
+-- w is an array of 64 words, and the first 16 + n are the schedule of the block's words M so far
+pub record Scheduled (M : List ℕ) (n : ℕ) (w : List ℕ) : Type 0 where
+  pub size : length w ≡ 64
+  pub front : take (16 + n) w ≡ schedule M n

@@ -1,0 +1,118 @@
+// Answers, as the lines that the command prints for them.
+use ledger::Answer;
+use ledger::Asked;
+use ledger::Refusal;
+use ledger::Standing;
+use libc::STDOUT_FILENO;
+use replicas_check::Compared;
+use update_format::Reading;
+
+pub fn text(s: &[u8]) {
+    io::write_all(STDOUT_FILENO, s);
+}
+
+pub fn decimal(n: usize) {
+    io::print_decimal(STDOUT_FILENO, n as u64);
+}
+
+fn standing(s: Standing) {
+    match s {
+        Standing::Held => text(b"held"),
+        Standing::Waiting => text(b"waiting"),
+        Standing::Void => text(b"void"),
+    }
+}
+
+fn refused(r: Refusal) {
+    text(b"refused ");
+    decimal(r.number() as usize);
+}
+
+fn taken(s: Standing, held: usize, void: usize) {
+    text(b"taken ");
+    standing(s);
+    text(b" ");
+    decimal(held);
+    text(b" ");
+    decimal(void);
+}
+
+pub fn answered(a: Answer) {
+    text(b"(");
+    match a {
+        Answer::Taken {
+            standing: s,
+            held,
+            void,
+        } => taken(s, held, void),
+        Answer::Known(s) => {
+            text(b"known ");
+            standing(s);
+        }
+        Answer::Refused(r) => refused(r),
+    }
+    text(b")\n");
+}
+
+pub fn asked(a: Asked) {
+    text(b"(standing ");
+    match a {
+        Asked::Is(s) => standing(s),
+        Asked::Unknown => text(b"unknown"),
+        Asked::Refused(r) => refused(r),
+    }
+    text(b")\n");
+}
+
+// What two copies that are compared answer.
+pub fn compared(c: Compared) {
+    text(b"(");
+    match c {
+        Compared::Same { length } => {
+            text(b"same ");
+            decimal(length);
+        }
+        Compared::Different { first, second } => {
+            text(b"different ");
+            decimal(first);
+            text(b" ");
+            decimal(second);
+        }
+        Compared::FirstUnreported(r) => {
+            text(b"first unreported ");
+            decimal(r.number() as usize);
+        }
+        Compared::SecondUnreported(r) => {
+            text(b"second unreported ");
+            decimal(r.number() as usize);
+        }
+    }
+    text(b")\n");
+}
+
+// What bytes are read as.
+pub fn read(r: Reading) {
+    match r {
+        Reading::Update(_) => text(b"(ok)\n"),
+        Reading::Refused(m) => answered(Answer::Refused(Refusal::Malformed(m))),
+    }
+}
+
+// The SHA-256 of bytes, in hexadecimal digits, and the end of the line.
+pub fn digest(s: &[u8]) {
+    let d = sha256_digest::digest(s);
+    let mut i: usize = 0;
+    while i < 32 {
+        io::print_hex(STDOUT_FILENO, d[i] as u64, 2);
+        i += 1;
+    }
+    text(b")\n");
+}
+
+// The SHA-256 of the output buffer and of the store.
+pub fn view(store: &[u8], out: &[u8]) {
+    text(b"(buffer ");
+    digest(out);
+    text(b"(store ");
+    digest(store);
+}

@@ -1,0 +1,20 @@
+-- What the reader knows where it tests an operation's bytes: the kind byte, the place after it, and a Remove's count byte.
+use Prim.Native.Nat.{ℕ, _≤_, _<_}
+use mathlib.Core.Path.{_≡_}
+use mathlib.Core.List.{List}
+use Rattle.update_format.specs.Decode.{kindOf, bodyAt, namedCountAt, namedCountOf}
+
+pub record AtBody (b : List ℕ) (kind at named : ℕ) : Type 0 where
+  pub byte : kind ≡ kindOf b
+  pub place : at ≡ bodyAt b
+  pub count : named ≡ namedCountOf b
+  pub least : 1 ≤ kind
+  pub most : kind ≤ 4
+  pub small : at < 512
+
+-- .. and where a Remove's count byte stands
+pub record AtCount (b : List ℕ) (at named : ℕ) : Type 0 where
+  pub remove : kindOf b ≡ 2
+  pub place : at ≡ namedCountAt b
+  pub count : named ≡ namedCountOf b
+  pub small : at < 1024

@@ -1,0 +1,82 @@
+-- One update as a value, and "the update, byte by byte".
+use Prim.Native.Nat.{ℕ, _≤_}
+use mathlib.Core.Path.{_≡_}
+use mathlib.Core.List.{List, _∷_, _++_}
+use mathlib.Core.Bool.{true}
+use lib.ListN.{length}
+use Rattle.bytes_order.specs.Order.{ascending}
+use Rattle.bytes_order.specs.Member.{_∈_, concatMap}
+
+-- the bounds of document 01, each named once
+abbrev pub maxAuthor : ℕ
+maxAuthor = 15
+
+abbrev pub maxPredecessors : ℕ
+maxPredecessors = 8
+
+abbrev pub maxNamed : ℕ
+maxNamed = 8
+
+abbrev pub idLength : ℕ
+idLength = 32
+
+abbrev pub tagLength : ℕ
+tagLength = 16
+
+-- the shortest and the longest well-formed update
+abbrev pub minLength : ℕ
+minLength = 20
+
+abbrev pub maxLength : ℕ
+maxLength = 533
+
+abbrev pub Id : Type 0
+Id = List ℕ
+
+-- Add: a tag. Remove: a tag and the named ids. Insert: an anchor and a value. Delete: an id.
+pub data Operation : Type 0 where
+  Add : List ℕ → Operation
+  Remove : List ℕ → List Id → Operation
+  Insert : Id → List ℕ → Operation
+  Delete : Id → Operation
+
+pub record Update : Type 0 where
+  pub author : ℕ
+  pub preds : List Id
+  pub op : Operation
+
+-- "One kind byte: 1 Add, 2 Remove, 3 Insert, 4 Delete. Add: a 16-byte tag. Remove: a 16-byte tag, a count byte m (0 to 8), m ids strictly
+-- ascending. Insert: a 32-byte anchor, a 16-byte value. Delete: a 32-byte id."
+unfoldable pub encodeOperation : Operation → List ℕ
+encodeOperation (Add t) = 1 ∷ t
+encodeOperation (Remove t named) = 2 ∷ (t ++ (length named ∷ concatMap (λ (i : Id). i) named))
+encodeOperation (Insert a v) = 3 ∷ (a ++ v)
+encodeOperation (Delete i) = 4 ∷ i
+
+-- "Byte 0: version, 1. Byte 1: author, 0 to 15. Byte 2: count n of predecessors, 0 to 8. n predecessor ids, strictly ascending. One kind
+-- byte .. Nothing follows."
+unfoldable pub encode : Update → List ℕ
+encode u = 1 ∷ u .author ∷ length (u .preds) ∷ (concatMap (λ (i : Id). i) (u .preds) ++ encodeOperation (u .op))
+
+-- at most k ids, strictly ascending, each of 32 bytes
+pub record Ids (k : ℕ) (is : List Id) : Type 0 where
+  pub few : length is ≤ k
+  pub sized : (i : Id) → i ∈ is → length i ≡ idLength
+  pub ordered : ascending is ≡ true
+
+pub data BoundedOperation : Operation → Type 0 where
+  add : {t : List ℕ} → length t ≡ tagLength → BoundedOperation (Add t)
+  remove : {t : List ℕ} {named : List Id} → length t ≡ tagLength → Ids maxNamed named → BoundedOperation (Remove t named)
+  insert : {a : Id} {v : List ℕ} → length a ≡ idLength → length v ≡ tagLength → BoundedOperation (Insert a v)
+  delete : {i : Id} → length i ≡ idLength → BoundedOperation (Delete i)
+
+pub record Bounded (u : Update) : Type 0 where
+  pub author-small : u .author ≤ maxAuthor
+  pub preds-bounded : Ids maxPredecessors (u .preds)
+  pub op-bounded : BoundedOperation (u .op)
+
+-- "Bytes so laid out, and no others, are a well-formed update."
+pub record WellFormed (b : List ℕ) : Type 0 where
+  pub value : Update
+  pub bounded : Bounded value
+  pub laid-out : encode value ≡ b

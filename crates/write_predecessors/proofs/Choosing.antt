@@ -1,0 +1,154 @@
+-- The choice of the predecessors, one place after the other.
+use Prim.Native.Nat.{ℕ, _+_, _≤_, _<_}
+use mathlib.Core.Path.{_≡_, refl, sym, ap, ap₂, _∙_}
+use mathlib.Core.List.{List, [], _∷_, _++_}
+use mathlib.Core.Option.{Option, none, some}
+use mathlib.Core.Bool.{Bool, true, false, cond, _||_}
+use native.Mathlib.Omega.{arith}
+use borrow.Author.Tests.{lt-ltb, le-ltb, le-leb, lt-leb, eq-eqb, ne-eqb}
+use lib.Dec.{ltb, leb, eqb}
+use lib.ListN.{length, getD, take}
+use lib.Seq.{getD-take, take-take, take-all}
+use Rattle.bytes_order.specs.Member.{keep}
+use Rattle.bytes_order.specs.MemberLaws.{keep-append, all→∈, ∈→all}
+use Rattle.bytes_order.specs.ListLaws.{take-∈}
+use Rattle.bitset.specs.Below.{firstBelow, orElse}
+use Rattle.bitset.specs.BelowLaws.{firstBelow-more, firstBelow-some→, firstBelow-some←, firstBelow-none→}
+use Rattle.bitset.specs.Bits.{has}
+use Rattle.ledger_state.specs.declared.Found.the-variants.{At, Nowhere}
+use Rattle.ledger_state.specs.State.{Book, placeAt, foundOf}
+use Rattle.ledger_state.proofs.FindLaws.{found-at}
+use Rattle.ledger_sorting.specs.declared.Places.{Places}
+use Rattle.ledger_relations.specs.PlaceTests.{headAt, order}
+use Rattle.ledger_sorting.specs.Pieces.{placesIn, ins, small, Sound, Lists}
+use Rattle.ledger_sorting.proofs.Inserting.{length-is, passed, ins-end}
+use Rattle.write_highest.specs.Top.{topBelow}
+use Rattle.write_predecessors.specs.Choose.{headsOf, aboveAt, eightWith, eightFor, chosenPlaces}
+
+-- heads
+
+module _ (l : Book) (s : List ℕ) (o : Places) (sound : Sound o) where
+  pub heads-start : [] ≡ keep (headAt l s) (take 0 (placesIn o))
+  unfolding keep
+  heads-start = refl
+
+  pub heads-more : (i : ℕ) → i < o .count → {xs : List ℕ} → xs ≡ keep (headAt l s) (take i (placesIn o))
+      → xs ++ keep (headAt l s) (getD (o .items) i 0 ∷ []) ≡ keep (headAt l s) (take (i + 1) (placesIn o))
+  heads-more i h e =
+      ap (λ (xs : List ℕ). xs ++ keep (headAt l s) (getD (o .items) i 0 ∷ [])) e
+      ∙ sym (keep-append (headAt l s) (take i (placesIn o)) (getD (o .items) i 0 ∷ []))
+      ∙ ap (keep (headAt l s)) (sym (passed o sound i h))
+
+  pub heads-end : (i : ℕ) → o .count ≤ i → placesIn o ≡ order l s → keep (headAt l s) (take i (placesIn o)) ≡ headsOf l s
+  unfolding headsOf
+  heads-end i h e = ap (keep (headAt l s)) (take-all i (placesIn o) (omega (arith, length-is o sound)) ∙ e)
+
+-- a head at or above a place
+
+pub above-same : (l : Book) (t h : ℕ) → h ≡ t → true ≡ (eqb h t || has (placeAt l h .ancestors) t)
+above-same l t h e = ap (λ (b : Bool). b || has (placeAt l h .ancestors) t) (sym (eq-eqb h t e))
+
+pub above-other : (l : Book) (t h : ℕ) {b : Bool} → (h ≡ t → ⊥) → b ≡ has (placeAt l h .ancestors) t
+    → b ≡ (eqb h t || has (placeAt l h .ancestors) t)
+above-other l t h n f = f ∙ ap (λ (b : Bool). b || has (placeAt l h .ancestors) t) (sym (ne-eqb h t n))
+
+module _ (l : Book) (s : List ℕ) (o : Places) (lists : Lists o (headsOf l s)) (t : ℕ) where
+  heads-length : length (headsOf l s) ≡ o .count
+  heads-length = ap length (sym (lists .are)) ∙ length-is o (lists .sound)
+
+  pub head-is : (i : ℕ) → i < o .count → getD (headsOf l s) i 0 ≡ getD (o .items) i 0
+  head-is i h = ap (λ (xs : List ℕ). getD xs i 0) (sym (lists .are)) ∙ getD-take (o .count) (o .items) i 0 h
+
+  test-above : (i : ℕ) → i < o .count → {b : Bool} → b ≡ (eqb (getD (o .items) i 0) t || has (placeAt l (getD (o .items) i 0) .ancestors) t)
+      → aboveAt l s t i ≡ b
+  unfolding aboveAt
+  test-above i h e = ap (λ (k : ℕ). eqb k t || has (placeAt l k .ancestors) t) (head-is i h) ∙ sym e
+
+  pub above-start : firstBelow 0 (aboveAt l s t) ≡ none
+  unfolding firstBelow
+  above-start = refl
+
+  pub above-more : (i : ℕ) → i < o .count → {b : Bool} → b ≡ (eqb (getD (o .items) i 0) t || has (placeAt l (getD (o .items) i 0) .ancestors) t)
+      → b ≡ false → firstBelow i (aboveAt l s t) ≡ none → firstBelow (i + 1) (aboveAt l s t) ≡ none
+  unfolding orElse
+  above-more i h e f n = rw (firstBelow-more, n, test-above i h e, f)
+
+  pub above-found : (i : ℕ) → i < o .count → {b : Bool} → b ≡ (eqb (getD (o .items) i 0) t || has (placeAt l (getD (o .items) i 0) .ancestors) t)
+      → b ≡ true → firstBelow i (aboveAt l s t) ≡ none → At i ≡ foundOf (firstBelow (length (headsOf l s)) (aboveAt l s t))
+  above-found i h e f n =
+      ap foundOf
+      (sym
+      (firstBelow-some← (length (headsOf l s)) (aboveAt l s t) i (omega (arith, heads-length)) (test-above i h e ∙ f)
+      (firstBelow-none→ i (aboveAt l s t) n)))
+
+  pub above-none : (i : ℕ) → i ≤ o .count → o .count ≤ i → firstBelow i (aboveAt l s t) ≡ none
+      → Nowhere ≡ foundOf (firstBelow (length (headsOf l s)) (aboveAt l s t))
+  above-none i h g n =
+      let q : i ≡ length (headsOf l s) = omega (arith, heads-length) in
+      ap foundOf (sym (ap (λ (m : ℕ). firstBelow m (aboveAt l s t)) (sym q) ∙ n))
+
+  pub found-below : {j : ℕ} → foundOf (firstBelow (length (headsOf l s)) (aboveAt l s t)) ≡ At j → j < o .count
+  found-below {j} e =
+      omega (
+        arith,
+        firstBelow-some→ (length (headsOf l s)) (aboveAt l s t) (found-at (firstBelow (length (headsOf l s)) (aboveAt l s t)) j e) .0,
+        heads-length,
+      )
+
+-- the first n
+
+pub first-lists : (o : Places) (n : ℕ) → Sound o → n ≤ o .count → Lists (record { count = n; items = o .items }) (take n (placesIn o))
+first-lists o n s h =
+    let e : take n (o .items) ≡ take n (placesIn o) = sym (take-take n (o .count) (o .items) h) in
+    record {
+      sound = record {
+        whole = s .whole;
+        room = omega (arith, s .room);
+        inside = ap small e ∙ ∈→all isPlace (take n (placesIn o)) (λ k m. all→∈ isPlace (placesIn o) (s .inside) k (take-∈ n (placesIn o) m));
+      };
+      are = e;
+    }
+  where
+    isPlace : ℕ → Bool
+    isPlace k = ltb k 64
+
+-- eight of the heads
+module _ (l : Book) (s : List ℕ) (o : Places) (lists : Lists o (headsOf l s)) where
+  module _ (t : ℕ) where
+    pub eight-none : firstBelow (length (headsOf l s)) (aboveAt l s t) ≡ none → take 8 (placesIn o) ≡ eightFor l s (some t)
+    unfolding eightFor eightWith
+    eight-none e = ap (take 8) (lists .are) ∙ ap (eightWith l s) (sym e)
+
+    pub eight-low : (j : ℕ) → firstBelow (length (headsOf l s)) (aboveAt l s t) ≡ some j → j < 8 → take 8 (placesIn o) ≡ eightFor l s (some t)
+    unfolding eightFor eightWith
+    eight-low j e h =
+        ap (take 8) (lists .are)
+        ∙ sym
+        (ap (eightWith l s) e
+        ∙ ap (λ (b : Bool). cond b (take 8 (headsOf l s)) (take 7 (headsOf l s) ++ (getD (headsOf l s) j 0 ∷ []))) (lt-ltb j 8 h))
+
+    pub eight-high : (j : ℕ) → firstBelow (length (headsOf l s)) (aboveAt l s t) ≡ some j → 8 ≤ j → j < o .count
+        → {x : Places} → Lists x (take 7 (placesIn o)) → x .count ≡ 7 → ins 7 (getD (o .items) j 0) (placesIn x) ≡ eightFor l s (some t)
+    unfolding eightFor eightWith
+    eight-high j e h g {x} a c =
+        ap (λ (n : ℕ). ins n (getD (o .items) j 0) (placesIn x)) (sym c)
+        ∙ ins-end x (a .sound) (getD (o .items) j 0)
+        ∙ ap₂ (λ (xs : List ℕ) (k : ℕ). xs ++ (k ∷ [])) (a .are ∙ ap (take 7) (lists .are)) (sym (head-is l s o lists t j g))
+        ∙ sym
+        (ap (eightWith l s) e
+        ∙ ap (λ (b : Bool). cond b (take 8 (headsOf l s)) (take 7 (headsOf l s) ++ (getD (headsOf l s) j 0 ∷ []))) (le-ltb j 8 h))
+
+  chosen-by : (a : ℕ) {b : Bool} → leb (length (headsOf l s)) 8 ≡ b → chosenPlaces l s a ≡ cond b (headsOf l s) (eightFor l s (topBelow l s a (l .used)))
+  unfolding chosenPlaces
+  chosen-by a e = ap (λ (b : Bool). cond b (headsOf l s) (eightFor l s (topBelow l s a (l .used)))) e
+
+  pub chosen-few : (a : ℕ) → o .count ≤ 8 → headsOf l s ≡ chosenPlaces l s a
+  chosen-few a h = sym (chosen-by a (le-leb (length (headsOf l s)) 8 (omega (arith, heads-length l s o lists 0))))
+
+  pub chosen-many : (a : ℕ) (t : Option ℕ) → 8 < o .count → topBelow l s a (l .used) ≡ t → eightFor l s t ≡ chosenPlaces l s a
+  chosen-many a t h e =
+      ap (eightFor l s) (sym e) ∙ sym (chosen-by a (lt-leb (length (headsOf l s)) 8 (omega (arith, heads-length l s o lists 0))))
+
+  pub chosen-lowest : (a : ℕ) → 8 < o .count → topBelow l s a (l .used) ≡ none → take 8 (placesIn o) ≡ chosenPlaces l s a
+  unfolding eightFor
+  chosen-lowest a h e = ap (take 8) (lists .are) ∙ chosen-many a none h e

@@ -1,0 +1,37 @@
+-- The predecessors that a new update names, found by places, for every ledger. The theorem `chosen-ids` says that for a ledger that stands these are
+-- the rules' choice.
+use Prim.Native.Nat.{ℕ, _-_}
+use mathlib.Core.List.{List, [], _∷_, _++_}
+use mathlib.Core.Option.{Option, none, some}
+use mathlib.Core.Bool.{Bool, cond, _||_}
+use lib.ListN.{length, getD, take}
+use lib.Dec.{leb, ltb, eqb}
+use Rattle.bytes_order.specs.Member.{keep}
+use Rattle.update_format.specs.Update.{maxPredecessors}
+use Rattle.bitset.specs.Below.{firstBelow}
+use Rattle.bitset.specs.Bits.{has}
+use Rattle.ledger_state.specs.State.{Book, placeAt}
+use Rattle.ledger_relations.specs.PlaceTests.{headAt, order}
+use Rattle.write_highest.specs.Top.{topBelow}
+
+module _ (l : Book) (s : List ℕ) where
+  -- the heads, ascending by id
+  unfoldable pub headsOf : List ℕ
+  headsOf = keep (headAt l s) (order l s)
+
+  -- the head at index j of the heads is at or above place t
+  unfoldable pub aboveAt : ℕ → ℕ → Bool
+  aboveAt t j = eqb (getD headsOf j 0) t || has (placeAt l (getD headsOf j 0) .ancestors) t
+
+  -- eight of more than eight heads, with the one at index j among them
+  unfoldable pub eightWith : Option ℕ → List ℕ
+  eightWith none = take maxPredecessors headsOf
+  eightWith (some j) =
+      cond (ltb j maxPredecessors) (take maxPredecessors headsOf) (take (maxPredecessors - 1) headsOf ++ (getD headsOf j 0 ∷ []))
+
+  unfoldable pub eightFor : Option ℕ → List ℕ
+  eightFor none = take maxPredecessors headsOf
+  eightFor (some t) = eightWith (firstBelow (length headsOf) (aboveAt t))
+
+  unfoldable pub chosenPlaces : ℕ → List ℕ
+  chosenPlaces a = cond (leb (length headsOf) maxPredecessors) headsOf (eightFor (topBelow l s a (l .used)))

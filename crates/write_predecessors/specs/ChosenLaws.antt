@@ -1,0 +1,185 @@
+-- The places chosen are those of the rules' chosen rows.
+use Prim.Native.Nat.{ℕ, _<_}
+use mathlib.Core.Path.{_≡_, refl, sym, _∙_, ap, ap₂}
+use mathlib.Core.Logic.{⊎-elim}
+use mathlib.Core.List.{List, [], _∷_, _++_, map, map-map, map-append, List·Memᴰ·not-nil}
+use mathlib.Core.Option.{Option, none, some}
+use mathlib.Core.Bool.{Bool, true, false, cond, not, _&&_, _||_}
+use lib.ListN.{length, getD, take, length-map}
+use lib.Dec.{leb, eqb}
+use Rattle.bytes_order.specs.Member.{_∈_, member, keep}
+use Rattle.bytes_order.specs.Sort.{sort}
+use Rattle.bytes_order.specs.BoolLaws.{and-true→}
+use Rattle.bytes_order.specs.OrderLaws.{same-refl, ne→same-false}
+use Rattle.bytes_order.specs.MemberLaws.{append-∈, keep-∈, keep-map, keep-cong, keep-all, map-cong}
+use Rattle.bytes_order.specs.SortLaws.{sort-∈, sort-sorted, sort-map, sort-cong}
+use Rattle.bytes_order.specs.ListLaws.{take-∈}
+use Rattle.update_format.specs.Update.{Id, maxPredecessors, Update}
+use Rattle.rules.specs.Settle.{Row, Table, heldRow, covered, heads, settled}
+use Rattle.rules.specs.ChoiceLaws.{rowId}
+use Rattle.rules.specs.Writing.{heldBy, ranked, atOrAbove, firstHeads, others, chosenFrom, chosen}
+use Rattle.bitset.specs.Below.{firstBelow}
+use Rattle.bitset.specs.BelowLaws.{firstBelow-some→, firstBelow-none→}
+use Rattle.bitset.specs.Bits.{has}
+use Rattle.ledger_state.specs.State.{Book, placeAt}
+use Rattle.ledger_state.specs.Stands.{ident, Stands}
+use Rattle.ledger_relations.specs.PlaceTests.{idAt, heldAt, coveredAt, headAt, order}
+use Rattle.ledger_relations.specs.RowLaws.{rowAt, row-id, order-∈, table-rows, above-agrees, head-agrees, same-agrees}
+use Rattle.write_highest.specs.Top.{topBelow}
+use Rattle.write_highest.specs.TopLaws.{RankedBy, top-right}
+use Rattle.write_predecessors.specs.Choose.{headsOf, aboveAt, eightWith, eightFor, chosenPlaces}
+use Rattle.write_predecessors.specs.FrontLaws.{take-map, first-kept, none-kept, ascending-take, front-with}
+use Rattle.write_predecessors.specs.ShapeLaws.{heads-ascending}
+
+module _ {l : Book} {s : List ℕ} {us : List Update} (stands : Stands l s us) where
+  abbrev T : Table
+  T = settled ident us
+
+  abbrev row : ℕ → Row
+  row = rowAt us
+
+  abbrev H : List ℕ
+  H = headsOf l s
+
+  -- heads
+  head-at : {k : ℕ} → k ∈ H → (k < length us) × (heldAt l s k ≡ true)
+  unfolding headsOf headAt
+  head-at {k} m =
+      let f = keep-∈ (headAt l s) (order l s) m in (order-∈ stands (f .0), and-true→ (heldAt l s k) (not (coveredAt l s k)) (f .1) .0)
+
+  heads-rows : heads T ≡ map row H
+  unfolding heads headsOf
+  heads-rows =
+      ap (keep isHead) (table-rows stands) ∙ keep-map isHead row (order l s)
+      ∙ ap (map row) (keep-cong (λ (k : ℕ). isHead (row k)) (headAt l s) (order l s) (λ k m. head-agrees stands k (order-∈ stands m)))
+    where
+      isHead : Row → Bool
+      isHead r = heldRow r && not (covered T r)
+
+  -- place k is place t or has it as an ancestor
+  upAt : ℕ → ℕ → Bool
+  upAt t k = eqb k t || has (placeAt l k .ancestors) t
+
+  up-agrees : {t k : ℕ} → t < length us → k < length us → heldAt l s k ≡ true → atOrAbove (row t) (row k) ≡ upAt t k
+  unfolding atOrAbove upAt
+  up-agrees g h e = ap₂ _||_ (same-agrees stands h g) (above-agrees stands g h e)
+
+  -- the first head, by its place
+  firstOf : Option ℕ → List ℕ
+  firstOf none = []
+  firstOf (some t) = take 1 (keep (upAt t) H)
+
+  first-∈ : (o : Option ℕ) {k : ℕ} → k ∈ firstOf o → k ∈ H
+  unfolding firstOf
+  first-∈ none m = absurd (List·Memᴰ·not-nil m)
+  first-∈ (some t) m = keep-∈ (upAt t) H (take-∈ 1 (keep (upAt t) H) m) .0
+
+  first-agrees : (rs : Table) (o : Option ℕ) → RankedBy stands rs o → firstHeads (heads T) rs ≡ map row (firstOf o)
+  unfolding firstOf firstHeads RankedBy
+  first-agrees rs none e = ap (firstHeads (heads T)) e
+  first-agrees rs (some t) e =
+      ap (firstHeads (heads T)) (e .3) ∙ ap (λ (hs : Table). take 1 (keep (atOrAbove (row t)) hs)) heads-rows
+      ∙ ap (take 1)
+      (keep-map (atOrAbove (row t)) row H
+      ∙ ap (map row) (keep-cong (λ (k : ℕ). atOrAbove (row t) (row k)) (upAt t) H (λ k m. let f = head-at m in up-agrees (e .0) (f .0) (f .1))))
+      ∙ take-map row 1 (keep (upAt t) H)
+
+  -- what is chosen with these first places
+  otherThan : List ℕ → ℕ → Bool
+  otherThan first k = not (member (idAt l s k) (map (idAt l s) first))
+
+  eightOf : List ℕ → List ℕ
+  eightOf first = sort (idAt l s) (take maxPredecessors (first ++ keep (otherThan first) H))
+
+  placesOf : List ℕ → List ℕ
+  placesOf first = cond (leb (length H) maxPredecessors) H (eightOf first)
+
+  module _ (first : List ℕ) (among : (k : ℕ) → k ∈ first → k ∈ H) where
+    candidates-∈ : {k : ℕ} → k ∈ first ++ keep (otherThan first) H → k ∈ H
+    candidates-∈ {k} m =
+        ⊎-elim (λ (i : k ∈ first). among k i) (λ (i : k ∈ keep (otherThan first) H). keep-∈ (otherThan first) H i .0) (append-∈ first m)
+
+    taken-∈ : {k : ℕ} → k ∈ take maxPredecessors (first ++ keep (otherThan first) H) → k ∈ H
+    taken-∈ m = candidates-∈ (take-∈ maxPredecessors (first ++ keep (otherThan first) H) m)
+
+    places-∈ : {k : ℕ} → k ∈ placesOf first → k ∈ H
+    unfolding placesOf eightOf
+    places-∈ {k} = step (leb (length H) maxPredecessors)
+      where
+        step : (b : Bool) → k ∈ cond b H (eightOf first) → k ∈ H
+        step true m = m
+        step false m = taken-∈ (sort-∈ (idAt l s) (take maxPredecessors (first ++ keep (otherThan first) H)) m)
+
+    others-agrees : others (map row H) (map row first) ≡ map row (keep (otherThan first) H)
+    unfolding others otherThan
+    others-agrees =
+        keep-map (λ (r : Row). not (member (r .id) (map rowId (map row first)))) row H
+        ∙ ap (map row)
+        (keep-cong (λ (k : ℕ). not (member (row k .id) (map rowId (map row first)))) (otherThan first) H (λ k m.
+        ap₂ (λ (i : Id) (is : List Id). not (member i is)) (row-id stands (head-at m .0))
+        (map-map rowId row first ∙ map-cong (λ (j : ℕ). row j .id) (idAt l s) first (λ j n. row-id stands (head-at (among j n) .0)))))
+
+    eight-agrees : sort rowId (take maxPredecessors (map row first ++ others (map row H) (map row first))) ≡ map row (eightOf first)
+    unfolding eightOf
+    eight-agrees =
+        ap (λ (rs : Table). sort rowId (take maxPredecessors (map row first ++ rs))) others-agrees
+        ∙ ap (λ (rs : Table). sort rowId (take maxPredecessors rs)) (sym (map-append row first (keep (otherThan first) H)))
+        ∙ ap (sort rowId) (take-map row maxPredecessors (first ++ keep (otherThan first) H))
+        ∙ sort-map rowId row (take maxPredecessors (first ++ keep (otherThan first) H))
+        ∙ ap (map row)
+        (sort-cong (λ (k : ℕ). row k .id) (idAt l s) (take maxPredecessors (first ++ keep (otherThan first) H)) (λ k m. row-id stands (head-at (taken-∈ m) .0)))
+
+    places-agree : chosenFrom (map row H) (map row first) ≡ map row (placesOf first)
+    unfolding chosenFrom placesOf
+    places-agree =
+        ap₂ (λ (n : ℕ) (rs : Table). cond (leb n maxPredecessors) (map row H) rs) (length-map H row) eight-agrees ∙ step (leb (length H) maxPredecessors)
+      where
+        step : (b : Bool) → cond b (map row H) (map row (eightOf first)) ≡ map row (cond b H (eightOf first))
+        step true = refl
+        step false = refl
+
+  -- the eight places
+  eight-none : eightOf [] ≡ take maxPredecessors H
+  unfolding eightOf otherThan member
+  eight-none =
+      ap (λ (ks : List ℕ). sort (idAt l s) (take maxPredecessors ks)) (keep-all (otherThan []) H (λ k m. refl))
+      ∙ sort-sorted (idAt l s) (ascending-take maxPredecessors (heads-ascending l s))
+
+  eight-some : (j : ℕ) → j < length H → eightOf (getD H j 0 ∷ []) ≡ eightWith l s (some j)
+  unfolding eightOf eightWith otherThan member
+  eight-some j h =
+      front-with (otherThan (getD H j 0 ∷ [])) (getD H j 0) 0 (ap (λ (b : Bool). not (b || false)) (same-refl (idAt l s (getD H j 0))))
+      (λ y n. ap (λ (b : Bool). not (b || false)) (ne→same-false (idAt l s y) (idAt l s (getD H j 0)) n)) 7 j (heads-ascending l s) h refl
+
+  eight-right : (o : Option ℕ) → eightOf (firstOf o) ≡ eightFor l s o
+  unfolding firstOf eightFor eightWith upAt aboveAt
+  eight-right none = eight-none
+  eight-right (some t) = step (firstBelow (length H) (aboveAt l s t)) refl
+    where
+      step : (o : Option ℕ) → firstBelow (length H) (aboveAt l s t) ≡ o → eightOf (take 1 (keep (upAt t) H)) ≡ eightWith l s o
+      step none e =
+          ap (λ (ks : List ℕ). eightOf (take 1 ks)) (none-kept (upAt t) H 0 (firstBelow-none→ (length H) (aboveAt l s t) e)) ∙ eight-none
+      step (some j) e =
+          let f = firstBelow-some→ (length H) (aboveAt l s t) e in
+          ap eightOf (first-kept (upAt t) H j 0 (f .0) (f .1) (f .2)) ∙ eight-some j (f .0)
+
+  module _ (a : ℕ) where
+    abbrev top : Option ℕ
+    top = topBelow l s a (l .used)
+
+    chosen-rows : chosen T a ≡ map row (placesOf (firstOf top))
+    unfolding chosen
+    chosen-rows = ap₂ chosenFrom heads-rows (first-agrees (ranked (heldBy T a)) top (top-right stands a)) ∙ places-agree (firstOf top) (λ k m. first-∈ top m)
+
+    chosen-places : placesOf (firstOf top) ≡ chosenPlaces l s a
+    unfolding placesOf chosenPlaces
+    chosen-places = ap (λ (ks : List ℕ). cond (leb (length H) maxPredecessors) H ks) (eight-right top)
+
+    -- the ids of the chosen places
+    pub chosen-ids : map (idAt l s) (chosenPlaces l s a) ≡ map rowId (chosen T a)
+    chosen-ids =
+        sym
+        (ap (map rowId) chosen-rows ∙ map-map rowId row (placesOf (firstOf top))
+        ∙ map-cong (λ (k : ℕ). row k .id) (idAt l s) (placesOf (firstOf top))
+        (λ k m. row-id stands (head-at (places-∈ (firstOf top) (λ j n. first-∈ top n) m) .0))
+        ∙ ap (map (idAt l s)) chosen-places)

@@ -1,0 +1,126 @@
+// The predecessors of a new update, as places.
+ghost use mathlib.Core.Path.{_≡_};
+ghost use mathlib.Core.Bool.{_||_};
+ghost use mathlib.Core.Option.{some};
+ghost use mathlib.Core.List.{[], _∷_, _++_};
+ghost use Prim.Native.Nat.{_+_, _≤_, _<_};
+ghost use lib.Dec.{eqb};
+ghost use lib.ListN.{length, take};
+ghost use Rattle.bytes_order.specs.Member.{keep};
+ghost use Rattle.bitset.specs.Below.{firstBelow};
+ghost use Rattle.bitset.specs.Bits.{has};
+ghost use Rattle.ledger_state.specs.State.{placeAt, foundOf};
+ghost use Rattle.ledger_state.specs.View.{bookOf};
+ghost use Rattle.ledger_relations.specs.PlaceTests.{headAt};
+ghost use Rattle.ledger_sorting.specs.Pieces.{placesIn, Sound, Lists};
+ghost use Rattle.write_predecessors.specs.Choose.{headsOf, aboveAt, eightFor, chosenPlaces};
+use ledger_sorting::Key;
+use ledger_sorting::Places;
+use ledger_sorting::sorted;
+use ledger_state::Found;
+use ledger_state::Ledger;
+use write_highest::top;
+
+// How many predecessors an update has at most: update_format::bounds::MAX_PREDECESSORS.
+const NAMED_HEADS: usize = 8;
+
+// The list with place k at its end, if it is a head.
+fn with_head(l: Ledger, store: &[u8], places: Places, k: usize) -> Places
+    requires { ⌜ (bookOf l .used ≤ 64) × Sound places × (places .count < 64) × (k < 64) ⌝ }
+    ensures { λ r. ⌜ Lists r (placesIn places ++ keep (headAt (bookOf l) (now (store .entry))) (k ∷ [])) × (r .count ≤ places .count + 1) ⌝ }
+{
+    if ledger_relations::is_head(l, store, k) {
+        let count = places.count;
+        places.insert(count, k)
+    } else {
+        places
+    }
+}
+
+// The heads, ascending by id.
+fn heads(l: Ledger, store: &[u8]) -> Places
+    requires { ⌜ bookOf l .used ≤ 64 ⌝ }
+    ensures { λ r. ⌜ Lists r (headsOf (bookOf l) (now (store .entry))) ⌝ }
+{
+    let order = sorted::sorted(l, store, Key::Id);
+    let count = order.count;
+    let mut places = Places::none();
+    let mut i: usize = 0;
+    while i < count {
+        let k = order.items[i];
+        places = with_head(l, store, places, k);
+        i += 1;
+    }
+    places
+}
+
+// Whether place h is place t or above it.
+fn is_above(l: Ledger, t: usize, h: usize) -> bool
+    requires { ⌜ h < 64 ⌝ }
+    ensures { λ r. ⌜ r ≡ eqb h t || has (placeAt (bookOf l) h .ancestors) t ⌝ }
+{
+    if h == t {
+        return true;
+    }
+    let p = l.places[h];
+    bitset::has(p.ancestors, t)
+}
+
+// The index of the first head at or above place t.
+fn first_above(l: Ledger, store: &[u8], heads: Places, t: usize) -> Found
+    requires { ⌜ Lists heads (headsOf (bookOf l) (now store)) ⌝ }
+    ensures { λ r. ⌜ r ≡ foundOf (firstBelow (length (headsOf (bookOf l) (now (store .entry)))) (aboveAt (bookOf l) (now (store .entry)) t)) ⌝ }
+{
+    let count = heads.count;
+    let mut i: usize = 0;
+    while i < count {
+        let h = heads.items[i];
+        if is_above(l, t, h) {
+            return Found::At(i);
+        }
+        i += 1;
+    }
+    Found::Nowhere
+}
+
+// The first n places of the list.
+fn first(places: Places, n: usize) -> Places
+    requires { ⌜ Sound places × (n ≤ places .count) ⌝ }
+    ensures { λ r. ⌜ Lists r (take n (placesIn places)) × (r .count ≡ n) ⌝ }
+{
+    let items = places.items;
+    Places { count: n, items }
+}
+
+// Eight of more than eight heads, with the first at or above place t among them.
+fn eight_above(l: Ledger, store: &[u8], heads: Places, t: usize) -> Places
+    requires { ⌜ Lists heads (headsOf (bookOf l) (now store)) × (8 < heads .count) ⌝ }
+    ensures { λ r. ⌜ Lists r (eightFor (bookOf l) (now (store .entry)) (some t)) × (r .count ≤ 8) ⌝ }
+{
+    match first_above(l, store, heads, t) {
+        Found::At(j) => {
+            if j < NAMED_HEADS {
+                first(heads, NAMED_HEADS)
+            } else {
+                let h = heads.items[j];
+                first(heads, NAMED_HEADS - 1).insert(NAMED_HEADS - 1, h)
+            }
+        }
+        Found::Nowhere => first(heads, NAMED_HEADS),
+    }
+}
+
+// The heads that a new update of the author names.
+pub fn chosen(l: Ledger, store: &[u8], author: u8) -> Places
+    requires { ⌜ bookOf l .used ≤ 64 ⌝ }
+    ensures { λ r. ⌜ Lists r (chosenPlaces (bookOf l) (now (store .entry)) author) × (r .count ≤ 8) ⌝ }
+{
+    let all = heads(l, store);
+    if all.count <= NAMED_HEADS {
+        return all;
+    }
+    match top(l, store, author) {
+        Found::At(t) => eight_above(l, store, all, t),
+        Found::Nowhere => first(all, NAMED_HEADS),
+    }
+}
