@@ -1,45 +1,55 @@
 // A set of places as one 64-bit word, bit k for place k.
 ghost use mathlib.Core.Path.{_≡_};
-ghost use Rattle.bitset.specs.Bits.{wordBits, has as hasPlace, includingBelow, join as joined, meet as met, within as withinPlaces, count as counted};
+ghost use Rattle.bitset.specs.Bits.{wordBits, has, includingBelow, join, meet, within, count};
+
+// A set of places.
+pub type Set = u64;
+
+// How many places a set has room for.
+pub const WORD_BITS: usize = 64;
 
 // Whether place k is in the set.
-pub fn has(w: u64, k: usize) -> bool
-    ensures { λ r. ⌜ r ≡ hasPlace w k ⌝ }
+pub fn has(w: Set, k: usize) -> bool
+    ensures { λ r. ⌜ r ≡ has w k ⌝ }
 {
-    if k < 64 { (w >> k) & 1 == 1 } else { false }
+    if k < WORD_BITS {
+        (w >> k) & 1 == 1
+    } else {
+        false
+    }
 }
 
 // The set with place k added; unchanged where a word has no room for it.
-pub fn including(w: u64, k: usize) -> u64
+pub fn including(w: Set, k: usize) -> Set
     ensures { λ r. ⌜ r ≡ includingBelow wordBits w k ⌝ }
 {
-    if k < 64 { w | (1 << k) } else { w }
+    if k < WORD_BITS { w | (1 << k) } else { w }
 }
 
 // What is in either set.
-pub fn join(v: u64, w: u64) -> u64
-    ensures { λ r. ⌜ r ≡ joined v w ⌝ }
+pub fn join(v: Set, w: Set) -> Set
+    ensures { λ r. ⌜ r ≡ join v w ⌝ }
 {
     v | w
 }
 
 // What is in both sets.
-pub fn meet(v: u64, w: u64) -> u64
-    ensures { λ r. ⌜ r ≡ met v w ⌝ }
+pub fn meet(v: Set, w: Set) -> Set
+    ensures { λ r. ⌜ r ≡ meet v w ⌝ }
 {
     v & w
 }
 
 // Whether every place of the set is below n.
-pub fn within(w: u64, n: usize) -> bool
-    ensures { λ r. ⌜ r ≡ withinPlaces w n ⌝ }
+pub fn within(w: Set, n: usize) -> bool
+    ensures { λ r. ⌜ r ≡ within w n ⌝ }
 {
-    if n < 64 { w >> n == 0 } else { true }
+    if n < WORD_BITS { w >> n == 0 } else { true }
 }
 
 // How many places are in the set.
-pub fn count(w: u64) -> usize
-    ensures { λ r. ⌜ r ≡ counted w ⌝ }
+pub fn count(w: Set) -> usize
+    ensures { λ r. ⌜ r ≡ count w ⌝ }
 {
     u64::count_ones(w) as usize
 }

@@ -29,10 +29,10 @@ all-or {A} {P} {Q} (y ∷ ys) f = step (f y (List·Memᴰ·head refl)) (all-or y
 
 module _ {A : Type 0} where
   -- how many members pass a test
-  abbrev pub count : (A → Bool) → List A → ℕ
-  count p xs = length (keep p xs)
+  abbrev pub countMembers : (A → Bool) → List A → ℕ
+  countMembers p xs = length (keep p xs)
 
-  count-cons : (p : A → Bool) (x : A) (xs ys : List A) → count p xs < count p ys → count p (x ∷ xs) < count p (x ∷ ys)
+  count-cons : (p : A → Bool) (x : A) (xs ys : List A) → countMembers p xs < countMembers p ys → countMembers p (x ∷ xs) < countMembers p (x ∷ ys)
   unfolding keep
   count-cons p x xs ys l = step (p x)
     where
@@ -42,17 +42,17 @@ module _ {A : Type 0} where
 
   -- a map that leaves each member or makes it fail a test that it passed leaves the list or lowers the count
   pub map-lowers : (p : A → Bool) (f : A → A) → ((x : A) → (f x ≡ x) ⊎ ((p x ≡ true) × (p (f x) ≡ false)))
-      → (xs : List A) → (map f xs ≡ xs) ⊎ (count p (map f xs) < count p xs)
+      → (xs : List A) → (map f xs ≡ xs) ⊎ (countMembers p (map f xs) < countMembers p xs)
   map-lowers p f h [] = inl refl
   map-lowers p f h (x ∷ xs) = step (h x) (map-lowers p f h xs)
     where
-      step : (f x ≡ x) ⊎ ((p x ≡ true) × (p (f x) ≡ false)) → (map f xs ≡ xs) ⊎ (count p (map f xs) < count p xs)
-          → (f x ∷ map f xs ≡ x ∷ xs) ⊎ (count p (f x ∷ map f xs) < count p (x ∷ xs))
+      step : (f x ≡ x) ⊎ ((p x ≡ true) × (p (f x) ≡ false)) → (map f xs ≡ xs) ⊎ (countMembers p (map f xs) < countMembers p xs)
+          → (f x ∷ map f xs ≡ x ∷ xs) ⊎ (countMembers p (f x ∷ map f xs) < countMembers p (x ∷ xs))
       step (inl e) (inl d) = inl (λ i. e i ∷ d i)
-      step (inl e) (inr l) = inr (subst (λ (y : A). count p (y ∷ map f xs) < count p (x ∷ xs)) (sym e) (count-cons p x (map f xs) xs l))
+      step (inl e) (inr l) = inr (subst (λ (y : A). countMembers p (y ∷ map f xs) < countMembers p (x ∷ xs)) (sym e) (count-cons p x (map f xs) xs l))
       step (inr g) d =
-          let l : count p (map f xs) ≤ count p xs =
-          ⊎-elim (λ (e : map f xs ≡ xs). le-of-eq (ap (count p) e)) (λ (k : count p (map f xs) < count p xs). le-of-lt k) d in
+          let l : countMembers p (map f xs) ≤ countMembers p xs =
+          ⊎-elim (λ (e : map f xs ≡ xs). le-of-eq (ap (countMembers p) e)) (λ (k : countMembers p (map f xs) < countMembers p xs). le-of-lt k) d in
           inr (rw (keep-false p (f x) (map f xs) (g .1), keep-true p x xs (g .0)) (suc-le-suc l))
 
 module _ {A : Type 0} {key : A → List ℕ} where

@@ -1,7 +1,7 @@
 // The order of byte strings: compared as unsigned bytes from the first.
 ghost use mathlib.Core.Path.{_≡_};
 ghost use Rattle.bytes_order.specs.Compare.{orderOf};
-ghost use Rattle.bytes_order.specs.Order.{same as sameBytes};
+ghost use Rattle.bytes_order.specs.Order.{same};
 
 pub enum Order {
     Less,
@@ -35,7 +35,7 @@ pub fn compare(a: &[u8], b: &[u8]) -> Order
 
 // Whether a and b are the same bytes.
 pub fn same(a: &[u8], b: &[u8]) -> bool
-    ensures { λ r. ⌜ r ≡ sameBytes (now (a .entry)) (now (b .entry)) ⌝ }
+    ensures { λ r. ⌜ r ≡ same (now (a .entry)) (now (b .entry)) ⌝ }
 {
     match compare(a, b) {
         Order::Equal => true,

@@ -1,15 +1,15 @@
 // Hexadecimal and decimal digits.
 ghost use mathlib.Core.Path.{_≡_};
-ghost use Prim.Native.Nat.{_+_, _≤_, _<_};
+ghost use Prim.Native.Nat.{_+_, _*_, _≤_, _<_};
 ghost use lib.ListN.{length};
-ghost use Rattle.rules.specs.Report.{digit as digitOf, hexByte, hex as hexOf, decimal as decimalOf};
-ghost use Rattle.bytes_print.specs.Page.{Prints, farthest};
+ghost use Rattle.bytes_ascii.specs.Ascii.{digit, hexByte, hex, decimal};
+ghost use Rattle.bytes_print.specs.Page.{Prints, farthest, DecimalAt};
 use crate::put;
 
 // One digit, lowercase.
 fn digit(n: u8) -> u8
     requires { ⌜ n < 16 ⌝ }
-    ensures { λ r. ⌜ r ≡ digitOf n ⌝ }
+    ensures { λ r. ⌜ r ≡ digit n ⌝ }
 {
     if n < 10 { 48 + n } else { 87 + n }
 }
@@ -26,9 +26,9 @@ fn hex_byte(page: &mut [u8], at: usize, b: u8) -> usize
 
 // The digits of the bytes.
 pub fn hex(page: &mut [u8], at: usize, bytes: &[u8]) -> usize
-    requires { ⌜ (at + 64 ≤ farthest) × (length (now bytes) ≤ 32) ⌝ }
-    ensures prints { λ r. ⌜ Prints (now (page .entry)) at (hexOf (now (bytes .entry))) (now (page .exit)) r ⌝ }
-    ensures small { λ r. ⌜ r ≤ at + 64 ⌝ }
+    requires { ⌜ at + 2 * length (now bytes) ≤ farthest ⌝ }
+    ensures prints { λ r. ⌜ Prints (now (page .entry)) at (hex (now (bytes .entry))) (now (page .exit)) r ⌝ }
+    ensures small { λ r. ⌜ r ≡ at + 2 * length (now (bytes .entry)) ⌝ }
 {
     let mut end = at;
     let mut i: usize = 0;
@@ -41,8 +41,8 @@ pub fn hex(page: &mut [u8], at: usize, bytes: &[u8]) -> usize
 
 // A number below 100, base ten.
 pub fn decimal(page: &mut [u8], at: usize, n: u8) -> usize
-    requires { ⌜ (at ≤ farthest) × (n < 100) ⌝ }
-    ensures prints { λ r. ⌜ Prints (now (page .entry)) at (decimalOf n) (now (page .exit)) r ⌝ }
+    requires { ⌜ DecimalAt at n ⌝ }
+    ensures prints { λ r. ⌜ Prints (now (page .entry)) at (decimal n) (now (page .exit)) r ⌝ }
     ensures small { λ r. ⌜ r ≤ at + 2 ⌝ }
 {
     if n < 10 {

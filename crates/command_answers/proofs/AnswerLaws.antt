@@ -5,9 +5,9 @@ use native.Mathlib.Omega.{arith}
 use mathlib.Core.List.{List, [], _∷_, _++_}
 use Rattle.update_format.specs.declared.Malformed.{Malformed}
 use Rattle.update_format.specs.declared.Malformed.the-variants.{Length, Version, Author, Predecessors, Truncated, Kind, Layout, Unordered}
-use Rattle.update_format.specs.Reading.{numberOf}
-use Rattle.rules.specs.Report.{codes, ascii, decimal}
-use Rattle.bytes_print.specs.Page.{Prints}
+use Rattle.update_format.specs.ParseResult.{malformedNumber}
+use Rattle.bytes_ascii.specs.Ascii.{codes, ascii, decimal}
+use Rattle.bytes_print.specs.Page.{Prints, twoDigits}
 use Rattle.ledger_state.specs.declared.Standing.{Standing}
 use Rattle.ledger_state.specs.declared.Standing.the-variants.{Held, Waiting, Void}
 use Rattle.ledger_refusals.specs.declared.Refusal.{Refusal}
@@ -51,7 +51,7 @@ refused-text r n e = ap (λ (k : ℕ). 40 ∷ 114 ∷ 101 ∷ 102 ∷ 117 ∷ 11
 
 -- the numbers of the refusals have at most two digits
 
-malformed-small : (m : Malformed) → numberOf m < 100
+malformed-small : (m : Malformed) → malformedNumber m < twoDigits
 malformed-small Length = omega arith
 malformed-small Version = omega arith
 malformed-small Author = omega arith
@@ -61,7 +61,7 @@ malformed-small Kind = omega arith
 malformed-small Layout = omega arith
 malformed-small Unordered = omega arith
 
-pub refusal-small : (r : Refusal) → refusalNumber r < 100
+pub refusal-small : (r : Refusal) → refusalNumber r < twoDigits
 refusal-small Unfit = omega arith
 refusal-small (Bad m) = malformed-small m
 refusal-small Full = omega arith

@@ -1,11 +1,12 @@
 // Answers: what is printed for a line.
-ghost use Prim.Native.Nat.{_+_, _≤_, _<_};
+ghost use Prim.Native.Nat.{_+_, _≤_};
 ghost use lib.ListN.{length};
 ghost use Rattle.bytes_print.specs.Page.{Prints};
+ghost use Rattle.command_syntax.specs.Syntax.{maxOffered};
 ghost use Rattle.ledger_offering.specs.Values.{offerValues};
 ghost use Rattle.ledger_offering.specs.Words.{standingWord, answerText};
 ghost use Rattle.ledger_offering.specs.declared.Answer.the-variants.{Taken, Known, Refused};
-ghost use Rattle.command_answers.specs.Answers.{maxAnswer, Printable, Begins};
+ghost use Rattle.command_answers.specs.Answers.{maxAnswer, Counts, Printable, BeginsAnswer};
 use bytes_print::digits::decimal;
 use bytes_print::put;
 use command_syntax::Line;
@@ -23,7 +24,7 @@ pub enum Begun {
 
 // The word of a standing.
 fn print_standing(page: &mut [u8], at: usize, standing: Standing) -> usize
-    requires { ⌜ at ≤ 100 ⌝ }
+    requires { ⌜ at ≤ maxAnswer ⌝ }
     ensures prints { λ r. ⌜ Prints (now (page .entry)) at (standingWord standing) (now (page .exit)) r ⌝ }
     ensures small { λ r. ⌜ r ≤ at + 7 ⌝ }
 {
@@ -36,7 +37,7 @@ fn print_standing(page: &mut [u8], at: usize, standing: Standing) -> usize
 
 // The answer of an update that took a place.
 fn print_taken(page: &mut [u8], standing: Standing, held: usize, void: usize) -> usize
-    requires { ⌜ (held < 100) × (void < 100) ⌝ }
+    requires { ⌜ Counts held void ⌝ }
     ensures prints { λ r. ⌜ Prints (now (page .entry)) 0 (answerText (Taken standing held void)) (now (page .exit)) r ⌝ }
     ensures small { λ r. ⌜ r ≤ maxAnswer ⌝ }
 {
@@ -88,8 +89,8 @@ pub fn print_answer(page: &mut [u8], answer: Answer) -> usize
 
 // Begins the answer to a line of so many bytes: prints `(unread)`, or gives how many bytes are offered.
 pub fn begin_answer(line: &[u8], fill: usize, update: &mut [u8], out: &mut [u8]) -> Begun
-    requires { ⌜ 996 ≤ length (now update) ⌝ }
-    ensures { λ r. ⌜ Begins (now (line .entry)) fill (now (out .entry)) r (now (update .exit)) (now (out .exit)) ⌝ }
+    requires { ⌜ maxOffered ≤ length (now update) ⌝ }
+    ensures { λ r. ⌜ BeginsAnswer (now (line .entry)) fill (now (out .entry)) r (now (update .exit)) (now (out .exit)) ⌝ }
 {
     let read = read_line(line, fill);
     let Line::Offered(n) = read else {

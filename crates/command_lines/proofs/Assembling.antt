@@ -6,10 +6,10 @@ use mathlib.Core.List.{List, _++_, append-nil, append-assoc}
 use mathlib.Core.Bool.{true, false, true≢false}
 use lib.ListN.{length, take, drop, length-append, length-drop}
 use lib.Seq.{length-take-le, take-at, take-add}
-use Rattle.ledger_state.specs.State.{written}
+use Rattle.bytes_copy.specs.Overwritten.{overwritten}
 use Rattle.bytes_print.specs.Page.{Prints}
-use Rattle.command_syntax.specs.Reading.{maxLine}
-use Rattle.command_lines.specs.Lines.{Appends, FirstNewline, Takes}
+use Rattle.command_syntax.specs.Syntax.{maxLine}
+use Rattle.command_lines.specs.Lines.{Appends, FirstNewline, TakesLine}
 use Rattle.command_lines.specs.KeepLaws.{keeps-longer}
 
 module _ (buffer : List ℕ) (fill : ℕ) (text : List ℕ) where
@@ -29,7 +29,7 @@ module _ (buffer : List ℕ) (fill : ℕ) (text : List ℕ) where
   pub appends-fit : {r : ℕ} {buffer′ : List ℕ} → fill ≤ maxLine → fill ≤ length buffer → length text ≤ length buffer - fill
       → Prints buffer fill text buffer′ r → Appends buffer fill text r buffer′
   appends-fit {r} {buffer′} small f g p =
-      let e : buffer′ ≡ written buffer fill text = p .fits (omega (arith, p .past)) in
+      let e : buffer′ ≡ overwritten buffer fill text = p .fits (omega (arith, p .past)) in
       let t : length (take fill buffer) ≡ fill = length-take-le fill buffer f in
       record {
         keeps = λ line k.
@@ -50,7 +50,7 @@ module _ (buffer : List ℕ) (fill : ℕ) (text : List ℕ) where
 module _ (buffer : List ℕ) (fill : ℕ) (input : List ℕ) {at r : ℕ} {buffer′ : List ℕ}
     (f : FirstNewline input at) (a : Appends buffer fill (take at input) r buffer′) where
   -- the input has no newline, and is taken whole
-  pub takes-all : at ≡ length input → Takes buffer fill input (record { fill = r; consumed = at; ended = false }) buffer′
+  pub takes-all : at ≡ length input → TakesLine buffer fill input (record { fill = r; consumed = at; ended = false }) buffer′
   takes-all e =
       record {
         text = take at input;
@@ -63,7 +63,7 @@ module _ (buffer : List ℕ) (fill : ℕ) (input : List ℕ) {at r : ℕ} {buffe
       }
 
   -- the line ends
-  pub takes-line : (at ≡ length input → ⊥) → Takes buffer fill input (record { fill = r; consumed = at + 1; ended = true }) buffer′
+  pub takes-line : (at ≡ length input → ⊥) → TakesLine buffer fill input (record { fill = r; consumed = at + 1; ended = true }) buffer′
   takes-line n =
       let h : at < length input = omega (arith, f .within) in
       record {

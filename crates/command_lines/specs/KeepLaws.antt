@@ -10,7 +10,7 @@ use lib.ListN.{length, take, drop, length-append}
 use lib.Seq.{length-take-le}
 use lib.Dec.{leb}
 use borrow.Author.Tests.{leb-true, leb-false, le-leb, lt-leb}
-use Rattle.command_syntax.specs.Reading.{unhex, maxLine, framed, readLine}
+use Rattle.command_syntax.specs.Syntax.{unhex, maxLine, framed, readLine}
 use Rattle.command_syntax.specs.Line.{lineIn}
 use Rattle.command_lines.specs.Lines.{Keeps}
 

@@ -7,7 +7,7 @@ use lib.ListN.{length, take, drop}
 use lib.Dec.{eqb}
 use Rattle.bytes_order.specs.Member.{any}
 use Rattle.command_lines.specs.declared.Assembled.{Assembled}
-use Rattle.command_syntax.specs.Reading.{maxLine}
+use Rattle.command_syntax.specs.Syntax.{maxLine}
 
 -- is there a newline?
 unfoldable pub broken : List ℕ → Bool
@@ -35,7 +35,7 @@ ending true = 10 ∷ []
 ending false = []
 
 -- a line goes on with the text, up to and with the first newline of the input
-pub record Takes (buffer : List ℕ) (fill : ℕ) (input : List ℕ) (r : Assembled) (buffer′ : List ℕ) : Type 0 where
+pub record TakesLine (buffer : List ℕ) (fill : ℕ) (input : List ℕ) (r : Assembled) (buffer′ : List ℕ) : Type 0 where
   pub text : List ℕ
   pub whole : broken text ≡ false
   pub within : r .consumed ≤ length input
@@ -43,3 +43,9 @@ pub record Takes (buffer : List ℕ) (fill : ℕ) (input : List ℕ) (r : Assemb
   pub goes-on : r .ended ≡ false → r .consumed ≡ length input
   pub some-taken : 0 < length input → 0 < r .consumed
   pub keeps : (line : List ℕ) → Keeps buffer fill line → Keeps buffer′ (r .fill) (line ++ text)
+
+-- what is asked to go on from `from` by blocks: no newline is passed, and a block has bytes
+pub record BlocksFrom (xs : List ℕ) (from block : ℕ) : Type 0 where
+  pub from-within : from ≤ length xs
+  pub block-positive : 0 < block
+  pub none-passed : broken (take from xs) ≡ false

@@ -1,9 +1,9 @@
 // Input lines, assembled in a lent buffer from pieces of the input.
 ghost use mathlib.Core.Path.{_≡_};
 ghost use mathlib.Core.Bool.{false};
-ghost use Prim.Native.Nat.{_≤_, _<_};
+ghost use Prim.Native.Nat.{_≤_};
 ghost use lib.ListN.{length, take};
-ghost use Rattle.command_lines.specs.Lines.{broken, FirstNewline, Appends, Takes};
+ghost use Rattle.command_lines.specs.Lines.{broken, FirstNewline, BlocksFrom, Appends, TakesLine};
 use bytes_print::put;
 use command_syntax::MAX_LINE;
 
@@ -38,7 +38,7 @@ fn has_newline(s: &[u8]) -> bool
 
 // Goes on from `from` by whole blocks without a newline.
 fn skip_blocks(s: &[u8], from: usize, block: usize) -> usize
-    requires { ⌜ (from ≤ length (now s)) × (0 < block) × (broken (take from (now s)) ≡ false) ⌝ }
+    requires { ⌜ BlocksFrom (now s) from block ⌝ }
     ensures { λ r. ⌜ (r ≤ length (now (s .entry))) × (broken (take r (now (s .entry))) ≡ false) ⌝ }
 {
     let mut at = from;
@@ -78,7 +78,7 @@ fn append(line: &mut [u8], fill: usize, text: &[u8]) -> usize
 
 // Takes the input up to its first newline, and the newline with it, or else all of it.
 pub fn take_line(line: &mut [u8], fill: usize, input: &[u8]) -> Assembled
-    ensures { λ r. ⌜ Takes (now (line .entry)) fill (now (input .entry)) r (now (line .exit)) ⌝ }
+    ensures { λ r. ⌜ TakesLine (now (line .entry)) fill (now (input .entry)) r (now (line .exit)) ⌝ }
 {
     let at = find_newline(input);
     let length = append(line, fill, &input[..at]);

@@ -8,7 +8,7 @@ use lib.Seq.{take-all, take-add}
 use Rattle.ledger_state.specs.declared.Ledger.{Ledger}
 use Rattle.command_answers.specs.Answers.{maxAnswer}
 use Rattle.command_session.specs.declared.Fed.{Fed}
-use Rattle.command_syntax.specs.Reading.{maxLine}
+use Rattle.command_syntax.specs.Syntax.{maxLine}
 use Rattle.command_session.specs.Feeding.{Feeds, Feeding}
 use Rattle.command_session.specs.FeedLaws.{feeding-feeds}
 use Rattle.command_session.specs.InPieces.{done}

@@ -12,7 +12,7 @@ use Rattle.command_session.specs.Session.{maxInput}
 use Rattle.command_session.specs.InPieces.{Pieces, done}
 use Rattle.command_session.specs.PieceLaws.{pieces-then}
 use Rattle.command_loop.specs.declared.State.{State}
-use Rattle.command_loop.specs.Command.{Begins, Steps, Ran}
+use Rattle.command_loop.specs.Command.{BeginsRun, Steps, Ran}
 
 -- what holds before each step: what was done so far; what was read last is in the chunk; and none was, where a write failed
 pub record Running (s buffer : List ℕ) (t : State) (s′ buffer′ chunk : List ℕ) : Type 0 where
@@ -25,7 +25,7 @@ begun {s} {buffer} {l} {fill} e z =
     subst (λ (k : Ledger). Pieces freshLedger s buffer 0 [] [] k s buffer fill) (sym e)
     (subst (λ (n : ℕ). Pieces freshLedger s buffer 0 [] [] freshLedger s buffer n) (sym z) done)
 
-pub running-begun : {s buffer chunk : List ℕ} {t : State} → Begins t chunk → Running s buffer t s buffer chunk
+pub running-begun : {s buffer chunk : List ℕ} {t : State} → BeginsRun t chunk → Running s buffer t s buffer chunk
 running-begun b =
     record {
       ran =

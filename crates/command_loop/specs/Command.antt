@@ -7,7 +7,7 @@ use lib.ListN.{length, take, drop}
 use Rattle.ledger_state.specs.declared.Ledger.{Ledger}
 use Rattle.ledger_state.specs.State.{storeLength}
 use Rattle.ledger_state.specs.View.{freshLedger}
-use Rattle.command_syntax.specs.Reading.{maxLine}
+use Rattle.command_syntax.specs.Syntax.{maxLine}
 use Rattle.command_answers.specs.Answers.{maxAnswer}
 use Rattle.command_session.specs.Session.{maxInput}
 use Rattle.command_session.specs.Feeding.{maxEnd, EndValues, putOut, Feeds, FinishRow}
@@ -46,14 +46,14 @@ pub record Passes (l : Ledger) (s buffer : List ℕ) (fill : ℕ) (chunk : List 
   pub all : r .error ≡ 0 → consumed ≡ length chunk
 
 -- The beginning: a fresh ledger and no line; what is left of the limit falls by what was read.
-pub record Begins (r : State) (chunk : List ℕ) : Type 0 where
+pub record BeginsRun (r : State) (chunk : List ℕ) : Type 0 where
   pub fresh : r .ledger ≡ freshLedger
   pub no-line : r .fill ≡ 0
   pub reads : Reads maxInput (length chunk) (r .got) (r .left) (r .reading)
   pub unfailed : r .writing ≡ 0
 
 -- what a step needs: the bytes that were read are in the chunk, which has what it needs
-pub record Ready (t : State) (buffer chunk out : List ℕ) : Type 0 where
+pub record StepReady (t : State) (buffer chunk out : List ℕ) : Type 0 where
   pub within : t .got ≤ length chunk
   pub lent : Room buffer out
 

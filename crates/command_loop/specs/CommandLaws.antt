@@ -13,13 +13,13 @@ use Rattle.command_loop.specs.declared.Ended.{Ended}
 use Rattle.command_loop.specs.Command.{Lent, Runs, stopped, ended, Commands}
 
 -- The bytes fed are as many as the limit lost. What was put out, by the pieces and at the end, is the output of these.
-pub record Outputs (r : Ended) (out : List ℕ) : Type 0 where
+pub record RunOutputs (r : Ended) (out : List ℕ) : Type 0 where
   pub fed : List ℕ
   pub put : List ℕ
   pub counted : length fed + r .left ≡ maxInput
   pub output : put ++ take (r .taken) out ≡ outputOf fed
 
-runs-output : {s buffer out s″ buffer″ out″ : List ℕ} {r : Ended} → Lent s buffer out → Runs s buffer r s″ buffer″ out″ → r .writing ≡ 0 → Outputs r out″
+runs-output : {s buffer out s″ buffer″ out″ : List ℕ} {r : Ended} → Lent s buffer out → Runs s buffer r s″ buffer″ out″ → r .writing ≡ 0 → RunOutputs r out″
 runs-output lent (stopped t ran failed same) good = absurd (omega arith)
 runs-output {s = s} {buffer = buffer} {s″ = s″} {buffer″ = buffer″} {out″ = out″} lent (ended t s′ out ran none good left room ends) written =
     let counted : length (ran .fed) + (t .got + t .left) ≡ maxInput = ran .all good in
@@ -39,5 +39,5 @@ runs-output {s = s} {buffer = buffer} {s″ = s″} {buffer″ = buffer″} {out
     }
 
 -- where no write failed
-pub command-output : {r : Ended} (c : Commands r) → r .writing ≡ 0 → Outputs r (c .last-out)
+pub command-output : {r : Ended} (c : Commands r) → r .writing ≡ 0 → RunOutputs r (c .last-out)
 command-output c good = runs-output (c .lent) (c .runs) good

@@ -1,7 +1,7 @@
 // The command's loop: reads, feeds what was read, and writes what that puts out. The work on the bytes is `session`, the calls are `streams`.
 ghost use mathlib.Core.Path.{_≡_};
 ghost use Rattle.command_session.specs.Session.{maxInput};
-ghost use Rattle.command_loop.specs.Command.{AtPiece, HandsOn, Room, Passes, Begins, Ready, Steps, Ends, Lent, Runs, Commands};
+ghost use Rattle.command_loop.specs.Command.{AtPiece, HandsOn, Room, Passes, BeginsRun, StepReady, Steps, Ends, Lent, Runs, Commands};
 use command_session::Fed;
 use command_streams::Moved;
 use command_syntax::MAX_LINE;
@@ -113,7 +113,7 @@ fn pass_on(
 
 // The beginning: a fresh ledger, no line, and the first bytes of the input.
 fn begin(chunk: &mut [u8]) -> State
-    ensures { λ r. ⌜ Begins r (now (chunk .exit)) ⌝ }
+    ensures { λ r. ⌜ BeginsRun r (now (chunk .exit)) ⌝ }
 {
     let i = command_streams::read_some(max_input(), chunk);
     let ledger = ledger::fresh();
@@ -129,7 +129,7 @@ fn begin(chunk: &mut [u8]) -> State
 
 // Feeds what was read last, and reads on.
 fn step(state: State, store: &mut [u8], line: &mut [u8], chunk: &mut [u8], out: &mut [u8]) -> State
-    requires { ⌜ Ready state (now line) (now chunk) (now out) ⌝ }
+    requires { ⌜ StepReady state (now line) (now chunk) (now out) ⌝ }
     ensures { λ r. ⌜ Steps state (now (store .entry)) (now (line .entry)) (now (chunk .entry)) r (now (store .exit)) (now (line .exit)) (now (chunk .exit)) ⌝ }
 {
     let ledger = state.ledger;

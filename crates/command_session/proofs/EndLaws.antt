@@ -8,7 +8,7 @@ use lib.ListN.{length, take, drop, length-append, length-drop, take-append-drop,
 use lib.Seq.{length-take-le, drop-append-le}
 use Rattle.ledger_state.specs.declared.Ledger.{Ledger}
 use Rattle.ledger_state.specs.View.{bookOf}
-use Rattle.command_syntax.specs.Reading.{maxLine, readLine}
+use Rattle.command_syntax.specs.Syntax.{maxLine, readLine}
 use Rattle.command_lines.specs.KeepLaws.{keeps-unbegun, keeps-begun}
 use Rattle.command_answers.specs.Answers.{maxAnswer}
 use Rattle.command_session.specs.declared.Fed.{Fed}

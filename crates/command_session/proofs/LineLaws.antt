@@ -8,10 +8,11 @@ use mathlib.Core.Option.{Option}
 use mathlib.Core.Bool.{Bool}
 use lib.ListN.{length, take}
 use Rattle.bitset.specs.BelowLaws.{countBelow-le}
-use Rattle.rules.specs.Report.{ascii}
+use Rattle.bytes_ascii.specs.Ascii.{ascii}
 use Rattle.ledger_state.specs.declared.Ledger.{Ledger}
 use Rattle.ledger_state.specs.declared.Standing.{Standing}
-use Rattle.ledger_state.specs.State.{Book, placeAt, isHeld, isVoid, countOf, written}
+use Rattle.bytes_copy.specs.Overwritten.{overwritten}
+use Rattle.ledger_state.specs.State.{Book, placeAt, isHeld, isVoid, standingCount}
 use Rattle.ledger_state.specs.View.{bookOf}
 use Rattle.bytes_print.specs.Page.{Prints}
 use Rattle.ledger_offering.specs.Values.{OfferValues}
@@ -20,15 +21,15 @@ use Rattle.ledger_offering.specs.Words.{valuesText}
 use Rattle.command_syntax.specs.Line.{lineIn}
 use Rattle.command_answers.specs.declared.Begun.{Begun}
 use Rattle.command_answers.specs.declared.Begun.the-variants.{Unread, Offers}
-use Rattle.command_answers.specs.Answers.{maxAnswer, Printable, Begins}
+use Rattle.command_answers.specs.Answers.{maxAnswer, Printable, BeginsAnswer}
 use Rattle.command_answers.proofs.AnswerLaws.{unread-past}
 use Rattle.command_answers.proofs.BeginLaws.{begun-unread, begun-offer}
 use Rattle.command_session.specs.Answering.{AnswersLine, unread, offered}
 use Rattle.command_session.proofs.OutLaws.{partFrom, withPart, with-same, prints}
 
 -- a count over the places is at most 64
-count-few : (p : Standing → Bool) (l : Book) → countOf p l ≤ l .used
-unfolding countOf
+count-few : (p : Standing → Bool) (l : Book) → standingCount p l ≤ l .used
+unfolding standingCount
 count-few p l = countBelow-le (l .used) (λ (k : ℕ). p (placeAt l k .standing))
 
 pub offering-printable : {l r : Ledger} {s b s′ : List ℕ} {v : OfferValues} → OfferRow l s b v r s′ → Printable v
@@ -36,7 +37,11 @@ offering-printable (unfit e) = tt
 offering-printable (malformed n e d) = tt
 offering-printable (known u k e d f) = tt
 offering-printable (full u e d f n) = tt
-offering-printable (taken u r e d f n t) = (omega (arith, count-few isHeld (bookOf r), t .used-next), omega (arith, count-few isVoid (bookOf r), t .used-next))
+offering-printable (taken u r e d f n t) =
+    record {
+      held-two-digits = omega (arith, count-few isHeld (bookOf r), t .used-next);
+      void-two-digits = omega (arith, count-few isVoid (bookOf r), t .used-next);
+    }
 
 -- The line in the buffer is answered, and its answer put after the first `at` bytes of the output buffer.
 pub record Answers (l : Ledger) (s buffer : List ℕ) (fill : ℕ) (out : List ℕ) (at : ℕ) (l′ : Ledger) (s′ out′ : List ℕ) (at′ : ℕ) : Type 0 where
@@ -44,7 +49,7 @@ pub record Answers (l : Ledger) (s buffer : List ℕ) (fill : ℕ) (out : List �
   pub answers : AnswersLine l s (lineIn buffer fill) l′ s′ text
   pub short : length text ≤ maxAnswer
   pub past : at′ ≡ at + length text
-  pub put : out′ ≡ written out at text
+  pub put : out′ ≡ overwritten out at text
 
 module _ (out : List ℕ) (at : ℕ) (room : at + maxAnswer ≤ length out) {buffer : List ℕ} {fill : ℕ} where
   -- the answer is printed whole
@@ -59,7 +64,7 @@ module _ (out : List ℕ) (at : ℕ) (room : at + maxAnswer ≤ length out) {buf
         put = prints out at (omega arith) p (omega arith);
       }
 
-  module _ (n : ℕ) {r : Begun} {update o : List ℕ} (b : Begins buffer fill (partFrom out at) r update o) where
+  module _ (n : ℕ) {r : Begun} {update o : List ℕ} (b : BeginsAnswer buffer fill (partFrom out at) r update o) where
     -- the line is not read
     pub line-unread : {l : Ledger} {s : List ℕ} → r ≡ Unread n → Answers l s buffer fill out at l s (withPart out at o) (at + n)
     line-unread {l} {s} q =

@@ -7,7 +7,7 @@ use mathlib.Core.List.{List, [], _++_, append-assoc, append-nil}
 use lib.ListN.{length, take, drop, length-append, length-drop, take-append-drop, drop-of-length-le}
 use lib.Seq.{length-take-le, take-all, take-at, drop-at, drop-drop}
 use Rattle.bytes_print.specs.Page.{Prints}
-use Rattle.ledger_state.specs.State.{written}
+use Rattle.bytes_copy.specs.Overwritten.{overwritten}
 
 -- the text t comes after the first w bytes, the bytes after it keep their values, and w′ is its end
 pub record Extends (out : List ℕ) (w : ℕ) (t out′ : List ℕ) (w′ : ℕ) : Type 0 where
@@ -22,7 +22,7 @@ pub extends-none : (out : List ℕ) (w : ℕ) → w ≤ length out → Extends o
 extends-none out w h = record { past = omega arith; within = h; kept = refl; text = sym (append-nil (take w out)); rest = refl }
 
 -- a text that is written there
-pub extends-written : (out : List ℕ) (w : ℕ) (t : List ℕ) {out′ : List ℕ} {w′ : ℕ} → w + length t ≤ length out → w′ ≡ w + length t → out′ ≡ written out w t
+pub extends-written : (out : List ℕ) (w : ℕ) (t : List ℕ) {out′ : List ℕ} {w′ : ℕ} → w + length t ≤ length out → w′ ≡ w + length t → out′ ≡ overwritten out w t
     → Extends out w t out′ w′
 extends-written out w t {out′} {w′} fits past e =
     let rest = drop (w + length t) out in
@@ -65,7 +65,7 @@ module _ (out : List ℕ) (w : ℕ) (inside : w ≤ length out) where
   with-same = with-is (partFrom out w) ∙ ap (λ (x : List ℕ). take w out ++ x) part-is ∙ take-append-drop w out
 
   -- a text that is printed at the start of the part
-  pub prints : {t o : List ℕ} {n : ℕ} → Prints (partFrom out w) 0 t o n → w + n ≤ length out → withPart out w o ≡ written out w t
+  pub prints : {t o : List ℕ} {n : ℕ} → Prints (partFrom out w) 0 t o n → w + n ≤ length out → withPart out w o ≡ overwritten out w t
   prints {t} {o} {n} p fits =
       let text : o ≡ t ++ drop (length t) (drop w out) =
       p .fits (omega (arith, part-length)) ∙ ap₂ (λ (k : ℕ) (x : List ℕ). t ++ drop k x) (zero-add (length t)) part-is in

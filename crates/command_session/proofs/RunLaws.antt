@@ -8,7 +8,7 @@ use lib.ListN.{length, take, drop}
 use lib.Seq.{take-add, drop-drop}
 use Rattle.ledger_state.specs.declared.Ledger.{Ledger}
 use Rattle.command_lines.specs.declared.Assembled.{Assembled}
-use Rattle.command_lines.specs.Lines.{Takes}
+use Rattle.command_lines.specs.Lines.{TakesLine}
 use Rattle.command_answers.specs.Answers.{maxAnswer}
 use Rattle.command_session.specs.Feeding.{Moves, Feeds}
 use Rattle.command_session.specs.FeedLaws.{moves-none, moves-then}
@@ -71,7 +71,7 @@ module _ {l : Ledger} {s buffer input out : List ℕ} {fill : ℕ} where
           moves = subst₂ (λ (x y : List ℕ). Moves l s buffer fill x y l₂ s₂ buffer₂ fill₂) xs (sym (e .text)) (moves-then (run .moves) m);
         }
 
-    module _ {a : Assembled} {buffer₂ : List ℕ} (t : Takes buffer₁ fill₁ (partFrom input consumed) a buffer₂) (more : consumed < length input)
+    module _ {a : Assembled} {buffer₂ : List ℕ} (t : TakesLine buffer₁ fill₁ (partFrom input consumed) a buffer₂) (more : consumed < length input)
         (bk : length buffer₂ ≡ length buffer₁) where
       left : 0 < length (partFrom input consumed)
       left = omega (arith, part-length input consumed (run .within-input))

@@ -6,16 +6,16 @@ use mathlib.Core.Option.{Option}
 use mathlib.Core.Bool.{Bool, true, false}
 use lib.ListN.{take}
 use Rattle.ledger_state.specs.declared.Ledger.{Ledger}
-use Rattle.command_syntax.specs.Reading.{readLine}
+use Rattle.command_syntax.specs.Syntax.{readLine}
 use Rattle.command_syntax.specs.Line.{lineIn}
 use Rattle.command_lines.specs.declared.Assembled.{Assembled}
-use Rattle.command_lines.specs.Lines.{Keeps, Takes, ending}
+use Rattle.command_lines.specs.Lines.{Keeps, TakesLine, ending}
 use Rattle.command_lines.specs.KeepLaws.{keeps-none, keeps-read}
 use Rattle.command_session.specs.Answering.{AnswersLine, AnswersLines, done, linesOf, lineAfter}
 use Rattle.command_session.specs.AnsweringLaws.{answers-one, lines-text, lines-ended}
 use Rattle.command_session.specs.Feeding.{Moves}
 
-module _ {buffer buffer′ input : List ℕ} {fill : ℕ} {a : Assembled} (t : Takes buffer fill input a buffer′) where
+module _ {buffer buffer′ input : List ℕ} {fill : ℕ} {a : Assembled} (t : TakesLine buffer fill input a buffer′) where
   taken : (b : Bool) → a .ended ≡ b → take (a .consumed) input ≡ t .text ++ ending b
   taken b e = t .consumes ∙ ap (λ (x : Bool). t .text ++ ending x) e
 

@@ -4,12 +4,12 @@ use mathlib.Core.List.{List, [], _∷_, _++_}
 use mathlib.Core.Option.{Option, none, some}
 use mathlib.Core.Bool.{cond}
 use lib.Dec.{eqb}
-use Rattle.rules.specs.Report.{ascii}
+use Rattle.bytes_ascii.specs.Ascii.{ascii}
 use Rattle.ledger_state.specs.declared.Ledger.{Ledger}
 use Rattle.ledger_offering.specs.Values.{OfferValues}
 use Rattle.ledger_offering.specs.Offer.{OfferRow}
 use Rattle.ledger_offering.specs.Words.{valuesText}
-use Rattle.command_syntax.specs.Reading.{readLine}
+use Rattle.command_syntax.specs.Syntax.{readLine}
 
 -- A line that reads so is answered: the ledger and the store after it, and the text of the answer.
 pub data AnswersLine (l : Ledger) (s : List ℕ) : Option (List ℕ) → Ledger → List ℕ → List ℕ → Type 0 where

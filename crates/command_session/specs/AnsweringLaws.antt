@@ -16,7 +16,7 @@ use Rattle.ledger_offering.specs.Words.{valuesText}
 use Rattle.ledger.specs.Calls.{Calls, call, offer-stands}
 use Rattle.ledger.specs.Calls as calls
 use Rattle.ledger.specs.Answers.{answer-right}
-use Rattle.command_syntax.specs.Reading.{readLine}
+use Rattle.command_syntax.specs.Syntax.{readLine}
 use Rattle.command_lines.specs.Lines.{broken}
 use Rattle.command_session.specs.Session.{Machine, answerLine, endLine, feedByte, feed, lastLine}
 use Rattle.command_session.specs.Answering.{AnswersLine, unread, offered, AnswersLines, done, next, linesOf, lineAfter, lastOf}

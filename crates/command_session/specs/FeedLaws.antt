@@ -9,7 +9,7 @@ use Rattle.ledger_state.specs.declared.Ledger.{Ledger}
 use Rattle.ledger_state.specs.View.{bookOf}
 use Rattle.ledger_state.specs.Stands.{Stands}
 use Rattle.ledger.specs.Calls.{Calls}
-use Rattle.command_syntax.specs.Reading.{maxLine}
+use Rattle.command_syntax.specs.Syntax.{maxLine}
 use Rattle.command_lines.specs.Lines.{Keeps}
 use Rattle.command_lines.specs.KeepLaws.{keeps-some}
 use Rattle.command_session.specs.declared.Fed.{Fed}

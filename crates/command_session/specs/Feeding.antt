@@ -5,12 +5,13 @@ use Prim.Native.Nat.{ℕ, _+_, _≤_, _<_}
 use mathlib.Core.List.{List, _++_}
 use mathlib.Core.Bool.{true, false}
 use lib.ListN.{length, take, drop}
+use Rattle.rules.specs.Report.{maxReport}
 use Rattle.ledger_state.specs.declared.Ledger.{Ledger}
 use Rattle.ledger_state.specs.State.{Book}
 use Rattle.ledger_state.specs.View.{bookOf}
 use Rattle.ledger_refusals.specs.Numbers.{refusalNumber, putBytes, refusedBy}
 use Rattle.ledger.specs.Report.{ReportRow}
-use Rattle.command_syntax.specs.Reading.{maxLine}
+use Rattle.command_syntax.specs.Syntax.{maxLine}
 use Rattle.command_lines.specs.Lines.{Keeps}
 use Rattle.command_answers.specs.Answers.{maxAnswer}
 use Rattle.command_session.specs.declared.Fed.{Fed}
@@ -20,7 +21,7 @@ use Rattle.command_session.specs.Answering.{AnswersLines, linesOf, lineA
 
 -- the longest end of an output: an answer and a report
 abbrev pub maxEnd : ℕ
-maxEnd = maxAnswer + 12000
+maxEnd = maxAnswer + maxReport
 
 -- The values for each case of the end: how many bytes of output, with the report; how many without it, and document 01's number of its refusal; an output buffer
 -- shorter than the longest end; a line buffer that has not maxLine bytes.

@@ -8,7 +8,7 @@ use lib.ListN.{length, take, drop, length-append, length-drop}
 use lib.Seq.{take-at, drop-at}
 use Rattle.bytes_order.specs.BoolLaws.{true-false}
 use Rattle.update_format.specs.Update.{Update}
-use Rattle.rules.specs.Report.{reportOf}
+use Rattle.rules.specs.Report.{reportOf, maxReport}
 use Rattle.rules.specs.ReportLaws.{report-length}
 use Rattle.ledger_state.specs.declared.Ledger.{Ledger}
 use Rattle.ledger_state.specs.State.{Book}
@@ -29,12 +29,12 @@ pub report-within : {l : Book} {s out o : List ℕ} {n : ℕ} → ReportRow l s 
 report-within (written text e t j) = j
 
 -- a report of a ledger that stands has at most 12,000 bytes
-report-few : {l : Book} {s : List ℕ} (us : List Update) → Stands l s us → length (reportOf ident us) ≤ 12000
+report-few : {l : Book} {s : List ℕ} (us : List Update) → Stands l s us → length (reportOf ident us) ≤ maxReport
 report-few us h = report-length ident ident-length us (h .holds .distinct) (h .holds .room) (h .holds .bounded)
 
 module _ {l : Book} {s : List ℕ} {us : List Update} (h : Stands l s us) (out : List ℕ) where
   -- .. and so it is written where there is room for 12,000
-  report-written : 12000 ≤ length out → {v : Output} {out′ : List ℕ} → ReportRow l s out v out′
+  report-written : maxReport ≤ length out → {v : Output} {out′ : List ℕ} → ReportRow l s out v out′
       → (v ≡ putBytes (length (reportOf ident us))) × (out′ ≡ reportOf ident us ++ drop (length (reportOf ident us)) out)
   report-written room (unfit e) = absurd (true-false (stands-sound l s us h) e)
   report-written room (short text e t j) = absurd (omega (arith, report-few us h, ap length (t .of-rules us h)))
@@ -42,7 +42,7 @@ module _ {l : Book} {s : List ℕ} {us : List Update} (h : Stands l s us) (out :
       let q = t .of-rules us h in (ap (λ (x : List ℕ). putBytes (length x)) q, ap (λ (x : List ℕ). x ++ drop (length x) out) q)
 
 -- the output of the whole is what the machine had put out, and the first n bytes of the output buffer
-pub record Outputs (m : Machine) (v : EndValues) (out′ : List ℕ) : Type 0 where
+pub record EndOutputs (m : Machine) (v : EndValues) (out′ : List ℕ) : Type 0 where
   pub count : ℕ
   pub answer : v ≡ withReport count
   pub output : m .out ++ take count out′ ≡ finish m
@@ -64,14 +64,14 @@ module _ {l l′ : Ledger} {s s′ buffer : List ℕ} {fill : ℕ} (m : Machine)
   answered : after .out ≡ m .out ++ put
   answered = last-answers m (m .line) refl (f .stands) (last .answers (m .line) (f .keeps)) .1
 
-  enough : 12000 ≤ length (drop (length put) page)
+  enough : maxReport ≤ length (drop (length put) page)
   enough = omega (arith, length-drop (length put) page, length-append put (drop (length put) out), length-drop (length put) out, last .short)
 
   whole : m .out ++ (put ++ text) ≡ finish m
   unfolding finish
   whole = sym (append-assoc (m .out) put text) ∙ ap (λ (x : List ℕ). x ++ text) (sym answered)
 
-  pub reports-output : {v : EndValues} {out′ : List ℕ} → ReportsAt (bookOf l′) s′ (length put) page v out′ → Outputs m v out′
+  pub reports-output : {v : EndValues} {out′ : List ℕ} → ReportsAt (bookOf l′) s′ (length put) page v out′ → EndOutputs m v out′
   reports-output (reported n o p) =
       let q = report-written stands (drop (length put) page) enough p in
       let e : n ≡ length text = cc in
@@ -97,7 +97,7 @@ module _ {l l′ : Ledger} {s s′ buffer : List ℕ} {fill : ℕ} (m : Machine)
 
 -- with room for the longest end there is a report, and the output is the machine's
 pub finishes-output : {l : Ledger} {s buffer out s′ out′ : List ℕ} {fill : ℕ} {v : EndValues} (m : Machine) → Follows l s buffer fill m → maxEnd ≤ length out
-    → FinishRow l s buffer fill out v s′ out′ → Outputs m v out′
+    → FinishRow l s buffer fill out v s′ out′ → EndOutputs m v out′
 finishes-output m f room (feeding.unfit-line n) = absurd (n (f .keeps .sized))
 finishes-output m f room (feeding.short e n) = absurd (omega arith)
 finishes-output {out = out} m f room (ended v l′ s′ put out′ e h last p) = reports-output m f out put h last p

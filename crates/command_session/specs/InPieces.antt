@@ -7,7 +7,7 @@ use Rattle.ledger_state.specs.declared.Ledger.{Ledger}
 use Rattle.ledger_state.specs.State.{storeLength}
 use Rattle.ledger_state.specs.View.{bookOf, freshLedger}
 use Rattle.ledger_state.specs.TakeLaws.{fresh-stands}
-use Rattle.command_syntax.specs.Reading.{maxLine}
+use Rattle.command_syntax.specs.Syntax.{maxLine}
 use Rattle.command_lines.specs.KeepLaws.{keeps-none}
 use Rattle.command_session.specs.declared.Fed.{Fed}
 use Rattle.command_session.specs.Session.{begin, feed, maxInput, outputOf}

@@ -7,9 +7,10 @@ use lib.ListN.{take}
 use lib.Dec.{eqb}
 use Rattle.update_format.specs.Update.{Update}
 use Rattle.update_format.specs.Decode.{decode}
-use Rattle.rules.specs.Report.{ascii, reportOf}
+use Rattle.bytes_ascii.specs.Ascii.{ascii}
+use Rattle.rules.specs.Report.{reportOf}
 use Rattle.ledger_state.specs.Stands.{ident}
-use Rattle.command_syntax.specs.Reading.{readLine}
+use Rattle.command_syntax.specs.Syntax.{readLine}
 use Rattle.ledger.specs.Calls.{acceptDecoded}
 use Rattle.ledger.specs.Answers.{offerText}
 

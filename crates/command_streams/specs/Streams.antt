@@ -4,12 +4,12 @@ use Prim.Native.Nat.{ℕ, _+_, _≤_, _<_}
 use Rattle.command_streams.specs.declared.Moved.{Moved}
 
 -- a call that may move n bytes: none, where it failed
-pub record Moves (n : ℕ) (r : Moved) : Type 0 where
+pub record MovesAtMost (n : ℕ) (r : Moved) : Type 0 where
   pub within : r .count ≤ n
   pub none : 0 < r .error → r .count ≡ 0
 
 -- a call that is to take n bytes: at least one, unless it failed
-pub record Takes (n : ℕ) (r : Moved) : Type 0 where
+pub record TakesSome (n : ℕ) (r : Moved) : Type 0 where
   pub within : r .count ≤ n
   pub some : r .error ≡ 0 → 0 < r .count
 

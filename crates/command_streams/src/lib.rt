@@ -2,7 +2,7 @@
 // reads or writes: these say how many were counted, and whether a call failed.
 ghost use Prim.Native.Nat.{_≤_, _<_};
 ghost use lib.ListN.{length};
-ghost use Rattle.command_streams.specs.Streams.{Moves, Takes, Reads, Writes};
+ghost use Rattle.command_streams.specs.Streams.{MovesAtMost, TakesSome, Reads, Writes};
 use libc::EAGAIN;
 use libc::EINTR;
 use libc::EIO;
@@ -60,7 +60,7 @@ fn is_passing(error: u64) -> bool {
 
 // One read.
 fn try_read(buffer: &mut [u8]) -> Moved
-    ensures { λ r. ⌜ Moves (length (now (buffer .exit))) r ⌝ }
+    ensures { λ r. ⌜ MovesAtMost (length (now (buffer .exit))) r ⌝ }
 {
     let got = libc::read(STDIN_FILENO, buffer);
     if got < 0 {
@@ -77,7 +77,7 @@ fn try_read(buffer: &mut [u8]) -> Moved
 
 // A read, made again while its error passes. A proved loop has to end, so it counts its turns down, from a number that no run uses up.
 fn read_again(buffer: &mut [u8]) -> Moved
-    ensures { λ r. ⌜ Moves (length (now (buffer .exit))) r ⌝ }
+    ensures { λ r. ⌜ MovesAtMost (length (now (buffer .exit))) r ⌝ }
 {
     let mut turns = u64::MAX;
     let mut moved = try_read(buffer);
@@ -110,7 +110,7 @@ pub fn read_some(left: usize, buffer: &mut [u8]) -> Input
 
 // One write. One that takes nothing has failed.
 fn try_write(bytes: &[u8]) -> Moved
-    ensures { λ r. ⌜ Takes (length (now (bytes .entry))) r ⌝ }
+    ensures { λ r. ⌜ TakesSome (length (now (bytes .entry))) r ⌝ }
 {
     let took = libc::write(STDOUT_FILENO, bytes);
     if took < 0 {
@@ -134,7 +134,7 @@ fn try_write(bytes: &[u8]) -> Moved
 
 // A write, made again while its error passes.
 fn write_again(bytes: &[u8]) -> Moved
-    ensures { λ r. ⌜ Takes (length (now (bytes .entry))) r ⌝ }
+    ensures { λ r. ⌜ TakesSome (length (now (bytes .entry))) r ⌝ }
 {
     let mut turns = u64::MAX;
     let mut moved = try_write(bytes);

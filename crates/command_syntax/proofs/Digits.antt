@@ -13,7 +13,7 @@ use borrow.Author.Tests.{ltb-true, ltb-false, lt-ltb, le-ltb, le-leb, lt-leb}
 use Rattle.bytes_order.specs.Member.{all}
 use Rattle.bytes_order.specs.BoolLaws.{and-true}
 use Rattle.bytes_order.specs.MemberLaws.{all→∈, getD-∈}
-use Rattle.command_syntax.specs.Reading.{unhex}
+use Rattle.command_syntax.specs.Syntax.{unhex}
 use Rattle.command_syntax.specs.Line.{digitValue, Spells}
 use Rattle.command_syntax.specs.LineLaws.{isDigit, none≢some, unhex-more, unhex-begins, unhex-digits}
 

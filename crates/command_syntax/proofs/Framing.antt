@@ -12,9 +12,9 @@ use borrow.Author.Tests.{le-leb, lt-leb}
 use Rattle.bytes_order.specs.Order.{same}
 use Rattle.bytes_order.specs.Member.{all}
 use Rattle.bytes_order.specs.BoolLaws.{true-false}
-use Rattle.rules.specs.Report.{codes, ascii}
+use Rattle.bytes_ascii.specs.Ascii.{codes, ascii}
 use Rattle.command_syntax.specs.declared.Line.the-variants.{Offered, Unread}
-use Rattle.command_syntax.specs.Reading.{unhex, maxLine, framed, readLine}
+use Rattle.command_syntax.specs.Syntax.{unhex, maxLine, framed, readLine}
 use Rattle.command_syntax.specs.Line.{lineIn, lineFor}
 use Rattle.command_syntax.specs.LineLaws.{isDigit, unhex-length, unhex-digits, unhex-whole, framed-long}
 

@@ -1,3 +1,3 @@
-pub mod Reading
+pub mod Syntax
 pub mod Line
 pub mod LineLaws

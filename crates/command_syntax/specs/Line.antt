@@ -8,7 +8,7 @@ use lib.ListN.{length, take, drop}
 use lib.Dec.{leb}
 use Rattle.command_syntax.specs.declared.Line.{Line}
 use Rattle.command_syntax.specs.declared.Line.the-variants.{Offered, Unread}
-use Rattle.command_syntax.specs.Reading.{unhex, maxLine, readLine}
+use Rattle.command_syntax.specs.Syntax.{unhex, maxLine, readLine}
 
 -- the value of a digit; 16 for any other byte
 abbrev pub digitValue : ℕ → ℕ
@@ -27,3 +27,8 @@ pub record Spells (buffer : List ℕ) (n : ℕ) : Type 0 where
   pub room : 2 * n + 8 ≤ length buffer
   pub bytes : List ℕ
   pub digits : unhex (take (2 * n) (drop 7 buffer)) ≡ some bytes
+
+-- .. and the update buffer has room for them
+pub record SpellsInto (buffer : List ℕ) (n : ℕ) (update : List ℕ) : Type 0 where
+  pub spells : Spells buffer n
+  pub room : n ≤ length update

@@ -11,8 +11,8 @@ use lib.Dec.{leb, ltb}
 use borrow.Author.Tests.{leb-true, lt-ltb}
 use Rattle.bytes_order.specs.Member.{all}
 use Rattle.bytes_order.specs.BoolLaws.{and-true→, and-true}
-use Rattle.ledger_state.specs.ListFacts.{part-append}
-use Rattle.command_syntax.specs.Reading.{digitOf, byteOf, withByte, unhex, maxLine, framed, readLine}
+use Rattle.bytes_copy.specs.OverwrittenLaws.{slice-append}
+use Rattle.command_syntax.specs.Syntax.{digitOf, byteOf, withByte, unhex, maxLine, maxOffered, framed, readLine}
 use Rattle.command_syntax.specs.Line.{digitValue, lineIn, Spells}
 
 -- is the byte a digit?
@@ -48,7 +48,7 @@ unhex-more x y zs p q e =
     ∙ ap (withByte (some (16 * digitValue x + digitValue y))) e
 
 -- what is spelled is spelled by two digits first
-pub record Begins (x y : ℕ) (zs bs : List ℕ) : Type 0 where
+pub record TwoDigitsFirst (x y : ℕ) (zs bs : List ℕ) : Type 0 where
   pub high : isDigit x ≡ true
   pub low : isDigit y ≡ true
   pub rest : List ℕ
@@ -59,14 +59,14 @@ pub record Begins (x y : ℕ) (zs bs : List ℕ) : Type 0 where
 pub none≢some : {b : List ℕ} → none ≡ some b → ⊥
 none≢some e = let z : _≡_ {A = ℕ} 0 1 = cc in omega arith
 
-pub unhex-begins : (x y : ℕ) (zs : List ℕ) {bs : List ℕ} → unhex (x ∷ y ∷ zs) ≡ some bs → Begins x y zs bs
+pub unhex-begins : (x y : ℕ) (zs : List ℕ) {bs : List ℕ} → unhex (x ∷ y ∷ zs) ≡ some bs → TwoDigitsFirst x y zs bs
 unfolding unhex byteOf withByte
 unhex-begins x y zs {bs} e =
     step (isDigit x) (isDigit y) (unhex zs) refl refl refl
     (ap₂ (λ (a b : Option ℕ). withByte (byteOf a b) (unhex zs)) (sym (digit-read x)) (sym (digit-read y)) ∙ e)
   where
     step : (p q : Bool) (r : Option (List ℕ)) → isDigit x ≡ p → isDigit y ≡ q → unhex zs ≡ r
-        → withByte (byteOf (cond p (some (digitValue x)) none) (cond q (some (digitValue y)) none)) r ≡ some bs → Begins x y zs bs
+        → withByte (byteOf (cond p (some (digitValue x)) none) (cond q (some (digitValue y)) none)) r ≡ some bs → TwoDigitsFirst x y zs bs
     step true true (some rest) p q r e =
         record { high = p; low = q; rest = rest; follows = r; whole = sym (Option·some-injective _ _ e) }
     step true true none p q r e = absurd (none≢some e)
@@ -134,7 +134,7 @@ lineIn-offers buffer fill {b} e = step (leb fill maxLine) (leb fill (length buff
     step false q f e = absurd (none≢some e)
 
 pub lineIn-spells : (buffer : List ℕ) (fill : ℕ) {b : List ℕ} → lineIn buffer fill ≡ some b
-    → Spells buffer (length b) × (unhex (take (2 * length b) (drop 7 buffer)) ≡ some b) × (length b ≤ 996)
+    → Spells buffer (length b) × (unhex (take (2 * length b) (drop 7 buffer)) ≡ some b) × (length b ≤ maxOffered)
 lineIn-spells buffer fill {b} e =
     let r = lineIn-offers buffer fill e in
     let o = r .1 in
@@ -142,7 +142,7 @@ lineIn-spells buffer fill {b} e =
     let n : length t ≡ fill = length-take-le fill buffer (r .0) in
     let long : 8 ≤ length t = framed-long t (o .frame) in
     let same-part : take (length t - 8) (drop 7 t) ≡ take (length t - 8) (drop 7 buffer) =
-    sym (part-append t (drop fill buffer) 7 (length t - 8) (omega arith)) ∙ ap (λ (x : List ℕ). take (length t - 8) (drop 7 x)) (take-append-drop fill buffer) in
+    sym (slice-append t (drop fill buffer) 7 (length t - 8) (omega arith)) ∙ ap (λ (x : List ℕ). take (length t - 8) (drop 7 x)) (take-append-drop fill buffer) in
     let u : unhex (take (length t - 8) (drop 7 buffer)) ≡ some b = ap unhex (sym same-part) ∙ o .spelled in
     let l : length t - 8 ≡ 2 * length b = part-length t b long (o .spelled) in
     let v : unhex (take (2 * length b) (drop 7 buffer)) ≡ some b = ap (λ (m : ℕ). unhex (take m (drop 7 buffer))) (sym l) ∙ u in

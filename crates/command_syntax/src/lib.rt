@@ -5,8 +5,8 @@ ghost use Prim.Native.Nat.{_*_, _≤_, max};
 ghost use lib.ListN.{length, take, drop};
 ghost use lib.Dec.{ltb};
 ghost use Rattle.bytes_order.specs.Member.{all};
-ghost use Rattle.command_syntax.specs.Reading.{unhex as spelled, framed as framedBy, readLine};
-ghost use Rattle.command_syntax.specs.Line.{digitValue, lineIn, lineFor, Spells};
+ghost use Rattle.command_syntax.specs.Syntax.{maxLine, unhex, framed, readLine};
+ghost use Rattle.command_syntax.specs.Line.{digitValue, lineIn, lineFor, SpellsInto};
 
 // Document 01: "or is over 2,000 characters".
 pub const MAX_LINE: usize = 2000;
@@ -55,7 +55,7 @@ fn all_digits(s: &[u8]) -> bool
 
 // Does the line begin with `(offer ` and end with `)`?
 fn framed(line: &[u8]) -> bool
-    ensures { λ r. ⌜ r ≡ framedBy (now (line .entry)) ⌝ }
+    ensures { λ r. ⌜ r ≡ framed (now (line .entry)) ⌝ }
 {
     if line.len() < 8 {
         return false;
@@ -66,7 +66,7 @@ fn framed(line: &[u8]) -> bool
 
 // How a whole line reads.
 fn read_text(line: &[u8]) -> Line
-    requires { ⌜ length (now line) ≤ 2000 ⌝ }
+    requires { ⌜ length (now line) ≤ maxLine ⌝ }
     ensures { λ r. ⌜ r ≡ lineFor (readLine (now (line .entry))) ⌝ }
 {
     if !framed(line) {
@@ -98,8 +98,8 @@ pub fn read_line(line: &[u8], fill: usize) -> Line
 
 // The bytes that the line spells, from its eighth byte on.
 pub fn unhex(line: &[u8], n: usize, update: &mut [u8])
-    requires { ⌜ Spells (now line) n × (n ≤ length (now update)) ⌝ }
-    ensures { λ _. ⌜ spelled (take (2 * n) (drop 7 (now (line .entry)))) ≡ some (take n (now (update .exit))) ⌝ }
+    requires { ⌜ SpellsInto (now line) n (now update) ⌝ }
+    ensures { λ _. ⌜ unhex (take (2 * n) (drop 7 (now (line .entry)))) ≡ some (take n (now (update .exit))) ⌝ }
 {
     let mut i: usize = 0;
     while i < n {

@@ -21,13 +21,13 @@ use Rattle.update_format.specs.Update.{Id, Update}
 use Rattle.update_format.specs.Decode.{Decoded, refused, update, decode}
 use Rattle.bytes_order.specs.Distinct.{Distinct}
 use Rattle.rules.specs.Standing.{Held, Void, Waiting}
-use Rattle.rules.specs.Settle.{Row, Table, Verdict, held, waiting, void, isHeld, isVoid, heldIn, voidIn, settled}
+use Rattle.rules.specs.Settle.{Row, Table, Verdict, held, waiting, void, isHeld, isVoid, heldIn, voidIn, settledTable}
 use Rattle.rules.specs.SettlingTable.{held-in, void-in}
 use Rattle.rules.specs.Settling.{settled-decides}
 use Rattle.rules.specs.Decides.{Decides}
 use Rattle.ledger_state.specs.declared.Ledger.{Ledger}
 use Rattle.ledger_state.specs.View.{bookOf}
-use Rattle.ledger_state.specs.State.{places, Book, placeAt, countOf, isHeld as stateHeld, isVoid as stateVoid}
+use Rattle.ledger_state.specs.State.{places, Book, placeAt, standingCount, isHeld as stateHeld, isVoid as stateVoid}
 use Rattle.ledger_state.specs.Stands.{ident, noUpdate, updateAt, Stands}
 use Rattle.ledger_state.specs.FindLaws.{stored-at, find-right}
 use Rattle.ledger_state.specs.TakeLaws.{stands-sound}
@@ -57,8 +57,8 @@ takenFor T T′ i = takenAs (standingIn T′ i) (heldNumber T′ - heldNumber T)
 unfoldable pub answerFor : List Update → Decoded → OfferValues
 answerFor us (refused n) = refusedAs n
 answerFor us (update u) =
-    cond (member (ident u) (map ident us)) (knownAs (standingIn (settled ident us) (ident u)))
-    (cond (ltb (length us) places) (takenFor (settled ident us) (settled ident (us ++ (u ∷ []))) (ident u)) (refusedAs row10))
+    cond (member (ident u) (map ident us)) (knownAs (standingIn (settledTable ident us) (ident u)))
+    (cond (ltb (length us) places) (takenFor (settledTable ident us) (settledTable ident (us ++ (u ∷ []))) (ident u)) (refusedAs row10))
 
 -- and its text
 abbrev pub offerText : List Update → Decoded → List ℕ
@@ -74,12 +74,12 @@ row-test T p i {r} once m e h =
     ap (λ (w : Row). p (w .verdict)) (sym k) ∙ b .1
 
 module _ (l : Book) (s : List ℕ) (us : List Update) (stands : Stands l s us) where
-  D : Decides ident us (settled ident us)
+  D : Decides ident us (settledTable ident us)
   D = settled-decides ident us (stands .holds .distinct)
 
   -- a place's standing is its update's verdict
-  standing-by : (k : ℕ) → k < length us → (r : Row) → r ∈ settled ident us → r .update ≡ updateAt us k → (v : Verdict) → r .verdict ≡ v
-      → verdictOf (placeAt l k .standing) ≡ standingIn (settled ident us) (ident (updateAt us k))
+  standing-by : (k : ℕ) → k < length us → (r : Row) → r ∈ settledTable ident us → r .update ≡ updateAt us k → (v : Verdict) → r .verdict ≡ v
+      → verdictOf (placeAt l k .standing) ≡ standingIn (settledTable ident us) (ident (updateAt us k))
   unfolding standingIn isHeld isVoid heldIn voidIn
   standing-by k h r m e held q =
       let i : r .id ≡ ident (updateAt us k) = D .has-id r m ∙ ap ident e in
@@ -88,35 +88,35 @@ module _ (l : Book) (s : List ℕ) (us : List Update) (stands : Stands l s us) w
   standing-by k h r m e void q =
       let i : r .id ≡ ident (updateAt us k) = D .has-id r m ∙ ap ident e in
       let w = only-void us (placeAt l k .standing) (updateAt us k) (says l s us stands (placeAt l k .standing) k h refl) (subst (λ (u : Update). Void ident us u) e (D .void-right r m q)) in
-      let n : heldIn (settled ident us) (ident (updateAt us k)) ≡ false =
-      not-true→false (heldIn (settled ident us) (ident (updateAt us k))) (λ t. true-false (row-test (settled ident us) isHeld (ident (updateAt us k)) (D .once) m i t) (ap isHeld q)) in
+      let n : heldIn (settledTable ident us) (ident (updateAt us k)) ≡ false =
+      not-true→false (heldIn (settledTable ident us) (ident (updateAt us k))) (λ t. true-false (row-test (settledTable ident us) isHeld (ident (updateAt us k)) (D .once) m i t) (ap isHeld q)) in
       rw (w, n, void-in m i q)
   standing-by k h r m e waiting q =
       let i : r .id ≡ ident (updateAt us k) = D .has-id r m ∙ ap ident e in
       let w = only-waiting us (placeAt l k .standing) (updateAt us k) (says l s us stands (placeAt l k .standing) k h refl) (subst (λ (u : Update). Waiting ident us u) e (D .waiting-right r m q)) in
-      let n : heldIn (settled ident us) (ident (updateAt us k)) ≡ false =
-      not-true→false (heldIn (settled ident us) (ident (updateAt us k))) (λ t. true-false (row-test (settled ident us) isHeld (ident (updateAt us k)) (D .once) m i t) (ap isHeld q)) in
-      let o : voidIn (settled ident us) (ident (updateAt us k)) ≡ false =
-      not-true→false (voidIn (settled ident us) (ident (updateAt us k))) (λ t. true-false (row-test (settled ident us) isVoid (ident (updateAt us k)) (D .once) m i t) (ap isVoid q)) in
+      let n : heldIn (settledTable ident us) (ident (updateAt us k)) ≡ false =
+      not-true→false (heldIn (settledTable ident us) (ident (updateAt us k))) (λ t. true-false (row-test (settledTable ident us) isHeld (ident (updateAt us k)) (D .once) m i t) (ap isHeld q)) in
+      let o : voidIn (settledTable ident us) (ident (updateAt us k)) ≡ false =
+      not-true→false (voidIn (settledTable ident us) (ident (updateAt us k))) (λ t. true-false (row-test (settledTable ident us) isVoid (ident (updateAt us k)) (D .once) m i t) (ap isVoid q)) in
       rw (w, n, o)
 
-  pub standing-right : (k : ℕ) → k < length us → verdictOf (placeAt l k .standing) ≡ standingIn (settled ident us) (ident (updateAt us k))
+  pub standing-right : (k : ℕ) → k < length us → verdictOf (placeAt l k .standing) ≡ standingIn (settledTable ident us) (ident (updateAt us k))
   standing-right k h =
       let r = D .row-for (updateAt us k) (stored-at us k h) in
       standing-by k h (r .0) (r .1) (r .2) (r .0 .verdict) refl
 
 -- the place that an offer takes says how the update stands, and the counts say what changed
 taken-right : (l : Book) (s : List ℕ) (us : List Update) → Stands l s us → (u : Update) (r : Book) (s′ : List ℕ) → Stands r s′ (us ++ (u ∷ []))
-    → takenAs (verdictOf (placeAt r (l .used) .standing)) (countOf stateHeld r - countOf stateHeld l) (countOf stateVoid r - countOf stateVoid l)
-    ≡ takenFor (settled ident us) (settled ident (us ++ (u ∷ []))) (ident u)
+    → takenAs (verdictOf (placeAt r (l .used) .standing)) (standingCount stateHeld r - standingCount stateHeld l) (standingCount stateVoid r - standingCount stateVoid l)
+    ≡ takenFor (settledTable ident us) (settledTable ident (us ++ (u ∷ []))) (ident u)
 unfolding takenFor heldNumber voidNumber
 taken-right l s us stands u r s′ after =
     let k : l .used ≡ length us = stands .holds .number in
     let last : updateAt (us ++ (u ∷ [])) (length us) ≡ u = getD-append-seam us u [] noUpdate in
     let here : length us < length (us ++ (u ∷ [])) = omega (arith, length-append us (u ∷ [])) in
-    let is : verdictOf (placeAt r (l .used) .standing) ≡ standingIn (settled ident (us ++ (u ∷ []))) (ident u) =
+    let is : verdictOf (placeAt r (l .used) .standing) ≡ standingIn (settledTable ident (us ++ (u ∷ []))) (ident u) =
     ap (λ (n : ℕ). verdictOf (placeAt r n .standing)) k ∙ standing-right r s′ (us ++ (u ∷ [])) after (length us) here
-    ∙ ap (λ (v : Update). standingIn (settled ident (us ++ (u ∷ []))) (ident v)) last in
+    ∙ ap (λ (v : Update). standingIn (settledTable ident (us ++ (u ∷ []))) (ident v)) last in
     let h = ap₂ _-_ (held-count r s′ (us ++ (u ∷ [])) after) (held-count l s us stands) in
     let v = ap₂ _-_ (void-count r s′ (us ++ (u ∷ [])) after) (void-count l s us stands) in
     λ i. takenAs (is i) (h i) (v i)
@@ -130,7 +130,7 @@ answer-right l s us stands b (malformed n e d) = rw d
 answer-right l s us stands b (known u k e d f) =
     let r = find-right (bookOf l) s us (stands .holds) (SHA-256 b) k f in
     rw (d, found-known l s us stands b d f)
-    (ap knownAs (standing-right (bookOf l) s us stands k (r .0) ∙ ap (standingIn (settled ident us)) (r .1 ∙ sym (decoded-id l s us stands b d))))
+    (ap knownAs (standing-right (bookOf l) s us stands k (r .0) ∙ ap (standingIn (settledTable ident us)) (r .1 ∙ sym (decoded-id l s us stands b d))))
 answer-right l s us stands b (full u e d f n) =
     rw (d, none-new l s us stands b d f, le-ltb (length us) places (le-of-eq (sym n ∙ stands .holds .number)))
 answer-right l s us stands b (taken u r e d f n t) =

@@ -53,22 +53,22 @@ abbrev pub stored : List (List ℕ) → List Update
 stored bs = storedFrom [] bs
 
 -- what a standing says of an update, and that the rules give an update only one
-abbrev pub Says : List Update → Standing → Update → Type 0
-Says us IsHeld u = Held ident us u
-Says us IsWaiting u = Waiting ident us u
-Says us IsVoid u = Void ident us u
+abbrev pub StandingSays : List Update → Standing → Update → Type 0
+StandingSays us IsHeld u = Held ident us u
+StandingSays us IsWaiting u = Waiting ident us u
+StandingSays us IsVoid u = Void ident us u
 
-pub only-held : (us : List Update) (v : Standing) (u : Update) → Says us v u → Held ident us u → v ≡ IsHeld
+pub only-held : (us : List Update) (v : Standing) (u : Update) → StandingSays us v u → Held ident us u → v ≡ IsHeld
 only-held us IsHeld u a h = refl
 only-held us IsWaiting u a h = absurd (a .not-held h)
 only-held us IsVoid u a h = absurd (held-not-void ident us h a)
 
-pub only-waiting : (us : List Update) (v : Standing) (u : Update) → Says us v u → Waiting ident us u → v ≡ IsWaiting
+pub only-waiting : (us : List Update) (v : Standing) (u : Update) → StandingSays us v u → Waiting ident us u → v ≡ IsWaiting
 only-waiting us IsHeld u a h = absurd (h .not-held a)
 only-waiting us IsWaiting u a h = refl
 only-waiting us IsVoid u a h = absurd (h .not-void a)
 
-pub only-void : (us : List Update) (v : Standing) (u : Update) → Says us v u → Void ident us u → v ≡ IsVoid
+pub only-void : (us : List Update) (v : Standing) (u : Update) → StandingSays us v u → Void ident us u → v ≡ IsVoid
 only-void us IsHeld u a h = absurd (held-not-void ident us a h)
 only-void us IsWaiting u a h = absurd (a .not-void h)
 only-void us IsVoid u a h = refl
@@ -137,17 +137,17 @@ module _ (l : Book) (s : List ℕ) (us : List Update) (stands : Stands l s us) w
   asked-found i o e = rw (stands-sound l s us stands, e)
 
   -- the place of an update says what the rules say
-  pub says : (v : Standing) (k : ℕ) → k < length us → placeAt l k .standing ≡ v → Says us v (updateAt us k)
+  pub says : (v : Standing) (k : ℕ) → k < length us → placeAt l k .standing ≡ v → StandingSays us v (updateAt us k)
   says IsHeld k h e = stands .truthful .held-right k h e
   says IsWaiting k h e = stands .settled .waiting-right k h e
   says IsVoid k h e = stands .truthful .void-right k h e
 
-  asked-says : (u : Update) → u ∈ us → (v : Standing) × Says us v u × (askedOf l s (ident u) ≡ standsAs (verdictOf v))
+  asked-says : (u : Update) → u ∈ us → (v : Standing) × StandingSays us v u × (askedOf l s (ident u) ≡ standsAs (verdictOf v))
   asked-says u m =
       let r = place-of us m in
       let v = placeAt l (r .0) .standing in
       let f : findIn l (ident u) ≡ some (r .0) = ap (λ (w : Update). findIn l (ident w)) (sym (r .2)) ∙ find-all l s us (stands .holds) (r .0) (r .1) in
-      (v, subst (Says us v) (r .2) (says v (r .0) (r .1) refl), asked-found (ident u) (some (r .0)) f)
+      (v, subst (StandingSays us v) (r .2) (says v (r .0) (r .1) refl), asked-found (ident u) (some (r .0)) f)
 
   pub stands-answers : AnswersFor l s us
   stands-answers =

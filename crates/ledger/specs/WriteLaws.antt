@@ -24,7 +24,7 @@ use Rattle.ledger_state.specs.declared.Standing.{Standing}
 use Rattle.ledger_state.specs.declared.Standing.the-variants.{Held as IsHeld, Waiting as IsWaiting}
 use Rattle.ledger_state.specs.declared.Ledger.{Ledger}
 use Rattle.ledger_state.specs.View.{bookOf}
-use Rattle.ledger_state.specs.State.{places, Place, Book, placeAt, countOf, isHeld, isVoid}
+use Rattle.ledger_state.specs.State.{places, Place, Book, placeAt, standingCount, isHeld, isVoid}
 use Rattle.ledger_state.specs.Verdicts.{verdictOf}
 use Rattle.ledger_state.specs.Stands.{ident, noUpdate, updateAt, Stands}
 use Rattle.ledger_state.specs.FindLaws.{stored-at, find-right}
@@ -96,8 +96,8 @@ add-not-invalid l s us stands a t i named o w = true-false (add-writable ident u
 
 -- one more is held
 more-held : (l r : Book) → r .used ≡ l .used + 1 → ((j : ℕ) → j < l .used → (placeAt l j .standing ≡ IsWaiting → ⊥) → placeAt r j ≡ placeAt l j)
-    → placeAt r (l .used) .standing ≡ IsHeld → countOf isHeld l + 1 ≤ countOf isHeld r
-unfolding countOf isHeld
+    → placeAt r (l .used) .standing ≡ IsHeld → standingCount isHeld l + 1 ≤ standingCount isHeld r
+unfolding standingCount isHeld
 more-held l r e kept new =
     let p : ℕ → Bool = λ (j : ℕ). isHeld (placeAt l j .standing) in
     let q : ℕ → Bool = λ (j : ℕ). isHeld (placeAt r j .standing) in
@@ -202,8 +202,8 @@ module _ (l : Ledger) (s : List ℕ) (us : List Update) (stands : Stands (bookOf
       let v : placeAt after (before .used) .standing ≡ IsHeld =
       stands-held before s us stands a k t i named o wrote fresh u after
       (same-update before s us stands a k t i named o wrote d) (took .settles us stands) in (
-        countOf isHeld after - countOf isHeld before,
-        countOf isVoid after - countOf isVoid before,
-        ap (λ (w : Standing). takenAs (verdictOf w) (countOf isHeld after - countOf isHeld before) (countOf isVoid after - countOf isVoid before)) v,
+        standingCount isHeld after - standingCount isHeld before,
+        standingCount isVoid after - standingCount isVoid before,
+        ap (λ (w : Standing). takenAs (verdictOf w) (standingCount isHeld after - standingCount isHeld before) (standingCount isVoid after - standingCount isVoid before)) v,
         omega (arith, more-held before after (took .used-next) (took .old-settled) v),
       )

@@ -17,8 +17,10 @@ pub use ledger_state::Ledger;
 pub use ledger_state::Standing;
 use ledger_state::find::find;
 pub use ledger_state::fresh;
+use update_format::Id;
 use update_format::Malformed;
-use update_format::Reading;
+use update_format::ParseResult;
+use update_format::Tag;
 use update_format::bounds::MAX_AUTHOR;
 pub use write_asking::Wrote;
 use write_asking::write_asked;
@@ -40,13 +42,13 @@ pub fn offer(ledger: Ledger, store: &mut [u8], update: &[u8]) -> Offered
         return left(ledger, Answer::Refused(Refusal::Unfit));
     }
     match update_parsing::read(update) {
-        Reading::Refused(m) => left(ledger, Answer::Refused(Refusal::Malformed(m))),
-        Reading::Update(_) => offer_formed(ledger, store, update),
+        ParseResult::Refused(m) => left(ledger, Answer::Refused(Refusal::Malformed(m))),
+        ParseResult::Update(_) => offer_formed(ledger, store, update),
     }
 }
 
 // The standing of an id.
-pub fn standing(ledger: Ledger, store: &[u8], id: [u8; 32]) -> Asked
+pub fn standing(ledger: Ledger, store: &[u8], id: Id) -> Asked
     ensures { λ r. ⌜ askedValues r ≡ askedOf (bookOf ledger) (now (store .entry)) id ⌝ }
 {
     if !sound(ledger, store) {
@@ -91,8 +93,8 @@ pub fn write(
     store: &[u8],
     author: u8,
     kind: Kind,
-    tag: [u8; 16],
-    id: [u8; 32],
+    tag: Tag,
+    id: Id,
     named: &[u8],
     out: &mut [u8],
 ) -> Wrote

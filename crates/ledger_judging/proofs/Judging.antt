@@ -9,14 +9,14 @@ use Rattle.bytes_order.specs.Member.{all}
 use borrow.Author.Tests.{eq-eqb, ne-eqb}
 use Rattle.update_format.specs.Update as U
 use Rattle.update_format.specs.Update.{Id, idLength, tagLength}
-use Rattle.update_format.specs.Decode.{part, idsAt, decode, row2}
-use Rattle.update_format.specs.Reading.{operationAt, valueOf, decodedOf}
+use Rattle.update_format.specs.Decode.{slice, idsAt, decode, row2}
+use Rattle.update_format.specs.ParseResult.{operationAt, valueOf, decodedOf}
 use Rattle.update_format.specs.declared.Malformed.{Malformed}
 use Rattle.update_format.specs.declared.Operation.{Operation}
 use Rattle.update_format.specs.declared.Operation.the-variants.{Add, Remove, Insert, Delete}
 use Rattle.update_format.specs.declared.Parsed.{Parsed}
-use Rattle.update_format.specs.declared.Reading.{Reading}
-use Rattle.update_format.specs.declared.Reading.the-variants.{Update as Accepted, Refused}
+use Rattle.update_format.specs.declared.ParseResult.{ParseResult}
+use Rattle.update_format.specs.declared.ParseResult.the-variants.{Update as Accepted, Refused}
 use Rattle.rules.specs.Standing.{beginning}
 use Rattle.rules.specs.Settle.{isAdd, isInsert}
 use Rattle.update_fields.specs.Fields.{testOf}
@@ -26,7 +26,7 @@ use Rattle.ledger_state.specs.declared.Standing.{Standing}
 use Rattle.ledger_state.specs.declared.Standing.the-variants.{Held, Waiting, Void}
 use Rattle.ledger_judging.specs.declared.Judgement.the-variants.{Holds, Fails, Waits}
 use Rattle.ledger_state.specs.State.{Place, Book, placeAt, storedAt, findIn}
-use Rattle.ledger_judging.specs.Judge.{gatherBy, gatherAt, namesAt, names, valid, nothingGathered, gather, judgeReady, judgeGathered, judgeDecoded, judge}
+use Rattle.ledger_judging.specs.Judge.{gatherBy, gatherAt, namesAt, namesAncestor, valid, nothingGathered, gather, judgeReady, judgeGathered, judgeDecoded, judgeAt}
 
 -- what is gathered with the predecessor p at place j, by its standing
 module _ (p : Place) (g : Gathered) (j : ℕ) (l : Book) (at : placeAt l j ≡ p) where
@@ -49,7 +49,7 @@ module _ (p : Place) (g : Gathered) (j : ℕ) (l : Book) (at : placeAt l j ≡ p
   by-void = by-standing Void
 
 -- the judgement of bytes, by what reading them answered
-module _ (l : Book) (s b : List ℕ) (r : Reading) (read : decodedOf b r ≡ decode b) where
+module _ (l : Book) (s b : List ℕ) (r : ParseResult) (read : decodedOf b r ≡ decode b) where
   pub judge-update : (u : Parsed) → r ≡ Accepted u
       → judgeGathered l s (valueOf b u .op) (gather l nothingGathered (valueOf b u .preds)) ≡ judgeDecoded l s (decode b)
   unfolding judgeDecoded
@@ -61,14 +61,14 @@ module _ (l : Book) (s b : List ℕ) (r : Reading) (read : decodedOf b r ≡ dec
 
 -- the judgement of the bytes of a place
 pub judge-stored : (l : Book) (s : List ℕ) (j : ℕ) (b : List ℕ) → b ≡ storedAt l s j
-    → judgeDecoded l s (decode b) ≡ judge l s j
-unfolding judge
+    → judgeDecoded l s (decode b) ≡ judgeAt l s j
+unfolding judgeAt
 judge-stored l s j b stored = ap (λ (x : List ℕ). judgeDecoded l s (decode x)) stored
 
 -- an id that names a place in the set `up`
 module _ (l : Book) (s : List ℕ) (p : U.Operation → Bool) (up : ℕ) (i : Id) where
-  pub names-in : (j : ℕ) → findIn l i ≡ some j → has up j ≡ true → (b : List ℕ) → b ≡ storedAt l s j → testOf p (decode b) ≡ names l s p up i
-  unfolding names namesAt
+  pub names-in : (j : ℕ) → findIn l i ≡ some j → has up j ≡ true → (b : List ℕ) → b ≡ storedAt l s j → testOf p (decode b) ≡ namesAncestor l s p up i
+  unfolding namesAncestor namesAt
   names-in j e h b f = rw (e, h, f)
 
   -- no bytes are no update
@@ -76,12 +76,12 @@ module _ (l : Book) (s : List ℕ) (p : U.Operation → Bool) (up : ℕ) (i : Id
   unfolding testOf decode row2
   no-bytes = refl
 
-  pub names-out : (j : ℕ) → findIn l i ≡ some j → has up j ≡ false → testOf p (decode []) ≡ names l s p up i
-  unfolding names namesAt
+  pub names-out : (j : ℕ) → findIn l i ≡ some j → has up j ≡ false → testOf p (decode []) ≡ namesAncestor l s p up i
+  unfolding namesAncestor namesAt
   names-out j e h = no-bytes ∙ rw (e, h)
 
-  pub names-nowhere : findIn l i ≡ none → testOf p (decode []) ≡ names l s p up i
-  unfolding names namesAt
+  pub names-nowhere : findIn l i ≡ none → testOf p (decode []) ≡ namesAncestor l s p up i
+  unfolding namesAncestor namesAt
   names-nowhere e = no-bytes ∙ rw e
 
 -- the operation o, laid out in b, by its kind
@@ -93,25 +93,25 @@ module _ (l : Book) (s : List ℕ) (up : ℕ) (b : List ℕ) (o : Operation) whe
   unfolding valid
   valid-add t e = ap judged (sym e)
 
-  pub valid-remove : (t n c : ℕ) → o ≡ Remove t n c → (x : List ℕ) → x ≡ part b t tagLength
-      → all (names l s (isAdd x) up) (idsAt b n c) ≡ judged o
+  pub valid-remove : (t n c : ℕ) → o ≡ Remove t n c → (x : List ℕ) → x ≡ slice b t tagLength
+      → all (namesAncestor l s (isAdd x) up) (idsAt b n c) ≡ judged o
   unfolding valid
-  valid-remove t n c e x f = ap (λ (y : List ℕ). all (names l s (isAdd y) up) (idsAt b n c)) f ∙ ap judged (sym e)
+  valid-remove t n c e x f = ap (λ (y : List ℕ). all (namesAncestor l s (isAdd y) up) (idsAt b n c)) f ∙ ap judged (sym e)
 
-  pub valid-delete : (i : ℕ) → o ≡ Delete i → (x : List ℕ) → x ≡ part b i idLength → names l s isInsert up x ≡ judged o
+  pub valid-delete : (i : ℕ) → o ≡ Delete i → (x : List ℕ) → x ≡ slice b i idLength → namesAncestor l s isInsert up x ≡ judged o
   unfolding valid
-  valid-delete i e x f = ap (names l s isInsert up) f ∙ ap judged (sym e)
+  valid-delete i e x f = ap (namesAncestor l s isInsert up) f ∙ ap judged (sym e)
 
-  module _ (a v : ℕ) (e : o ≡ Insert a v) (x : List ℕ) (f : x ≡ part b a idLength) where
-    at-anchor : judged o ≡ (same x beginning || names l s isInsert up x)
+  module _ (a v : ℕ) (e : o ≡ Insert a v) (x : List ℕ) (f : x ≡ slice b a idLength) where
+    at-anchor : judged o ≡ (same x beginning || namesAncestor l s isInsert up x)
     unfolding valid
-    at-anchor = ap judged e ∙ ap (λ (y : List ℕ). same y beginning || names l s isInsert up y) (sym f)
+    at-anchor = ap judged e ∙ ap (λ (y : List ℕ). same y beginning || namesAncestor l s isInsert up y) (sym f)
 
     pub valid-first : same x beginning ≡ true → true ≡ judged o
-    valid-first h = sym (at-anchor ∙ ap (λ (y : Bool). y || names l s isInsert up x) h)
+    valid-first h = sym (at-anchor ∙ ap (λ (y : Bool). y || namesAncestor l s isInsert up x) h)
 
-    pub valid-insert : same x beginning ≡ false → names l s isInsert up x ≡ judged o
-    valid-insert h = sym (at-anchor ∙ ap (λ (y : Bool). y || names l s isInsert up x) h)
+    pub valid-insert : same x beginning ≡ false → namesAncestor l s isInsert up x ≡ judged o
+    valid-insert h = sym (at-anchor ∙ ap (λ (y : Bool). y || namesAncestor l s isInsert up x) h)
 
 -- the judgement by the predecessors' places and ancestors
 module _ (l : Book) (s : List ℕ) (o : U.Operation) where

@@ -8,8 +8,8 @@ use lib.ListN.{drop, drop-of-length-le}
 use lib.Seq.{drop-cons}
 use Rattle.bytes_order.specs.Member.{all}
 use Rattle.update_format.specs.Update.{Id, idLength}
-use Rattle.update_format.specs.Decode.{part, idsAt}
-use Rattle.update_format.specs.Parts.{ids-length, ids-get}
+use Rattle.update_format.specs.Decode.{slice, idsAt}
+use Rattle.update_format.specs.Slices.{ids-length, ids-get}
 use Rattle.ledger_judging.specs.declared.Gathered.{Gathered}
 use Rattle.ledger_state.specs.State.{Book, findIn}
 use Rattle.ledger_judging.specs.Judge.{gatherAt, gather}
@@ -22,7 +22,7 @@ module _ (b : List ℕ) (at n k : ℕ) where
   after = drop (k + 1) (idsAt b at n)
 
   abbrev id : Id
-  id = part b (at + idLength * k) idLength
+  id = slice b (at + idLength * k) idLength
 
   next : k < n → left ≡ id ∷ after
   next h =

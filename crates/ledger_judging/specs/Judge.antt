@@ -44,15 +44,15 @@ namesAt l s p up none = false
 namesAt l s p up (some j) = has up j && testOf p (decode (storedAt l s j))
 
 -- the id i is that of a place in the set `up` whose operation passes a test
-unfoldable pub names : Book → List ℕ → (Operation → Bool) → ℕ → Id → Bool
-names l s p up i = namesAt l s p up (findIn l i)
+unfoldable pub namesAncestor : Book → List ℕ → (Operation → Bool) → ℕ → Id → Bool
+namesAncestor l s p up i = namesAt l s p up (findIn l i)
 
 -- the operation is valid for the ancestor word `up`
 unfoldable pub valid : Book → List ℕ → ℕ → Operation → Bool
 valid l s up (Add t) = true
-valid l s up (Remove t named) = all (names l s (isAdd t) up) named
-valid l s up (Insert a v) = same a beginning || names l s isInsert up a
-valid l s up (Delete i) = names l s isInsert up i
+valid l s up (Remove t named) = all (namesAncestor l s (isAdd t) up) named
+valid l s up (Insert a v) = same a beginning || namesAncestor l s isInsert up a
+valid l s up (Delete i) = namesAncestor l s isInsert up i
 
 unfoldable pub judgeReady : Book → List ℕ → Operation → ℕ → ℕ → Judgement
 judgeReady l s o direct above =
@@ -65,5 +65,5 @@ unfoldable pub judgeDecoded : Book → List ℕ → Decoded → Judgement
 judgeDecoded l s (refused n) = Waits
 judgeDecoded l s (update u) = judgeGathered l s (u .op) (gather l nothingGathered (u .preds))
 
-unfoldable pub judge : Book → List ℕ → ℕ → Judgement
-judge l s k = judgeDecoded l s (decode (storedAt l s k))
+unfoldable pub judgeAt : Book → List ℕ → ℕ → Judgement
+judgeAt l s k = judgeDecoded l s (decode (storedAt l s k))

@@ -30,7 +30,7 @@ use Rattle.ledger_judging.specs.declared.Gathered.{Gathered}
 use Rattle.ledger_judging.specs.declared.Judgement.{Judgement}
 use Rattle.ledger_judging.specs.declared.Judgement.the-variants.{Holds as Judged-holds, Fails, Waits}
 use Rattle.ledger_state.specs.State.{Book, placeAt, storedAt, findIn}
-use Rattle.ledger_judging.specs.Judge.{nothingGathered, gather, namesAt, names, valid, judgeReady, judgeGathered, judgeDecoded, judge}
+use Rattle.ledger_judging.specs.Judge.{nothingGathered, gather, namesAt, namesAncestor, valid, judgeReady, judgeGathered, judgeDecoded, judgeAt}
 use Rattle.ledger_state.specs.Stands.{ident, noUpdate, updateAt, Holds, Truthful}
 use Rattle.ledger_state.specs.FindLaws.{stored-at, place-of, find-right, find-all}
 use Rattle.ledger_judging.specs.GatherLaws.{AllHeld, gathered-taken, gathered-void→, gathered-void←, gathered-ready→, gathered-ready←, gathered-direct→, gathered-direct←, gathered-above→, gathered-above←}
@@ -48,9 +48,9 @@ record AncestorWord (us : List Update) (u : Update) (w : ℕ) : Type 0 where
 
 -- the operations are valid by such a word as by the rules
 module _ {l : Book} {s : List ℕ} {us : List Update} (holds : Holds l s us) {u : Update} {w : ℕ} (word : AncestorWord us u w) where
-  names→ : (p : Operation → Bool) (i : Id) → names l s p w i ≡ true
+  names→ : (p : Operation → Bool) (i : Id) → namesAncestor l s p w i ≡ true
       → (x : Update) × Ancestor ident us x u × (ident x ≡ i) × (p (x .op) ≡ true)
-  unfolding names namesAt testOf
+  unfolding namesAncestor namesAt testOf
   names→ p i = step (findIn l i) refl
     where
       step : (o : Option ℕ) → findIn l i ≡ o → namesAt l s p w o ≡ true
@@ -61,8 +61,8 @@ module _ {l : Book} {s : List ℕ} {us : List Update} (holds : Holds l s us) {u 
           let q = and-true→ (has w j) (testOf p (decode (storedAt l s j))) e in
           (updateAt us j, word .only j (r .0) (q .0), r .1, ap (testOf p) (sym (stored-update l s us holds j (r .0))) ∙ q .1)
 
-  →names : (p : Operation → Bool) {i : Id} {x : Update} → Ancestor ident us x u → ident x ≡ i → p (x .op) ≡ true → names l s p w i ≡ true
-  unfolding names namesAt testOf
+  →names : (p : Operation → Bool) {i : Id} {x : Update} → Ancestor ident us x u → ident x ≡ i → p (x .op) ≡ true → namesAncestor l s p w i ≡ true
+  unfolding namesAncestor namesAt testOf
   →names p {i} {x} a e q =
       let r = place-of us (ancestor-stored ident us a) in
       let f : findIn l i ≡ some (r .0) = ap (findIn l) (sym e ∙ ap ident (sym (r .2))) ∙ find-all l s us holds (r .0) (r .1) in
@@ -71,34 +71,34 @@ module _ {l : Book} {s : List ℕ} {us : List Update} (holds : Holds l s us) {u 
       (word .each (r .0) (r .1) (subst (λ (y : Update). Ancestor ident us y u) (sym (r .2)) a))
       (ap (testOf p) (stored-update l s us holds (r .0) (r .1)) ∙ ap (λ (y : Update). p (y .op)) (r .2) ∙ q)
 
-  insert→ : (i : Id) → names l s isInsert w i ≡ true → InsertAncestor ident us u i
+  insert→ : (i : Id) → namesAncestor l s isInsert w i ≡ true → InsertAncestor ident us u i
   insert→ i e =
       let a = names→ isInsert i e in
       let o = isInsert→ (a .0 .op) (a .3) in
       record { found = a .0; above = a .1; has-id = a .2; anchor = o .0; value = o .1; is-insert = o .2 }
 
-  →insert : {i : Id} → InsertAncestor ident us u i → names l s isInsert w i ≡ true
+  →insert : {i : Id} → InsertAncestor ident us u i → namesAncestor l s isInsert w i ≡ true
   →insert a = →names isInsert (a .above) (a .has-id) (→isInsert (a .is-insert))
 
   valid→ : (o : Operation) → valid l s w o ≡ true → Valid ident us u o
   unfolding valid
   valid→ (Add t) e = tt
   valid→ (Remove t named) e = λ i m.
-      let a = names→ (isAdd t) i (all→∈ (names l s (isAdd t) w) named e i m) in
+      let a = names→ (isAdd t) i (all→∈ (namesAncestor l s (isAdd t) w) named e i m) in
       record { found = a .0; above = a .1; has-id = a .2; is-add = isAdd→ t (a .0 .op) (a .3) }
   valid→ (Insert a v) e =
-      ⊎-elim (λ (h : same a beginning ≡ true). inl (same→eq a beginning h)) (λ (h : names l s isInsert w a ≡ true). inr (insert→ a h))
-      (or-true→ (same a beginning) (names l s isInsert w a) e)
+      ⊎-elim (λ (h : same a beginning ≡ true). inl (same→eq a beginning h)) (λ (h : namesAncestor l s isInsert w a ≡ true). inr (insert→ a h))
+      (or-true→ (same a beginning) (namesAncestor l s isInsert w a) e)
   valid→ (Delete i) e = insert→ i e
 
   →valid : (o : Operation) → Valid ident us u o → valid l s w o ≡ true
   unfolding valid
   →valid (Add t) v = refl
   →valid (Remove t named) v =
-      ∈→all (names l s (isAdd t) w) named (λ i m. let a = v i m in →names (isAdd t) (a .above) (a .has-id) (→isAdd t (a .is-add)))
+      ∈→all (namesAncestor l s (isAdd t) w) named (λ i m. let a = v i m in →names (isAdd t) (a .above) (a .has-id) (→isAdd t (a .is-add)))
   →valid (Insert a x) v =
-      ⊎-elim (λ (h : a ≡ beginning). or-left (same a beginning) (names l s isInsert w a) (eq→same a beginning h))
-      (λ (h : InsertAncestor ident us u a). or-right (same a beginning) (names l s isInsert w a) (→insert h)) v
+      ⊎-elim (λ (h : a ≡ beginning). or-left (same a beginning) (namesAncestor l s isInsert w a) (eq→same a beginning h))
+      (λ (h : InsertAncestor ident us u a). or-right (same a beginning) (namesAncestor l s isInsert w a) (→insert h)) v
   →valid (Delete i) v = →insert v
 
 -- what a judgement of u says
@@ -232,36 +232,36 @@ module _ (l : Book) (s : List ℕ) (us : List Update) (holds : Holds l s us) whe
             λ known below. true-false (gathered-ready← l s us holds (u .preds) (known-held known below)) f,
           )
 
-    judged : (k : ℕ) → k < length us → Says l us (updateAt us k) (judge l s k)
-    unfolding judge judgeDecoded
+    judged : (k : ℕ) → k < length us → Says l us (updateAt us k) (judgeAt l s k)
+    unfolding judgeAt judgeDecoded
     judged k h =
         subst (λ (d : Decoded). Says l us (updateAt us k) (judgeDecoded l s d)) (sym (stored-update l s us holds k h))
         (gathered-says (stored-at us k h))
 
-    pub judged-held : (k w : ℕ) → k < length us → judge l s k ≡ Judged-holds w → Held ident us (updateAt us k)
+    pub judged-held : (k w : ℕ) → k < length us → judgeAt l s k ≡ Judged-holds w → Held ident us (updateAt us k)
     unfolding Says
     judged-held k w h e = subst (Says l us (updateAt us k)) e (judged k h) .0
 
-    pub judged-above : (k w j : ℕ) → k < length us → j < length us → judge l s k ≡ Judged-holds w → has w j ≡ true
+    pub judged-above : (k w j : ℕ) → k < length us → j < length us → judgeAt l s k ≡ Judged-holds w → has w j ≡ true
         → Ancestor ident us (updateAt us j) (updateAt us k)
     unfolding Says
     judged-above k w j h g e = subst (Says l us (updateAt us k)) e (judged k h) .1 .only j g
 
-    pub judged-above-all : (k w j : ℕ) → k < length us → j < length us → judge l s k ≡ Judged-holds w
+    pub judged-above-all : (k w j : ℕ) → k < length us → j < length us → judgeAt l s k ≡ Judged-holds w
         → Ancestor ident us (updateAt us j) (updateAt us k) → has w j ≡ true
     unfolding Says
     judged-above-all k w j h g e = subst (Says l us (updateAt us k)) e (judged k h) .1 .each j g
 
-    pub judged-void : (k : ℕ) → k < length us → judge l s k ≡ Fails → Void ident us (updateAt us k)
+    pub judged-void : (k : ℕ) → k < length us → judgeAt l s k ≡ Fails → Void ident us (updateAt us k)
     unfolding Says
     judged-void k h e = subst (Says l us (updateAt us k)) e (judged k h)
 
-    pub judged-no-void : (k j : ℕ) → k < length us → j < length us → judge l s k ≡ Waits → ident (updateAt us j) ∈ updateAt us k .preds
+    pub judged-no-void : (k j : ℕ) → k < length us → j < length us → judgeAt l s k ≡ Waits → ident (updateAt us j) ∈ updateAt us k .preds
         → placeAt l j .standing ≡ IsVoid → ⊥
     unfolding Says
     judged-no-void k j h g e = subst (Says l us (updateAt us k)) e (judged k h) .0 j g
 
-    pub judged-not-ready : (k : ℕ) → k < length us → judge l s k ≡ Waits → Known ident us (updateAt us k)
+    pub judged-not-ready : (k : ℕ) → k < length us → judgeAt l s k ≡ Waits → Known ident us (updateAt us k)
         → ((j : ℕ) → j < length us → ident (updateAt us j) ∈ updateAt us k .preds → placeAt l j .standing ≡ IsHeld) → ⊥
     unfolding Says
     judged-not-ready k h e = subst (Says l us (updateAt us k)) e (judged k h) .1

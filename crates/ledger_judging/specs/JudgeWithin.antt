@@ -10,7 +10,7 @@ use Rattle.bitset.specs.BitsLaws.{within-join}
 use Rattle.ledger_judging.specs.declared.Judgement.{Judgement}
 use Rattle.ledger_judging.specs.declared.Judgement.the-variants.{Holds as Judged-holds, Fails, Waits}
 use Rattle.ledger_state.specs.State.{Book, placeAt, storedAt}
-use Rattle.ledger_judging.specs.Judge.{nothingGathered, gather, valid, judgeReady, judgeGathered, judgeDecoded, judge}
+use Rattle.ledger_judging.specs.Judge.{nothingGathered, gather, valid, judgeReady, judgeGathered, judgeDecoded, judgeAt}
 use Rattle.ledger_judging.specs.GatherLaws.{gather-inside}
 
 module _ (l : Book) (taken : (j : ℕ) → j < l .used → within (placeAt l j .ancestors) (l .used) ≡ true) where
@@ -39,6 +39,6 @@ module _ (l : Book) (taken : (j : ℕ) → j < l .used → within (placeAt l j .
       fails-within in
       either (g .void) fails-within (either (g .ready) ready waits-within)
 
-  pub judge-within : (s : List ℕ) (k w : ℕ) → judge l s k ≡ Judged-holds w → within w (l .used) ≡ true
-  unfolding judge
+  pub judge-within : (s : List ℕ) (k w : ℕ) → judgeAt l s k ≡ Judged-holds w → within w (l .used) ≡ true
+  unfolding judgeAt
   judge-within s k w e = word-within (subst Within e (decoded-within s (decode (storedAt l s k))))

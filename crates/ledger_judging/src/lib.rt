@@ -6,12 +6,14 @@ ghost use Prim.Native.Nat.{_≤_, _<_};
 ghost use Rattle.bytes_order.specs.Member.{all};
 ghost use Rattle.update_format.specs.Update as U;
 ghost use Rattle.update_format.specs.Decode.{idsAt, firstPredecessor, decode};
-ghost use Rattle.update_format.specs.Reading.{operationAt, valueOf};
+ghost use Rattle.update_format.specs.ParseResult.{operationAt, valueOf};
 ghost use Rattle.rules.specs.Settle.{isAdd, isInsert};
 ghost use Rattle.update_fields.specs.Fields.{testOf};
-ghost use Rattle.ledger_state.specs.State.{Book, placeAt};
+ghost use Rattle.ledger_state.specs.State.{places, Book, placeAt};
 ghost use Rattle.ledger_state.specs.View.{placeOf, bookOf};
-ghost use Rattle.ledger_judging.specs.Judge.{nothingGathered, gatherAt, gather as gatherAll, names, valid as validOperation, judgeReady, judgeGathered, judgeDecoded, judge as judgeAt};
+ghost use Rattle.ledger_state.specs.Bounds.{PlaceIn};
+ghost use Rattle.ledger_judging.specs.Judge.{nothingGathered, gatherAt, gather, namesAncestor, valid, judgeReady, judgeGathered, judgeDecoded, judgeAt};
+use bitset::Set;
 use ledger_state::Found;
 use ledger_state::Ledger;
 use ledger_state::Place;
@@ -19,27 +21,29 @@ use ledger_state::Standing;
 use ledger_state::find::find;
 use ledger_state::store::stored;
 use update_format::Operation;
+use update_format::ParseResult;
 use update_format::Parsed;
-use update_format::Reading;
+use update_format::bounds::ID_LENGTH;
+use update_format::bounds::TAG_LENGTH;
 
 // What the predecessors of an update say: whether all are held, whether some is void, their places, and their ancestors.
 pub struct Gathered {
     pub ready: bool,
     pub void: bool,
-    pub direct: u64,
-    pub above: u64,
+    pub direct: Set,
+    pub above: Set,
 }
 
 // How a waiting update is judged: it holds, with these ancestors; it fails; it goes on waiting.
 pub enum Judgement {
-    Holds(u64),
+    Holds(Set),
     Fails,
     Waits,
 }
 
 // What is gathered with a predecessor at place j, which is p.
 fn gather_by(p: Place, g: Gathered, j: usize) -> Gathered
-    requires { ⌜ j < 64 ⌝ }
+    requires { ⌜ j < places ⌝ }
     ensures { λ r. ⌜ ((l : Book) → placeAt l j ≡ placeOf p → r ≡ gatherAt l g (some j)) ⌝ }
 {
     let standing = p.standing;
@@ -67,8 +71,8 @@ fn gather_by(p: Place, g: Gathered, j: usize) -> Gathered
 
 // What the count predecessors of the update b say.
 fn gather(l: Ledger, b: &[u8], count: usize) -> Gathered
-    requires { ⌜ bookOf l .used ≤ 64 ⌝ }
-    ensures { λ r. ⌜ r ≡ gatherAll (bookOf l) nothingGathered (idsAt (now (b .entry)) firstPredecessor count) ⌝ }
+    requires { ⌜ bookOf l .used ≤ places ⌝ }
+    ensures { λ r. ⌜ r ≡ gather (bookOf l) nothingGathered (idsAt (now (b .entry)) firstPredecessor count) ⌝ }
 {
     let mut g = Gathered {
         ready: true,
@@ -92,9 +96,9 @@ fn gather(l: Ledger, b: &[u8], count: usize) -> Gathered
 }
 
 // The bytes of the place in the set `up` with this id, or no bytes.
-fn bytes_in<'a>(l: Ledger, store: &'a [u8], up: u64, id: &[u8]) -> &'a [u8]
-    requires { ⌜ bookOf l .used ≤ 64 ⌝ }
-    ensures { λ r. ⌜ ((p : U.Operation → Bool) → testOf p (decode (now r)) ≡ names (bookOf l) (now (store .entry)) p up (now (id .entry))) ⌝ }
+fn bytes_in<'a>(l: Ledger, store: &'a [u8], up: Set, id: &[u8]) -> &'a [u8]
+    requires { ⌜ bookOf l .used ≤ places ⌝ }
+    ensures { λ r. ⌜ ((p : U.Operation → Bool) → testOf p (decode (now r)) ≡ namesAncestor (bookOf l) (now (store .entry)) p up (now (id .entry))) ⌝ }
 {
     match find(l, id) {
         Found::At(j) => {
@@ -110,17 +114,17 @@ fn bytes_in<'a>(l: Ledger, store: &'a [u8], up: u64, id: &[u8]) -> &'a [u8]
 }
 
 // Whether an id is that of an Add of the tag in the set `up`.
-fn names_add(l: Ledger, store: &[u8], up: u64, id: &[u8], tag: &[u8]) -> bool
-    requires { ⌜ bookOf l .used ≤ 64 ⌝ }
-    ensures { λ r. ⌜ r ≡ names (bookOf l) (now (store .entry)) (isAdd (now (tag .entry))) up (now (id .entry)) ⌝ }
+fn names_add(l: Ledger, store: &[u8], up: Set, id: &[u8], tag: &[u8]) -> bool
+    requires { ⌜ bookOf l .used ≤ places ⌝ }
+    ensures { λ r. ⌜ r ≡ namesAncestor (bookOf l) (now (store .entry)) (isAdd (now (tag .entry))) up (now (id .entry)) ⌝ }
 {
     update_fields::adds(bytes_in(l, store, up, id), tag)
 }
 
 // Whether an id is that of an Insert in the set `up`.
-fn names_insert(l: Ledger, store: &[u8], up: u64, id: &[u8]) -> bool
-    requires { ⌜ bookOf l .used ≤ 64 ⌝ }
-    ensures { λ r. ⌜ r ≡ names (bookOf l) (now (store .entry)) isInsert up (now (id .entry)) ⌝ }
+fn names_insert(l: Ledger, store: &[u8], up: Set, id: &[u8]) -> bool
+    requires { ⌜ bookOf l .used ≤ places ⌝ }
+    ensures { λ r. ⌜ r ≡ namesAncestor (bookOf l) (now (store .entry)) isInsert up (now (id .entry)) ⌝ }
 {
     update_fields::is_insert(bytes_in(l, store, up, id))
 }
@@ -129,14 +133,14 @@ fn names_insert(l: Ledger, store: &[u8], up: u64, id: &[u8]) -> bool
 fn names_adds(
     l: Ledger,
     store: &[u8],
-    up: u64,
+    up: Set,
     b: &[u8],
     at: usize,
     count: usize,
     tag: &[u8],
 ) -> bool
-    requires { ⌜ bookOf l .used ≤ 64 ⌝ }
-    ensures { λ r. ⌜ r ≡ all (names (bookOf l) (now (store .entry)) (isAdd (now (tag .entry))) up) (idsAt (now (b .entry)) at count) ⌝ }
+    requires { ⌜ bookOf l .used ≤ places ⌝ }
+    ensures { λ r. ⌜ r ≡ all (namesAncestor (bookOf l) (now (store .entry)) (isAdd (now (tag .entry))) up) (idsAt (now (b .entry)) at count) ⌝ }
 {
     let mut k: usize = 0;
     while k < count {
@@ -149,9 +153,9 @@ fn names_adds(
 }
 
 // Whether the operation is valid for the ancestors `up`.
-fn valid(l: Ledger, store: &[u8], up: u64, b: &[u8], operation: Operation) -> bool
-    requires { ⌜ bookOf l .used ≤ 64 ⌝ }
-    ensures { λ r. ⌜ r ≡ validOperation (bookOf l) (now (store .entry)) up (operationAt (now (b .entry)) operation) ⌝ }
+fn valid(l: Ledger, store: &[u8], up: Set, b: &[u8], operation: Operation) -> bool
+    requires { ⌜ bookOf l .used ≤ places ⌝ }
+    ensures { λ r. ⌜ r ≡ valid (bookOf l) (now (store .entry)) up (operationAt (now (b .entry)) operation) ⌝ }
 {
     match operation {
         Operation::Add { tag: _ } => true,
@@ -162,11 +166,11 @@ fn valid(l: Ledger, store: &[u8], up: u64, b: &[u8], operation: Operation) -> bo
             b,
             named,
             count,
-            update_format::part_of(b, tag, 16),
+            update_format::slice_of(b, tag, TAG_LENGTH),
         ),
         Operation::Insert { anchor, value: _ } => {
-            let a = update_format::part_of(b, anchor, 32);
-            let zero = [0u8; 32];
+            let a = update_format::slice_of(b, anchor, ID_LENGTH);
+            let zero = [0u8; ID_LENGTH];
             if bytes_order::same(a, &zero) {
                 true
             } else {
@@ -177,7 +181,7 @@ fn valid(l: Ledger, store: &[u8], up: u64, b: &[u8], operation: Operation) -> bo
             l,
             store,
             up,
-            update_format::part_of(b, deleted, 32),
+            update_format::slice_of(b, deleted, ID_LENGTH),
         ),
     }
 }
@@ -188,10 +192,10 @@ fn judge_ready(
     store: &[u8],
     b: &[u8],
     operation: Operation,
-    direct: u64,
-    above: u64,
+    direct: Set,
+    above: Set,
 ) -> Judgement
-    requires { ⌜ bookOf l .used ≤ 64 ⌝ }
+    requires { ⌜ bookOf l .used ≤ places ⌝ }
     ensures { λ r. ⌜ r ≡ judgeReady (bookOf l) (now (store .entry)) (operationAt (now (b .entry)) operation) direct above ⌝ }
 {
     if bitset::meet(direct, above) != 0 {
@@ -207,8 +211,8 @@ fn judge_ready(
 
 // The judgement of an update, from what its predecessors say.
 fn judge_update(l: Ledger, store: &[u8], b: &[u8], u: Parsed) -> Judgement
-    requires { ⌜ bookOf l .used ≤ 64 ⌝ }
-    ensures { λ r. ⌜ r ≡ judgeGathered (bookOf l) (now (store .entry)) (valueOf (now (b .entry)) u .op) (gatherAll (bookOf l) nothingGathered (valueOf (now (b .entry)) u .preds)) ⌝ }
+    requires { ⌜ bookOf l .used ≤ places ⌝ }
+    ensures { λ r. ⌜ r ≡ judgeGathered (bookOf l) (now (store .entry)) (valueOf (now (b .entry)) u .op) (gather (bookOf l) nothingGathered (valueOf (now (b .entry)) u .preds)) ⌝ }
 {
     let g = gather(l, b, u.count);
     if g.void {
@@ -224,18 +228,18 @@ fn judge_update(l: Ledger, store: &[u8], b: &[u8], u: Parsed) -> Judgement
 
 // The judgement of the bytes b as an update; bytes that are none wait.
 pub fn judge_bytes(l: Ledger, store: &[u8], b: &[u8]) -> Judgement
-    requires { ⌜ bookOf l .used ≤ 64 ⌝ }
+    requires { ⌜ bookOf l .used ≤ places ⌝ }
     ensures { λ r. ⌜ r ≡ judgeDecoded (bookOf l) (now (store .entry)) (decode (now (b .entry))) ⌝ }
 {
     match update_parsing::read(b) {
-        Reading::Update(u) => judge_update(l, store, b, u),
-        Reading::Refused(_) => Judgement::Waits,
+        ParseResult::Update(u) => judge_update(l, store, b, u),
+        ParseResult::Refused(_) => Judgement::Waits,
     }
 }
 
 // The judgement of the update at place k.
 pub fn judge(l: Ledger, store: &[u8], k: usize) -> Judgement
-    requires { ⌜ (bookOf l .used ≤ 64) × (k < 64) ⌝ }
+    requires { ⌜ PlaceIn (bookOf l) k ⌝ }
     ensures { λ r. ⌜ r ≡ judgeAt (bookOf l) (now (store .entry)) k ⌝ }
 {
     let p = l.places[k];

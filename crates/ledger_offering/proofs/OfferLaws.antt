@@ -7,13 +7,14 @@ use mathlib.Core.Bool.{true, false}
 use Rattle.sha256_fips180.specs.Fips180.{SHA-256}
 use Rattle.update_format.specs.Update.{Id, maxLength}
 use Rattle.update_format.specs.Decode.{decode}
-use Rattle.update_format.specs.Reading.{numberOf, decodedOf, valueOf}
+use Rattle.update_format.specs.ParseResult.{malformedNumber, decodedOf, valueOf}
 use Rattle.update_format.specs.declared.Malformed.{Malformed}
 use Rattle.update_format.specs.declared.Parsed.{Parsed}
-use Rattle.update_format.specs.declared.Reading.{Reading}
-use Rattle.update_format.specs.declared.Reading.the-variants.{Update as Accepted, Refused as NotRead}
+use Rattle.update_format.specs.declared.ParseResult.{ParseResult}
+use Rattle.update_format.specs.declared.ParseResult.the-variants.{Update as Accepted, Refused as NotRead}
 use Rattle.ledger_state.specs.declared.Ledger.{Ledger}
-use Rattle.ledger_state.specs.State.{places, placeAt, written, findIn, isHeld, isVoid, countOf}
+use Rattle.bytes_copy.specs.Overwritten.{overwritten}
+use Rattle.ledger_state.specs.State.{places, placeAt, findIn, isHeld, isVoid, standingCount}
 use Rattle.ledger_state.specs.View.{bookOf}
 use Rattle.ledger_state.specs.Row1.{sound}
 use Rattle.ledger_refusals.specs.declared.Refusal.the-variants.{Unfit, Malformed as Bad, Full}
@@ -26,9 +27,9 @@ module _ (l : Ledger) (s b : List ℕ) where
   offered-unfit h e = rw e (unfit h)
 
   -- by what reading the bytes answered
-  module _ (fits : sound (bookOf l) s ≡ true) (r : Reading) (read : decodedOf b r ≡ decode b) where
+  module _ (fits : sound (bookOf l) s ≡ true) (r : ParseResult) (read : decodedOf b r ≡ decode b) where
     pub offered-malformed : (m : Malformed) → r ≡ NotRead m → {o : Offered} → o ≡ left l (Refused (Bad m)) → Offering l s b o s
-    offered-malformed m h e = rw e (malformed (numberOf m) fits (sym read ∙ ap (decodedOf b) h))
+    offered-malformed m h e = rw e (malformed (malformedNumber m) fits (sym read ∙ ap (decodedOf b) h))
 
     pub read-formed : (p : Parsed) → r ≡ Accepted p → Formed (bookOf l) s b
     read-formed p h = record { is-sound = fits; value = valueOf b p; decodes = sym read ∙ ap (decodedOf b) h }
@@ -44,8 +45,8 @@ module _ (l : Ledger) (s b : List ℕ) where
 
     -- a place is taken: the new place, and the counts after and before
     pub offered-taken : findIn (bookOf l) i ≡ none → bookOf l .used < places → {r : Ledger} {s′ : List ℕ} → Took (bookOf l) s b (f .value) (bookOf r) s′
-        → s′ ≡ written s (maxLength * bookOf l .used) b → {h₁ h₀ v₁ v₀ : ℕ}
-        → h₁ ≡ countOf isHeld (bookOf r) → h₀ ≡ countOf isHeld (bookOf l) → v₁ ≡ countOf isVoid (bookOf r) → v₀ ≡ countOf isVoid (bookOf l)
+        → s′ ≡ overwritten s (maxLength * bookOf l .used) b → {h₁ h₀ v₁ v₀ : ℕ}
+        → h₁ ≡ standingCount isHeld (bookOf r) → h₀ ≡ standingCount isHeld (bookOf l) → v₁ ≡ standingCount isVoid (bookOf r) → v₀ ≡ standingCount isVoid (bookOf l)
         → Offering l s b (record { answer = Taken (placeAt (bookOf r) (bookOf l .used) .standing) (h₁ - h₀) (v₁ - v₀); ledger = r }) s′
     offered-taken h n {r} t w e₁ e₀ d₁ d₀ =
         rw (e₁, e₀, d₁, d₀, w)

@@ -19,7 +19,8 @@ use Rattle.bitset.specs.BelowLaws.{countBelow-mono, countBelow-more}
 use Rattle.bitset.specs.BitsLaws.{within-more, within-none}
 use Rattle.ledger_state.specs.declared.Standing.{Standing}
 use Rattle.ledger_state.specs.declared.Standing.the-variants.{Waiting}
-use Rattle.ledger_state.specs.State.{places, Place, Book, placeAt, withTaken, written, findIn, isHeld, isVoid, countOf}
+use Rattle.bytes_copy.specs.Overwritten.{overwritten}
+use Rattle.ledger_state.specs.State.{places, Place, Book, placeAt, withTaken, findIn, isHeld, isVoid, standingCount}
 use Rattle.ledger_state.specs.Row1.{sound}
 use Rattle.ledger_state.specs.Row1Laws.{SoundPlace, sound→, sound←}
 use Rattle.ledger_settling.specs.Settle.{OthersWait, SettledFrom}
@@ -71,7 +72,7 @@ module _ (l : Book) (s b : List ℕ) (u : Update) (fits : sound l s ≡ true) (d
 
   -- i is the id, t the ledger with the place taken, r what it is once settled, and s′ the store with the bytes written
   module _ {i : Id} (hashed : i ≡ SHA-256 b) (unknown : findIn l i ≡ none) {t r : Book} (grown : t ≡ withTaken l i (length b)) {s′ : List ℕ}
-      (wrote : s′ ≡ written s (maxLength * l .used) b) (same : length s′ ≡ length s) (settling : SettledFrom t s′ r) where
+      (wrote : s′ ≡ overwritten s (maxLength * l .used) b) (same : length s′ ≡ length s) (settling : SettledFrom t s′ r) where
     settled : SettledFrom taken s′ r
     settled = subst (λ (m : Book). SettledFrom m s′ r) (grown ∙ ap (λ (j : Id). withTaken l j (length b)) hashed) settling
 
@@ -84,7 +85,7 @@ module _ (l : Book) (s b : List ℕ) (u : Update) (fits : sound l s ≡ true) (d
         λ v m e. find-none l s us (h .holds) i unknown v m (e ∙ ap SHA-256 (d .1) ∙ sym hashed) in
         settled-stands taken s′ (us ++ (u ∷ [])) r
         (subst (λ (x : List ℕ). Holds taken x (us ++ (u ∷ []))) (sym wrote)
-        (subst (λ (x : List ℕ). Holds (withTaken l (SHA-256 x) (length x)) (written s (maxLength * l .used) x) (us ++ (u ∷ []))) (d .1)
+        (subst (λ (x : List ℕ). Holds (withTaken l (SHA-256 x) (length x)) (overwritten s (maxLength * l .used) x) (us ++ (u ∷ []))) (d .1)
         (take-holds l s us u h (d .0) room new)))
         (subst (λ (x : List ℕ). Truthful (withTaken l (SHA-256 x) (length x)) (us ++ (u ∷ []))) (d .1)
         (take-truthful l s us u h (d .0) room new))
@@ -114,8 +115,8 @@ module _ {l : Book} {s b : List ℕ} {u : Update} {r : Book} {s′ : List ℕ} (
   one-more true n = omega arith
   one-more false n = omega arith
 
-  count-grows : (p : Standing → Bool) → p Waiting ≡ false → countOf p l ≤ countOf p r
-  unfolding countOf
+  count-grows : (p : Standing → Bool) → p Waiting ≡ false → standingCount p l ≤ standingCount p r
+  unfolding standingCount
   count-grows p w =
       let before : ℕ → Bool = λ k. p (placeAt l k .standing) in
       let after : ℕ → Bool = λ k. p (placeAt r k .standing) in
@@ -125,10 +126,10 @@ module _ {l : Book} {s b : List ℕ} {u : Update} {r : Book} {s′ : List ℕ} (
       ap (λ (n : ℕ). countBelow n after) (t .used-next) ∙ countBelow-more (l .used) after in
       omega (arith, countBelow-mono (l .used) before after stays, last, one-more (after (l .used)) (countBelow (l .used) after))
 
-  pub held-grows : countOf isHeld l ≤ countOf isHeld r
+  pub held-grows : standingCount isHeld l ≤ standingCount isHeld r
   unfolding isHeld
   held-grows = count-grows isHeld refl
 
-  pub void-grows : countOf isVoid l ≤ countOf isVoid r
+  pub void-grows : standingCount isVoid l ≤ standingCount isVoid r
   unfolding isVoid
   void-grows = count-grows isVoid refl

@@ -6,11 +6,12 @@ use mathlib.Core.Option.{none, some}
 use mathlib.Core.Bool.{true, false}
 use lib.ListN.{length}
 use Rattle.sha256_fips180.specs.Fips180.{SHA-256}
-use Rattle.update_format.specs.Update.{Update, maxLength}
+use Rattle.update_format.specs.Update.{Id, Update, maxLength}
 use Rattle.update_format.specs.Decode.{refused, update, decode}
 use Rattle.ledger_state.specs.declared.Ledger.{Ledger}
 use Rattle.ledger_state.specs.declared.Standing.the-variants.{Waiting}
-use Rattle.ledger_state.specs.State.{places, Book, placeAt, findIn, written, isHeld, isVoid, countOf}
+use Rattle.bytes_copy.specs.Overwritten.{overwritten}
+use Rattle.ledger_state.specs.State.{places, Book, placeAt, findIn, isHeld, isVoid, standingCount}
 use Rattle.ledger_state.specs.View.{bookOf}
 use Rattle.ledger_state.specs.Row1.{sound}
 use Rattle.ledger_state.specs.Stands.{Stands}
@@ -47,6 +48,13 @@ pub record Formed (l : Book) (s b : List ℕ) : Type 0 where
   pub value : Update
   pub decodes : decode b ≡ update value
 
+-- the update is well formed, its id is new, and a place is free
+pub record Takeable (l : Book) (s b : List ℕ) (i : Id) : Type 0 where
+  pub formed : Formed l s b
+  pub id-right : i ≡ SHA-256 b
+  pub id-new : findIn l i ≡ none
+  pub place-free : l .used < places
+
 -- What an offer of the bytes b to the ledger l and the store s yields: document 01's values of the answer, and the ledger and the store as they are left. A
 -- constructor for each row of the table, in its order, and for the two accepted answers.
 pub data OfferRow (l : Ledger) (s b : List ℕ) : OfferValues → Ledger → List ℕ → Type 0 where
@@ -63,12 +71,12 @@ pub data OfferRow (l : Ledger) (s b : List ℕ) : OfferValues → Ledger → Lis
   -- "the update's own standing, as the rules give it once the offer has settled, with the two counts": "held after less held before, and void after less
   -- void before"
   taken : (u : Update) (r : Ledger) → sound (bookOf l) s ≡ true → decode b ≡ update u → findIn (bookOf l) (SHA-256 b) ≡ none → bookOf l .used < places
-      → Took (bookOf l) s b u (bookOf r) (written s (maxLength * bookOf l .used) b)
+      → Took (bookOf l) s b u (bookOf r) (overwritten s (maxLength * bookOf l .used) b)
       → OfferRow l s b
-      (takenAs (verdictOf (placeAt (bookOf r) (bookOf l .used) .standing)) (countOf isHeld (bookOf r) - countOf isHeld (bookOf l))
-      (countOf isVoid (bookOf r) - countOf isVoid (bookOf l)))
+      (takenAs (verdictOf (placeAt (bookOf r) (bookOf l .used) .standing)) (standingCount isHeld (bookOf r) - standingCount isHeld (bookOf l))
+      (standingCount isVoid (bookOf r) - standingCount isVoid (bookOf l)))
       r
-      (written s (maxLength * bookOf l .used) b)
+      (overwritten s (maxLength * bookOf l .used) b)
 
 -- the promise of `offer`
 abbrev pub Offering : Ledger → List ℕ → List ℕ → Offered → List ℕ → Type 0

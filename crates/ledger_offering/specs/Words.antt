@@ -1,7 +1,7 @@
 -- Document 01's words for the values of an answer.
 use mathlib.Core.List.{List, _++_}
 use Prim.Native.Nat.{ℕ}
-use Rattle.rules.specs.Report.{ascii, decimal}
+use Rattle.bytes_ascii.specs.Ascii.{ascii, decimal}
 use Rattle.rules.specs.Settle.{Verdict, held, waiting, void}
 use Rattle.ledger_state.specs.declared.Standing.{Standing}
 use Rattle.ledger_state.specs.Verdicts.{verdictOf}

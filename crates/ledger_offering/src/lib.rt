@@ -1,11 +1,7 @@
 // An offer of a well-formed update.
 ghost use mathlib.Core.Path.{_≡_};
-ghost use mathlib.Core.Option.{none};
-ghost use Prim.Native.Nat.{_<_};
-ghost use Rattle.sha256_fips180.specs.Fips180.{SHA-256};
-ghost use Rattle.ledger_state.specs.State.{findIn};
 ghost use Rattle.ledger_state.specs.View.{bookOf};
-ghost use Rattle.ledger_offering.specs.Offer.{Offering, left as leftAs, Formed};
+ghost use Rattle.ledger_offering.specs.Offer.{Offering, left, Formed, Takeable};
 use ledger_refusals::Refusal;
 use ledger_row1::held_count;
 use ledger_row1::void_count;
@@ -16,6 +12,7 @@ use ledger_state::PLACES;
 use ledger_state::Standing;
 use ledger_state::find::find;
 use ledger_state::store::write_at;
+use update_format::Id;
 
 // What an offer answers.
 pub enum Answer {
@@ -38,7 +35,7 @@ pub struct Offered {
 
 // An answer that leaves the ledger as it was.
 pub fn left(ledger: Ledger, answer: Answer) -> Offered
-    ensures { λ r. ⌜ r ≡ leftAs ledger answer ⌝ }
+    ensures { λ r. ⌜ r ≡ left ledger answer ⌝ }
 {
     Offered {
         answer: answer,
@@ -47,8 +44,8 @@ pub fn left(ledger: Ledger, answer: Answer) -> Offered
 }
 
 // Takes the next place for an update whose id is not stored.
-fn take(ledger: Ledger, store: &mut [u8], update: &[u8], id: [u8; 32]) -> Offered
-    requires { ⌜ Formed (bookOf ledger) (now store) (now update) × (id ≡ SHA-256 (now update)) × (findIn (bookOf ledger) id ≡ none) × (bookOf ledger .used < 64) ⌝ }
+fn take(ledger: Ledger, store: &mut [u8], update: &[u8], id: Id) -> Offered
+    requires { ⌜ Takeable (bookOf ledger) (now store) (now update) id ⌝ }
     ensures { λ r. ⌜ Offering ledger (now (store .entry)) (now (update .entry)) r (now (store .exit)) ⌝ }
 {
     let k = ledger.used;

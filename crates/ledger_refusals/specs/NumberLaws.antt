@@ -3,7 +3,7 @@ use mathlib.Core.Path.{_≡_, refl, sym, ap, _∙_}
 use Prim.Native.Nat.{ℕ}
 use mathlib.Core.Bool.{cond}
 use lib.Dec.{eqb}
-use Rattle.update_format.specs.Reading.{numberOf}
+use Rattle.update_format.specs.ParseResult.{malformedNumber}
 use Rattle.update_format.specs.declared.Malformed.{Malformed}
 use Rattle.update_format.specs.declared.Malformed.the-variants.{Length, Version, Author, Predecessors, Truncated, Kind, Layout, Unordered}
 use Rattle.ledger_refusals.specs.declared.Refusal.{Refusal}
@@ -28,7 +28,7 @@ refusalOf n =
     (cond (eqb n row11) Short
     (cond (eqb n row12) Invalid (Bad (malformedOf n)))))
 
-malformed-back : (m : Malformed) → refusalOf (numberOf m) ≡ Bad m
+malformed-back : (m : Malformed) → refusalOf (malformedNumber m) ≡ Bad m
 unfolding refusalOf malformedOf
 malformed-back Length = refl
 malformed-back Version = refl

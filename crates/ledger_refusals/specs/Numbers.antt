@@ -1,6 +1,6 @@
 -- Document 01's number for each refusal, and its values for an answer that puts bytes into an output buffer.
 use Prim.Native.Nat.{ℕ}
-use Rattle.update_format.specs.Reading.{numberOf}
+use Rattle.update_format.specs.ParseResult.{malformedNumber}
 use Rattle.update_format.specs.declared.Malformed.the-variants.{Length, Version, Author, Predecessors, Truncated, Kind, Layout, Unordered}
 use Rattle.ledger_refusals.specs.declared.Refusal.{Refusal}
 use Rattle.ledger_refusals.specs.declared.Refusal.the-variants.{Unfit, Malformed as Bad, Full, Short, Invalid}
@@ -13,35 +13,35 @@ row1 = 1
 
 -- "length under 20 or over 533"
 abbrev pub row2 : ℕ
-row2 = numberOf Length
+row2 = malformedNumber Length
 
 -- "version not 1"
 abbrev pub row3 : ℕ
-row3 = numberOf Version
+row3 = malformedNumber Version
 
 -- "author above 15"
 abbrev pub row4 : ℕ
-row4 = numberOf Author
+row4 = malformedNumber Author
 
 -- "n above 8"
 abbrev pub row5 : ℕ
-row5 = numberOf Predecessors
+row5 = malformedNumber Predecessors
 
 -- "ends before its kind byte"
 abbrev pub row6 : ℕ
-row6 = numberOf Truncated
+row6 = malformedNumber Truncated
 
 -- "kind not 1 to 4"
 abbrev pub row7 : ℕ
-row7 = numberOf Kind
+row7 = malformedNumber Kind
 
 -- "m missing or above 8, or length not what kind and counts give"; of the writer, "named ids' bytes not a multiple of 32, or over 256"
 abbrev pub row8 : ℕ
-row8 = numberOf Layout
+row8 = malformedNumber Layout
 
 -- "ids not strictly ascending"
 abbrev pub row9 : ℕ
-row9 = numberOf Unordered
+row9 = malformedNumber Unordered
 
 -- "well formed, id unknown, 64 places taken"
 abbrev pub row10 : ℕ
@@ -58,7 +58,7 @@ row12 = 12
 -- the number of a refusal
 abbrev pub refusalNumber : Refusal → ℕ
 refusalNumber Unfit = row1
-refusalNumber (Bad m) = numberOf m
+refusalNumber (Bad m) = malformedNumber m
 refusalNumber Full = row10
 refusalNumber Short = row11
 refusalNumber Invalid = row12

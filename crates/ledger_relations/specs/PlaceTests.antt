@@ -36,8 +36,8 @@ module _ (l : Book) (s : List ℕ) where
   rankAt k = count (placeAt l k .ancestors)
 
   -- the taken places, ascending by id
-  unfoldable pub order : List ℕ
-  order = sort idAt (upTo (l .used))
+  unfoldable pub idOrder : List ℕ
+  idOrder = sort idAt (upTo (l .used))
 
   -- heads
   unfoldable pub coveredAt : ℕ → Bool

@@ -4,7 +4,7 @@ use mathlib.Core.List.{List}
 use mathlib.Core.Bool.{Bool, not, _&&_}
 use lib.Dec.{eqb}
 use Rattle.update_format.specs.Update.{maxLength}
-use Rattle.update_format.specs.Decode.{part, Decoded, decode}
+use Rattle.update_format.specs.Decode.{slice, Decoded, decode}
 use Rattle.rules.specs.Settle.{isInsert, names, deletes}
 use Rattle.bitset.specs.Below.{anyBelow}
 use Rattle.bitset.specs.Bits.{has, count}
@@ -20,7 +20,7 @@ neither own k other q = not (eqb k q) && (not (has (other .ancestors) k) && not 
 module _ (s : List ℕ) where
   -- what the place's bytes in the store decode to
   abbrev pub decodedIn : Place → ℕ → Decoded
-  decodedIn p k = decode (part s (maxLength * k) (p .length))
+  decodedIn p k = decode (slice s (maxLength * k) (p .length))
 
   -- the places are two of one author, neither an ancestor of the other
   abbrev pub forks : Place → ℕ → Place → ℕ → Bool

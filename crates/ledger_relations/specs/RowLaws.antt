@@ -18,7 +18,7 @@ use Rattle.bytes_order.specs.DistinctLaws.{distinct-eq}
 use Rattle.bytes_order.specs.SortLaws.{Ascending→ascending, ascending→Ascending, ascending-unique, sort-ascending, sort-∈, ∈-sort}
 use Rattle.update_format.specs.Update.{Id, Operation, Update}
 use Rattle.rules.specs.Standing.{Ancestor, Held, Void}
-use Rattle.rules.specs.Settle.{Verdict, held, waiting, void, Row, Table, isHeld, isWaiting, isVoid, heldRow, settled, covered, forkedBy}
+use Rattle.rules.specs.Settle.{Verdict, held, waiting, void, Row, Table, isHeld, isWaiting, isVoid, heldRow, settledTable, covered, forkedBy}
 use Rattle.rules.specs.Decides.{Decides}
 use Rattle.rules.specs.LeastSets.{ancestor-stored, held-not-void}
 use Rattle.rules.specs.SettlingTable.{isHeld→}
@@ -32,7 +32,7 @@ use Rattle.ledger_state.specs.State.{Book, placeAt, isHeld as placeHeld, isWait
 use Rattle.update_fields.specs.Fields.{testOf}
 use Rattle.ledger_state.specs.Stands.{ident, noUpdate, updateAt, Stands}
 use Rattle.ledger_state.specs.Verdicts.{verdictOf}
-use Rattle.ledger_relations.specs.PlaceTests.{idAt, heldAt, waitingAt, voidAt, authorAt, decodedAt, coveredAt, headAt, forkedWith, forkedAt, order}
+use Rattle.ledger_relations.specs.PlaceTests.{idAt, heldAt, waitingAt, voidAt, authorAt, decodedAt, coveredAt, headAt, forkedWith, forkedAt, idOrder}
 use Rattle.ledger_relations.specs.PlaceLaws.{from-used, to-used, place-in, place-of, place-id, same-place, place-author, place-test, above-at→, →above-at}
 
 -- the row of an id
@@ -57,14 +57,14 @@ row-in {r = r} (distinct-cons {x = q} {xs = T} n d) m = step (∈-cases m) (λ (
 
 -- the row of a place
 pub rowAt : List Update → ℕ → Row
-rowAt us k = rowIn (settled ident us) (ident (updateAt us k))
+rowAt us k = rowIn (settledTable ident us) (ident (updateAt us k))
 
 module _ {l : Book} {s : List ℕ} {us : List Update} (stands : Stands l s us) where
-  decides : Decides ident us (settled ident us)
+  decides : Decides ident us (settledTable ident us)
   decides = settled-decides ident us (stands .holds .distinct)
 
   abbrev T : Table
-  T = settled ident us
+  T = settledTable ident us
 
   found : {k : ℕ} → k < length us → (rowAt us k ∈ T) × (rowAt us k .update ≡ updateAt us k)
   unfolding rowAt
@@ -84,26 +84,26 @@ module _ {l : Book} {s : List ℕ} {us : List Update} (stands : Stands l s us) w
   row-id {k} h = decides .has-id (rowAt us k) (found h .0) ∙ update-id h
 
   -- the order of the places
-  pub order-∈ : {k : ℕ} → k ∈ order l s → k < length us
-  unfolding order
+  pub order-∈ : {k : ℕ} → k ∈ idOrder l s → k < length us
+  unfolding idOrder
   order-∈ m = from-used stands (upTo-∈ (l .used) (sort-∈ (idAt l s) (upTo (l .used)) m))
 
   places-identify : Identifies (idAt l s) (upTo (l .used))
   places-identify j k m n e = same-place stands (from-used stands (upTo-∈ (l .used) m)) (from-used stands (upTo-∈ (l .used) n)) e
 
-  pub ∈-order : {k : ℕ} → k < length us → k ∈ order l s
-  unfolding order
+  pub ∈-order : {k : ℕ} → k < length us → k ∈ idOrder l s
+  unfolding idOrder
   ∈-order h = ∈-sort (idAt l s) places-identify (∈-upTo (l .used) (to-used stands h))
 
-  pub order-ascending : Ascending (idAt l s) (order l s)
-  unfolding order
+  pub order-ascending : Ascending (idAt l s) (idOrder l s)
+  unfolding idOrder
   order-ascending = sort-ascending (idAt l s) (upTo (l .used))
 
-  rows-ascending : Ascending (λ (r : Row). r .id) (map (rowAt us) (order l s))
+  rows-ascending : Ascending (λ (r : Row). r .id) (map (rowAt us) (idOrder l s))
   rows-ascending =
-      ascending→Ascending (map (rowAt us) (order l s))
+      ascending→Ascending (map (rowAt us) (idOrder l s))
       (ap ascending
-      (map-map (λ (r : Row). r .id) (rowAt us) (order l s) ∙ map-cong (λ (k : ℕ). rowAt us k .id) (idAt l s) (order l s) (λ k m. row-id (order-∈ m)))
+      (map-map (λ (r : Row). r .id) (rowAt us) (idOrder l s) ∙ map-cong (λ (k : ℕ). rowAt us k .id) (idAt l s) (idOrder l s) (λ k m. row-id (order-∈ m)))
       ∙ Ascending→ascending order-ascending)
 
   row-of : (r : Row) → r ∈ T → (k : ℕ) × (k < length us) × (rowAt us k ≡ r)
@@ -112,16 +112,16 @@ module _ {l : Book} {s : List ℕ} {us : List Update} (stands : Stands l s us) w
       let f = place-of stands (decides .of-set r m) in
       (f .0, f .1, ap (rowIn T) (ap ident (f .2) ∙ sym (decides .has-id r m)) ∙ row-in (decides .once) m)
 
-  pub table-rows : settled ident us ≡ map (rowAt us) (order l s)
+  pub table-rows : settledTable ident us ≡ map (rowAt us) (idOrder l s)
   table-rows =
       ascending-unique (settled-ascending ident us) rows-ascending
       (record {
         forth = λ r m. let f = row-of r m in ∈-cast (sym (f .2)) (∈-map (rowAt us) (∈-order (f .1)));
-        back = λ r m. let f = map-∈ (rowAt us) (order l s) m in ∈-cast (sym (f .2)) (found (order-∈ (f .1)) .0);
+        back = λ r m. let f = map-∈ (rowAt us) (idOrder l s) m in ∈-cast (sym (f .2)) (found (order-∈ (f .1)) .0);
       })
 
   -- a test of some row, and of some place
-  pub any-agrees : (p : Row → Bool) (p′ : ℕ → Bool) → ((k : ℕ) → k < length us → p (rowAt us k) ≡ p′ k) → any p (settled ident us) ≡ anyBelow (l .used) p′
+  pub any-agrees : (p : Row → Bool) (p′ : ℕ → Bool) → ((k : ℕ) → k < length us → p (rowAt us k) ≡ p′ k) → any p (settledTable ident us) ≡ anyBelow (l .used) p′
   any-agrees p p′ h =
       test-ext (any p T) (anyBelow (l .used) p′)
       (λ e. let f = any→∈ p T e in let g = row-of (f .0) (f .1) in
@@ -204,13 +204,13 @@ module _ {l : Book} {s : List ℕ} {us : List Update} (stands : Stands l s us) w
   op-agrees h = ap (λ (u : Update). u .op) (row-update h)
 
   -- heads
-  covered-agrees : {k : ℕ} → k < length us → covered (settled ident us) (rowAt us k) ≡ coveredAt l s k
+  covered-agrees : {k : ℕ} → k < length us → covered (settledTable ident us) (rowAt us k) ≡ coveredAt l s k
   unfolding covered coveredAt
   covered-agrees {k} h =
       any-agrees (λ (q : Row). heldRow q && member (rowAt us k .id) (q .above)) (λ (q : ℕ). heldAt l s q && has (placeAt l q .ancestors) k)
       (λ q g. and-agrees (heldRow (rowAt us q)) (held-agrees q g) (λ e. above-agrees h g e))
 
-  pub head-agrees : (k : ℕ) → k < length us → (heldRow (rowAt us k) && not (covered (settled ident us) (rowAt us k))) ≡ headAt l s k
+  pub head-agrees : (k : ℕ) → k < length us → (heldRow (rowAt us k) && not (covered (settledTable ident us) (rowAt us k))) ≡ headAt l s k
   unfolding headAt
   head-agrees k h = and-agrees (heldRow (rowAt us k)) (held-agrees k h) (λ e. ap not (covered-agrees h))
 
@@ -227,12 +227,12 @@ module _ {l : Book} {s : List ℕ} {us : List Update} (stands : Stands l s us) w
       and-agrees (heldRow (rowAt us q)) (held-agrees q g) (λ e. λ i.
       eqb (author-agrees h i) (author-agrees g i) && (not (same-agrees h g i) && (not (above-agrees h g e i) && not (above-agrees g h d i))))
 
-  pub fork-agrees : (k : ℕ) → k < length us → (heldRow (rowAt us k) && any (forkedBy (rowAt us k)) (settled ident us)) ≡ forkedAt l s k
+  pub fork-agrees : (k : ℕ) → k < length us → (heldRow (rowAt us k) && any (forkedBy (rowAt us k)) (settledTable ident us)) ≡ forkedAt l s k
   unfolding forkedAt
   fork-agrees k h = and-agrees (heldRow (rowAt us k)) (held-agrees k h) (λ e. any-agrees (forkedBy (rowAt us k)) (forkedWith l s k) (λ q g. forked-agrees h g e))
 
   -- a held update whose operation passes a test
-  pub op-test-agrees : (p : Operation → Bool) → any (λ (q : Row). heldRow q && p (q .update .op)) (settled ident us)
+  pub op-test-agrees : (p : Operation → Bool) → any (λ (q : Row). heldRow q && p (q .update .op)) (settledTable ident us)
       ≡ anyBelow (l .used) (λ (q : ℕ). heldAt l s q && testOf p (decodedAt l s q))
   op-test-agrees p =
       any-agrees (λ (q : Row). heldRow q && p (q .update .op)) (λ (q : ℕ). heldAt l s q && testOf p (decodedAt l s q))

@@ -1,13 +1,15 @@
 // How held places stand to a place of a ledger, and the tests of a place that go by it.
 ghost use mathlib.Core.Path.{_≡_};
-ghost use Prim.Native.Nat.{_≤_, _<_};
+ghost use Prim.Native.Nat.{_<_};
+ghost use Rattle.ledger_state.specs.State.{places};
 ghost use Rattle.ledger_state.specs.View.{placeOf, bookOf};
+ghost use Rattle.ledger_state.specs.Bounds.{PlaceIn, TwoPlaces};
 ghost use Rattle.ledger_relations.specs.PlaceTests.{headAt, forkedAt, presentAt, shownAt};
-ghost use Rattle.ledger_relations.specs.Related.{neither, forks as forksFrom, relates, heldRelates, someHeld, rankedIn};
-use ledger_row1::has_standing;
+ghost use Rattle.ledger_relations.specs.Related.{neither, forks, relates, heldRelates, someHeld, rankedIn};
 use ledger_state::Ledger;
 use ledger_state::Place;
 use ledger_state::Standing;
+use ledger_state::places::has_standing;
 use ledger_state::store::stored;
 
 // How a held place can stand to another place.
@@ -33,8 +35,8 @@ fn apart(own: Place, k: usize, other: Place, q: usize) -> bool
 
 // Whether the places are apart and of one author.
 fn forks(store: &[u8], own: Place, k: usize, other: Place, q: usize) -> bool
-    requires { ⌜ (k < 64) × (q < 64) ⌝ }
-    ensures { λ r. ⌜ r ≡ forksFrom (now (store .entry)) (placeOf own) k (placeOf other) q ⌝ }
+    requires { ⌜ TwoPlaces k q ⌝ }
+    ensures { λ r. ⌜ r ≡ forks (now (store .entry)) (placeOf own) k (placeOf other) q ⌝ }
 {
     if apart(own, k, other, q) {
         let author = update_fields::author_of(stored(store, k, own.length));
@@ -46,7 +48,7 @@ fn forks(store: &[u8], own: Place, k: usize, other: Place, q: usize) -> bool
 
 // Whether the other place, q, stands so to the own place, k.
 fn related(store: &[u8], relation: Relation, own: Place, k: usize, other: Place, q: usize) -> bool
-    requires { ⌜ (k < 64) × (q < 64) ⌝ }
+    requires { ⌜ TwoPlaces k q ⌝ }
     ensures { λ r. ⌜ r ≡ relates (now (store .entry)) relation (placeOf own) k (placeOf other) q ⌝ }
 {
     let id = own.id;
@@ -67,7 +69,7 @@ fn held_related(
     other: Place,
     q: usize,
 ) -> bool
-    requires { ⌜ (k < 64) × (q < 64) ⌝ }
+    requires { ⌜ TwoPlaces k q ⌝ }
     ensures { λ r. ⌜ r ≡ heldRelates (now (store .entry)) relation (placeOf own) k (placeOf other) q ⌝ }
 {
     if has_standing(other, Standing::Held) {
@@ -79,7 +81,7 @@ fn held_related(
 
 // Whether some held place stands so to place k.
 fn some_held(l: Ledger, store: &[u8], relation: Relation, k: usize) -> bool
-    requires { ⌜ (bookOf l .used ≤ 64) × (k < 64) ⌝ }
+    requires { ⌜ PlaceIn (bookOf l) k ⌝ }
     ensures { λ r. ⌜ r ≡ someHeld (bookOf l) (now (store .entry)) relation k ⌝ }
 {
     let used = l.used;
@@ -96,7 +98,7 @@ fn some_held(l: Ledger, store: &[u8], relation: Relation, k: usize) -> bool
 
 // Whether place k is a head.
 pub fn is_head(l: Ledger, store: &[u8], k: usize) -> bool
-    requires { ⌜ (bookOf l .used ≤ 64) × (k < 64) ⌝ }
+    requires { ⌜ PlaceIn (bookOf l) k ⌝ }
     ensures { λ r. ⌜ r ≡ headAt (bookOf l) (now (store .entry)) k ⌝ }
 {
     if has_standing(l.places[k], Standing::Held) {
@@ -108,7 +110,7 @@ pub fn is_head(l: Ledger, store: &[u8], k: usize) -> bool
 
 // Whether place k is one of two that mark their author.
 pub fn is_forked(l: Ledger, store: &[u8], k: usize) -> bool
-    requires { ⌜ (bookOf l .used ≤ 64) × (k < 64) ⌝ }
+    requires { ⌜ PlaceIn (bookOf l) k ⌝ }
     ensures { λ r. ⌜ r ≡ forkedAt (bookOf l) (now (store .entry)) k ⌝ }
 {
     if has_standing(l.places[k], Standing::Held) {
@@ -120,7 +122,7 @@ pub fn is_forked(l: Ledger, store: &[u8], k: usize) -> bool
 
 // Whether place k holds an Add that no held Remove names.
 pub fn is_present(l: Ledger, store: &[u8], k: usize) -> bool
-    requires { ⌜ (bookOf l .used ≤ 64) × (k < 64) ⌝ }
+    requires { ⌜ PlaceIn (bookOf l) k ⌝ }
     ensures { λ r. ⌜ r ≡ presentAt (bookOf l) (now (store .entry)) k ⌝ }
 {
     let p = l.places[k];
@@ -136,7 +138,7 @@ pub fn is_present(l: Ledger, store: &[u8], k: usize) -> bool
 
 // Whether no held Delete names place k.
 pub fn is_shown(l: Ledger, store: &[u8], k: usize) -> bool
-    requires { ⌜ (bookOf l .used ≤ 64) × (k < 64) ⌝ }
+    requires { ⌜ PlaceIn (bookOf l) k ⌝ }
     ensures { λ r. ⌜ r ≡ shownAt (bookOf l) (now (store .entry)) k ⌝ }
 {
     !some_held(l, store, Relation::Deletes, k)
@@ -144,7 +146,7 @@ pub fn is_shown(l: Ledger, store: &[u8], k: usize) -> bool
 
 // Whether the place, k, holds a held Insert with n ancestors.
 pub fn is_ranked(store: &[u8], n: usize, p: Place, k: usize) -> bool
-    requires { ⌜ k < 64 ⌝ }
+    requires { ⌜ k < places ⌝ }
     ensures { λ r. ⌜ r ≡ rankedIn (now (store .entry)) n (placeOf p) k ⌝ }
 {
     if !has_standing(p, Standing::Held) {

@@ -4,7 +4,7 @@ use mathlib.Core.Path.{_≡_, refl, ap, _∙_}
 use mathlib.Core.Bool.{Bool, true, false}
 use Rattle.bitset.specs.Below.{countBelow}
 use Rattle.bitset.specs.BelowLaws.{countBelow-more, countBelow-cong}
-use Rattle.ledger_state.specs.State.{Book, placeAt, countOf}
+use Rattle.ledger_state.specs.State.{Book, placeAt, standingCount}
 use Rattle.ledger_state.specs.Number.{hasStanding}
 use Rattle.ledger_state.specs.declared.Standing.{Standing}
 
@@ -21,8 +21,8 @@ module _ (l : Book) (s : Standing) where
   unfolding counted countBelow
   counted-first = refl
 
-  pub counted-whole : (k : ℕ) {n : ℕ} → k ≡ l .used → n ≡ counted l s k → n ≡ countOf (hasStanding s) l
-  unfolding counted countOf
+  pub counted-whole : (k : ℕ) {n : ℕ} → k ≡ l .used → n ≡ counted l s k → n ≡ standingCount (hasStanding s) l
+  unfolding counted standingCount
   counted-whole k e h = h ∙ ap (λ (m : ℕ). countBelow m (standsAt l s)) e
 
   -- what a test of place k says
@@ -35,6 +35,6 @@ module _ (l : Book) (s : Standing) where
     unfolding counted
     counted-none b h = rw (countBelow-more, ← t, b, h)
 
-pub countOf-cong : (p q : Standing → Bool) → ((v : Standing) → p v ≡ q v) → (l : Book) → countOf p l ≡ countOf q l
-unfolding countOf
+pub countOf-cong : (p q : Standing → Bool) → ((v : Standing) → p v ≡ q v) → (l : Book) → standingCount p l ≡ standingCount q l
+unfolding standingCount
 countOf-cong p q f l = countBelow-cong (l .used) _ _ (λ k h. f (placeAt l k .standing))

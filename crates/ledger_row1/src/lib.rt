@@ -1,17 +1,16 @@
-// What a whole ledger shows: whether row 1 of the table applies, and how many places stand so; and how the ids of two places compare.
+// What a whole ledger shows: whether row 1 of the table applies, and how many places stand so.
 ghost use mathlib.Core.Path.{_≡_};
 ghost use Prim.Native.Nat.{_≤_};
-ghost use Rattle.bytes_order.specs.Compare.{orderOf};
-ghost use Rattle.ledger_state.specs.State.{isHeld, isVoid, countOf};
+ghost use Rattle.ledger_state.specs.State.{places, isHeld, isVoid, standingCount};
 ghost use Rattle.ledger_state.specs.View.{placeOf, bookOf};
-ghost use Rattle.ledger_state.specs.Number.{numberOf, hasStanding};
-ghost use Rattle.ledger_state.specs.Row1.{sound as soundLedger, soundPlace};
-use bytes_order::Order;
+ghost use Rattle.ledger_state.specs.Number.{hasStanding};
+ghost use Rattle.ledger_state.specs.Row1.{sound, soundPlace};
 use ledger_state::Ledger;
 use ledger_state::PLACES;
 use ledger_state::Place;
 use ledger_state::STORE_LENGTH;
 use ledger_state::Standing;
+use ledger_state::places::has_standing;
 use update_format::bounds::MAX_LENGTH;
 use update_format::bounds::MIN_LENGTH;
 
@@ -30,7 +29,7 @@ fn sound_place(used: usize, p: Place) -> bool
 
 // Whether row 1 does not apply.
 pub fn sound(l: Ledger, store: &[u8]) -> bool
-    ensures { λ r. ⌜ r ≡ soundLedger (bookOf l) (now (store .entry)) ⌝ }
+    ensures { λ r. ⌜ r ≡ sound (bookOf l) (now (store .entry)) ⌝ }
 {
     if store.len() != STORE_LENGTH {
         return false;
@@ -49,29 +48,10 @@ pub fn sound(l: Ledger, store: &[u8]) -> bool
     true
 }
 
-// A number for each standing.
-fn number_of(standing: Standing) -> u8
-    ensures { λ r. ⌜ r ≡ numberOf standing ⌝ }
-{
-    match standing {
-        Standing::Held => 0,
-        Standing::Waiting => 1,
-        Standing::Void => 2,
-    }
-}
-
-// Whether the place has this standing.
-pub fn has_standing(p: Place, standing: Standing) -> bool
-    ensures { λ r. ⌜ r ≡ hasStanding standing (p .standing) ⌝ }
-{
-    let own = p.standing;
-    number_of(own) == number_of(standing)
-}
-
 // How many taken places have this standing.
 fn count(l: Ledger, standing: Standing) -> usize
-    requires { ⌜ bookOf l .used ≤ 64 ⌝ }
-    ensures { λ r. ⌜ r ≡ countOf (hasStanding standing) (bookOf l) ⌝ }
+    requires { ⌜ bookOf l .used ≤ places ⌝ }
+    ensures { λ r. ⌜ r ≡ standingCount (hasStanding standing) (bookOf l) ⌝ }
 {
     let used = l.used;
     let mut n: usize = 0;
@@ -87,25 +67,16 @@ fn count(l: Ledger, standing: Standing) -> usize
 
 // How many taken places are held.
 pub fn held_count(l: Ledger) -> usize
-    requires { ⌜ bookOf l .used ≤ 64 ⌝ }
-    ensures { λ r. ⌜ r ≡ countOf isHeld (bookOf l) ⌝ }
+    requires { ⌜ bookOf l .used ≤ places ⌝ }
+    ensures { λ r. ⌜ r ≡ standingCount isHeld (bookOf l) ⌝ }
 {
     count(l, Standing::Held)
 }
 
 // How many taken places are void.
 pub fn void_count(l: Ledger) -> usize
-    requires { ⌜ bookOf l .used ≤ 64 ⌝ }
-    ensures { λ r. ⌜ r ≡ countOf isVoid (bookOf l) ⌝ }
+    requires { ⌜ bookOf l .used ≤ places ⌝ }
+    ensures { λ r. ⌜ r ≡ standingCount isVoid (bookOf l) ⌝ }
 {
     count(l, Standing::Void)
-}
-
-// How the id of the one place stands to that of the other.
-pub fn compare_ids(own: Place, other: Place) -> Order
-    ensures { λ r. ⌜ r ≡ orderOf (own .id) (other .id) ⌝ }
-{
-    let a = own.id;
-    let b = other.id;
-    bytes_order::compare(&a, &b)
 }

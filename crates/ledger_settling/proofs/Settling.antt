@@ -9,42 +9,42 @@ use native.Mathlib.Omega.{arith}
 use Rattle.bytes_order.specs.BoolLaws.{true-false, not-true→false, and-true}
 use Rattle.bytes_order.specs.Member.{member}
 use Rattle.update_format.specs.Update.{Id, maxLength}
-use Rattle.update_format.specs.Decode.{part, decode}
-use Rattle.update_format.specs.Reading.{valueOf, decodedOf}
+use Rattle.update_format.specs.Decode.{slice, decode}
+use Rattle.update_format.specs.ParseResult.{valueOf, decodedOf}
 use Rattle.update_format.specs.declared.Malformed.{Malformed}
 use Rattle.update_format.specs.declared.Parsed.{Parsed}
-use Rattle.update_format.specs.declared.Reading.{Reading}
-use Rattle.update_format.specs.declared.Reading.the-variants.{Update as Accepted, Refused}
+use Rattle.update_format.specs.declared.ParseResult.{ParseResult}
+use Rattle.update_format.specs.declared.ParseResult.the-variants.{Update as Accepted, Refused}
 use Rattle.ledger_state.specs.declared.Standing.{Standing}
 use Rattle.ledger_state.specs.declared.Standing.the-variants.{Held, Waiting, Void}
 use Rattle.ledger_judging.specs.declared.Judgement.the-variants.{Holds, Fails, Waits}
-use Rattle.ledger_state.specs.State.{Book, placeAt, withStanding, isWaiting, countOf}
-use Rattle.ledger_judging.specs.Judge.{judge}
+use Rattle.ledger_state.specs.State.{Book, placeAt, withStanding, isWaiting, standingCount}
+use Rattle.ledger_judging.specs.Judge.{judgeAt}
 use Rattle.ledger_settling.specs.Settle.{Outcome, settleBy, settleFrom, settlePlace, settleNext, settleBelow, passOver, every, pass, passes, lastSettled, newestSettled}
-use Rattle.ledger_settling.specs.Settle.{follows, chosen, followers, lastFollowers, successors, begun, PassedFrom, SettledFrom}
+use Rattle.ledger_settling.specs.Settle.{follows, selected, followers, lastFollowers, successors, begun, PassedFrom, SettledFrom}
 use Rattle.ledger_settling.specs.Passes.{next-cases, over-same}
 use Rattle.ledger_settling.specs.SettleLaws.{Kept, kept-refl, kept-trans, place-kept, pass-kept, newest-kept, begun-kept, pass-falls}
 use Rattle.ledger_settling.specs.SuccessorLaws.{begun-unchanged}
 
 -- the place k by its judgement
 module _ (l : Book) (s : List ℕ) (k : ℕ) where
-  pub by-holds : {m : Book} {w : ℕ} → m ≡ withStanding l k Held w → judge l s k ≡ Holds w
-      → record { book = m; changed = true } ≡ settleBy l k (judge l s k)
+  pub by-holds : {m : Book} {w : ℕ} → m ≡ withStanding l k Held w → judgeAt l s k ≡ Holds w
+      → record { book = m; changed = true } ≡ settleBy l k (judgeAt l s k)
   unfolding settleBy
   by-holds e j = ap (λ (m : Book). record { book = m; changed = true }) e ∙ ap (settleBy l k) (sym j)
 
-  pub by-fails : {m : Book} → m ≡ withStanding l k Void 0 → judge l s k ≡ Fails
-      → record { book = m; changed = true } ≡ settleBy l k (judge l s k)
+  pub by-fails : {m : Book} → m ≡ withStanding l k Void 0 → judgeAt l s k ≡ Fails
+      → record { book = m; changed = true } ≡ settleBy l k (judgeAt l s k)
   unfolding settleBy
   by-fails e j = ap (λ (m : Book). record { book = m; changed = true }) e ∙ ap (settleBy l k) (sym j)
 
-  pub by-waits : judge l s k ≡ Waits → record { book = l; changed = false } ≡ settleBy l k (judge l s k)
+  pub by-waits : judgeAt l s k ≡ Waits → record { book = l; changed = false } ≡ settleBy l k (judgeAt l s k)
   unfolding settleBy
   by-waits j = ap (settleBy l k) (sym j)
 
 -- a standing that waits is judged, any other stays
 module _ (l : Book) (s : List ℕ) (k : ℕ) where
-  judged : (v : Standing) → isWaiting v ≡ true → settleBy l k (judge l s k) ≡ settleFrom v l s k
+  judged : (v : Standing) → isWaiting v ≡ true → settleBy l k (judgeAt l s k) ≡ settleFrom v l s k
   unfolding isWaiting settleFrom
   judged Held e = absurd (false≢true e)
   judged Waiting e = refl
@@ -64,12 +64,15 @@ module _ {x y r : Bool} where
   pub either : x ≡ false → r ≡ y → r ≡ (x || y)
   either e f = f ∙ ap (λ (b : Bool). b || y) (sym e)
 
+pub neither : {x : Bool} (y : Bool) → x ≡ false → false ≡ (x && y)
+neither y e = ap (λ (b : Bool). b && y) (sym e)
+
 -- one place more of a pass, by whether it waits
 module _ (p : Outcome) (s : List ℕ) (k : ℕ) where
   abbrev after : Outcome → Outcome
   after q = record { book = q .book; changed = p .changed || q .changed }
 
-  pub next-judged : isWaiting (placeAt (p .book) k .standing) ≡ true → (q : Outcome) → q ≡ settleBy (p .book) k (judge (p .book) s k)
+  pub next-judged : isWaiting (placeAt (p .book) k .standing) ≡ true → (q : Outcome) → q ≡ settleBy (p .book) k (judgeAt (p .book) s k)
       → {m : Book} {b : Bool} → m ≡ q .book → b ≡ (p .changed || q .changed) → record { book = m; changed = b } ≡ settleNext p s k
   unfolding settleNext settlePlace
   next-judged w q e f g =
@@ -123,7 +126,7 @@ module _ (t : ℕ → Bool) (l : Book) (s : List ℕ) where
   passing-none {p} h e = ap (settleBelow t p s) (sym e) ∙ h .comes-to
 
 -- whether bytes name an id, by what reading them answered
-module _ (i : Id) (b : List ℕ) (r : Reading) (read : decodedOf b r ≡ decode b) where
+module _ (i : Id) (b : List ℕ) (r : ParseResult) (read : decodedOf b r ≡ decode b) where
   pub follows-update : (u : Parsed) → r ≡ Accepted u → member i (valueOf b u .preds) ≡ follows i (decode b)
   unfolding follows
   follows-update u e = ap (follows i) (ap (decodedOf b) (sym e) ∙ read)
@@ -134,11 +137,11 @@ module _ (i : Id) (b : List ℕ) (r : Reading) (read : decodedOf b r ≡ decode 
 
 -- a place of a ledger that kept the lengths of l is chosen where that of l is
 module _ (l m : Book) (s : List ℕ) (kept : Kept l m) (all : Bool) (i : Id) (k : ℕ) where
-  pub chosen-kept : chosen l s all i k ≡ chosen m s all i k
-  chosen-kept = ap (λ (n : ℕ). all || follows i (decode (part s (maxLength * k) n))) (sym (kept .length-kept k))
+  pub chosen-kept : selected l s all i k ≡ selected m s all i k
+  chosen-kept = ap (λ (n : ℕ). all || follows i (decode (slice s (maxLength * k) n))) (sym (kept .length-kept k))
 
-  pub not-due-kept : (isWaiting (placeAt m k .standing) && chosen m s all i k) ≡ false
-      → (isWaiting (placeAt m k .standing) && chosen l s all i k) ≡ false
+  pub not-due-kept : (isWaiting (placeAt m k .standing) && selected m s all i k) ≡ false
+      → (isWaiting (placeAt m k .standing) && selected l s all i k) ≡ false
   not-due-kept e = ap (λ (b : Bool). isWaiting (placeAt m k .standing) && b) chosen-kept ∙ e
 
 -- the newest place by its standing
@@ -151,15 +154,15 @@ module _ (l : Book) (s : List ℕ) where
   newest-none e = ap (lastSettled l s) (sym e)
 
   module _ (k : ℕ) (last : l .used ≡ k + 1) where
-    newest-by : {b : Bool} → isWaiting (placeAt l k .standing) ≡ b → cond b (settleBy l k (judge l s k)) to-pass ≡ newestSettled l s
+    newest-by : {b : Bool} → isWaiting (placeAt l k .standing) ≡ b → cond b (settleBy l k (judgeAt l s k)) to-pass ≡ newestSettled l s
     unfolding newestSettled lastSettled
     newest-by w =
-        ap (λ (b : Bool). cond b (settleBy l k (judge l s k)) to-pass) (sym w) ∙ ap (lastSettled l s) (sym (last ∙ add-one k))
+        ap (λ (b : Bool). cond b (settleBy l k (judgeAt l s k)) to-pass) (sym w) ∙ ap (lastSettled l s) (sym (last ∙ add-one k))
 
     pub newest-stays : isWaiting (placeAt l k .standing) ≡ false → to-pass ≡ newestSettled l s
     newest-stays w = newest-by w
 
-    pub newest-judged : isWaiting (placeAt l k .standing) ≡ true → {p : Outcome} → p ≡ settleBy l k (judge l s k) → p ≡ newestSettled l s
+    pub newest-judged : isWaiting (placeAt l k .standing) ≡ true → {p : Outcome} → p ≡ settleBy l k (judgeAt l s k) → p ≡ newestSettled l s
     newest-judged w e = e ∙ newest-by w
 
 -- r is what passes over b come to; where `changed` is false, a further pass changes nothing, if it changes nothing of b where `first` is false
@@ -171,7 +174,7 @@ pub record Reached (b : Book) (s : List ℕ) (first : Bool) (r : Book) (changed 
 
 -- how many places wait, and one more while there is a pass to make
 unfoldable pub left : Book → Bool → ℕ
-left r changed = countOf isWaiting r + cond changed 1 0
+left r changed = standingCount isWaiting r + cond changed 1 0
 
 module _ (b : Book) (s : List ℕ) (first : Bool) where
   pub reached-none : {more : Bool} → more ≡ first → Reached b s first b more
@@ -199,7 +202,7 @@ module _ (b : Book) (s : List ℕ) (first : Bool) where
       where
         by : (c : Bool) → pass r s .changed ≡ c → left (pass r s .book) c < left r true
         by true e = let f = pass-falls r s e in omega arith
-        by false e = let f : countOf isWaiting (pass r s .book) ≡ countOf isWaiting r = ap (countOf isWaiting) (over-same r s every e) in omega arith
+        by false e = let f : standingCount isWaiting (pass r s .book) ≡ standingCount isWaiting r = ap (standingCount isWaiting) (over-same r s every e) in omega arith
 
 -- the successors of the newest place
 module _ (l : Book) (s : List ℕ) where

@@ -14,14 +14,14 @@ use Rattle.ledger_judging.specs.declared.Judgement.{Judgement}
 use Rattle.ledger_judging.specs.declared.Judgement.the-variants.{Holds as Judged-holds, Fails, Waits}
 use Rattle.ledger_state.specs.State.{Book, placeAt, withStanding, isWaiting}
 use Rattle.ledger_state.specs.StandingLaws.{held≢waiting, void≢waiting, held≢void}
-use Rattle.ledger_judging.specs.Judge.{judge}
+use Rattle.ledger_judging.specs.Judge.{judgeAt}
 use Rattle.ledger_settling.specs.Settle.{Outcome, settleBy, settleFrom, settlePlace, settleNext, settleBelow, passOver, every, pass, passes, isWaits}
 use Rattle.ledger_settling.specs.Settle.{lastSettled, newestSettled, lastFollowers, successors, begun, OthersWait, SettledFrom}
 
 -- the place k is judged, and gets this standing and ancestor word
 pub data Settles (l : Book) (s : List ℕ) (k : ℕ) : Standing → ℕ → Type 0 where
-  to-held : {w : ℕ} → judge l s k ≡ Judged-holds w → Settles l s k IsHeld w
-  to-void : judge l s k ≡ Fails → Settles l s k IsVoid 0
+  to-held : {w : ℕ} → judgeAt l s k ≡ Judged-holds w → Settles l s k IsHeld w
+  to-void : judgeAt l s k ≡ Fails → Settles l s k IsVoid 0
 
 module _ {l : Book} {s : List ℕ} {k : ℕ} where
   pub settles-not-waiting : {v : Standing} {w : ℕ} → Settles l s k v w → isWaiting v ≡ false
@@ -29,11 +29,11 @@ module _ {l : Book} {s : List ℕ} {k : ℕ} where
   settles-not-waiting (to-held e) = refl
   settles-not-waiting (to-void e) = refl
 
-  pub settles-held : {v : Standing} {w : ℕ} → Settles l s k v w → v ≡ IsHeld → judge l s k ≡ Judged-holds w
+  pub settles-held : {v : Standing} {w : ℕ} → Settles l s k v w → v ≡ IsHeld → judgeAt l s k ≡ Judged-holds w
   settles-held (to-held e) q = e
   settles-held (to-void e) q = absurd (held≢void (sym q))
 
-  pub settles-void : {v : Standing} {w : ℕ} → Settles l s k v w → v ≡ IsVoid → judge l s k ≡ Fails
+  pub settles-void : {v : Standing} {w : ℕ} → Settles l s k v w → v ≡ IsVoid → judgeAt l s k ≡ Fails
   settles-void (to-held e) q = absurd (held≢void q)
   settles-void (to-void e) q = e
 
@@ -42,17 +42,17 @@ module _ {l : Book} {s : List ℕ} {k : ℕ} where
   settles-none-above (to-held e) n = absurd (n refl)
   settles-none-above (to-void e) n = refl
 
-  settles-not-waits : {v : Standing} {w : ℕ} → Settles l s k v w → judge l s k ≡ Waits → ⊥
+  settles-not-waits : {v : Standing} {w : ℕ} → Settles l s k v w → judgeAt l s k ≡ Waits → ⊥
   unfolding isWaits
   settles-not-waits (to-held e) q = false≢true (ap isWaits (sym e ∙ q))
   settles-not-waits (to-void e) q = false≢true (ap isWaits (sym e ∙ q))
 
 -- settling one place: nothing changes, or a waiting place is settled
 module _ (l : Book) (s : List ℕ) (k : ℕ) (P : Outcome → Type 0)
-    (stays : (placeAt l k .standing ≡ IsWaiting → judge l s k ≡ Waits) → P (record { book = l; changed = false }))
+    (stays : (placeAt l k .standing ≡ IsWaiting → judgeAt l s k ≡ Waits) → P (record { book = l; changed = false }))
     (settles : (v : Standing) (w : ℕ) → placeAt l k .standing ≡ IsWaiting → Settles l s k v w
     → P (record { book = withStanding l k v w; changed = true })) where
-  by-judgement : placeAt l k .standing ≡ IsWaiting → (j : Judgement) → judge l s k ≡ j → P (settleBy l k j)
+  by-judgement : placeAt l k .standing ≡ IsWaiting → (j : Judgement) → judgeAt l s k ≡ j → P (settleBy l k j)
   unfolding settleBy
   by-judgement q (Judged-holds w) e = settles IsHeld w q (to-held e)
   by-judgement q Fails e = settles IsVoid 0 q (to-void e)
@@ -61,7 +61,7 @@ module _ (l : Book) (s : List ℕ) (k : ℕ) (P : Outcome → Type 0)
   by-standing : (v : Standing) → placeAt l k .standing ≡ v → P (settleFrom v l s k)
   unfolding settleFrom
   by-standing IsHeld q = stays (λ e. absurd (held≢waiting (sym q ∙ e)))
-  by-standing IsWaiting q = by-judgement q (judge l s k) refl
+  by-standing IsWaiting q = by-judgement q (judgeAt l s k) refl
   by-standing IsVoid q = stays (λ e. absurd (void≢waiting (sym q ∙ e)))
 
   pub settle-cases : P (settlePlace l s k)
@@ -71,7 +71,7 @@ module _ (l : Book) (s : List ℕ) (k : ℕ) (P : Outcome → Type 0)
 -- the last of the places is settled as in a pass; and where no passes are to be made, a pass would have changed nothing there
 module _ (l : Book) (s : List ℕ) (n : ℕ) where
   last-by : (v : Standing)
-      → let p : Outcome = cond (isWaiting v) (settleBy l n (judge l s n)) (record { book = l; changed = true }) in
+      → let p : Outcome = cond (isWaiting v) (settleBy l n (judgeAt l s n)) (record { book = l; changed = true }) in
       (p .book ≡ settleFrom v l s n .book) × (p .changed ≡ false → settleFrom v l s n .changed ≡ false)
   unfolding settleFrom isWaiting
   last-by IsHeld = (refl, λ e. refl)
@@ -146,9 +146,9 @@ module _ (I : Book → Type 0) (s : List ℕ) (m : ℕ)
 
 -- where nothing changed, the ledger is as it was, and each place that waits was judged to
 place-unchanged : (l : Book) (s : List ℕ) (k : ℕ) → settlePlace l s k .changed ≡ false
-    → (settlePlace l s k .book ≡ l) × (placeAt l k .standing ≡ IsWaiting → judge l s k ≡ Waits)
+    → (settlePlace l s k .book ≡ l) × (placeAt l k .standing ≡ IsWaiting → judgeAt l s k ≡ Waits)
 place-unchanged l s k =
-    settle-cases l s k (λ p. p .changed ≡ false → (p .book ≡ l) × (placeAt l k .standing ≡ IsWaiting → judge l s k ≡ Waits))
+    settle-cases l s k (λ p. p .changed ≡ false → (p .book ≡ l) × (placeAt l k .standing ≡ IsWaiting → judgeAt l s k ≡ Waits))
     (λ f e. (refl, f)) (λ v w q j e. absurd (true≢false e))
 
 -- the same of the places below n that pass a test
@@ -156,7 +156,7 @@ module _ (t : ℕ → Bool) (s : List ℕ) where
   record Unchanged (p : Outcome) (n : ℕ) (r : Outcome) : Type 0 where
     before : p .changed ≡ false
     as-was : r .book ≡ p .book
-    waits : (k : ℕ) → k < n → t k ≡ true → placeAt (p .book) k .standing ≡ IsWaiting → judge (p .book) s k ≡ Waits
+    waits : (k : ℕ) → k < n → t k ≡ true → placeAt (p .book) k .standing ≡ IsWaiting → judgeAt (p .book) s k ≡ Waits
 
   below-unchanged : (p : Outcome) (n : ℕ) → settleBelow t p s n .changed ≡ false → Unchanged p n (settleBelow t p s n)
   unfolding settleBelow settleNext
@@ -166,7 +166,7 @@ module _ (t : ℕ → Bool) (s : List ℕ) where
       let b = below-unchanged (cond (t n) (settleNext p s n) p) n e in
       let u = next-cases t p s n
       (λ q. q .changed ≡ false
-      → (p .changed ≡ false) × (q .book ≡ l) × (t n ≡ true → placeAt l n .standing ≡ IsWaiting → judge l s n ≡ Waits))
+      → (p .changed ≡ false) × (q .book ≡ l) × (t n ≡ true → placeAt l n .standing ≡ IsWaiting → judgeAt l s n ≡ Waits))
       (λ _ c.
       let o = or-false→ (p .changed) (settlePlace l s n .changed) c in
       let v = place-unchanged l s n (o .1) in
@@ -178,8 +178,8 @@ module _ (t : ℕ → Bool) (s : List ℕ) where
         as-was = b .as-was ∙ u .1;
         waits = λ k h.
             ⊎-elim
-            (λ (g : k ≡ n). subst (λ (i : ℕ). t i ≡ true → placeAt l i .standing ≡ IsWaiting → judge l s i ≡ Waits) (sym g) (u .2))
-            (λ (g : k < n). subst (λ (m : Book). t k ≡ true → placeAt m k .standing ≡ IsWaiting → judge m s k ≡ Waits) (u .1) (b .waits k g))
+            (λ (g : k ≡ n). subst (λ (i : ℕ). t i ≡ true → placeAt l i .standing ≡ IsWaiting → judgeAt l s i ≡ Waits) (sym g) (u .2))
+            (λ (g : k < n). subst (λ (m : Book). t k ≡ true → placeAt m k .standing ≡ IsWaiting → judgeAt m s k ≡ Waits) (u .1) (b .waits k g))
             (eq-or-lt-of-le (le-of-suc-le-suc h));
       }
 
@@ -188,7 +188,7 @@ module _ (l : Book) (s : List ℕ) where
   none-yet = record { book = l; changed = false }
 
   pub over-unchanged : (t : ℕ → Bool) → passOver t l s .changed ≡ false
-      → (k : ℕ) → k < l .used → t k ≡ true → placeAt l k .standing ≡ IsWaiting → judge l s k ≡ Waits
+      → (k : ℕ) → k < l .used → t k ≡ true → placeAt l k .standing ≡ IsWaiting → judgeAt l s k ≡ Waits
   unfolding passOver
   over-unchanged t e = below-unchanged t s none-yet (l .used) e .waits
 
@@ -198,30 +198,30 @@ module _ (l : Book) (s : List ℕ) where
   over-same t e = below-unchanged t s none-yet (l .used) e .as-was
 
   -- where each place that waits is judged to go on waiting, nothing changes
-  place-stays : (k : ℕ) → (placeAt l k .standing ≡ IsWaiting → judge l s k ≡ Waits) → settlePlace l s k ≡ none-yet
+  place-stays : (k : ℕ) → (placeAt l k .standing ≡ IsWaiting → judgeAt l s k ≡ Waits) → settlePlace l s k ≡ none-yet
   place-stays k =
-      settle-cases l s k (λ p. (placeAt l k .standing ≡ IsWaiting → judge l s k ≡ Waits) → p ≡ none-yet)
+      settle-cases l s k (λ p. (placeAt l k .standing ≡ IsWaiting → judgeAt l s k ≡ Waits) → p ≡ none-yet)
       (λ _ f. refl) (λ v w q j f. absurd (settles-not-waits j (f q)))
 
-  below-stays : (n : ℕ) → ((k : ℕ) → k < n → placeAt l k .standing ≡ IsWaiting → judge l s k ≡ Waits) → settleBelow every none-yet s n ≡ none-yet
+  below-stays : (n : ℕ) → ((k : ℕ) → k < n → placeAt l k .standing ≡ IsWaiting → judgeAt l s k ≡ Waits) → settleBelow every none-yet s n ≡ none-yet
   unfolding settleBelow settleNext
   below-stays zero f = refl
   below-stays (suc n) f =
       ap (λ (q : Outcome). settleBelow every (record { book = q .book; changed = q .changed }) s n) (place-stays n (f n (omega arith)))
       ∙ below-stays n (λ k h. f k (omega arith))
 
-  pub pass-stays : ((k : ℕ) → k < l .used → placeAt l k .standing ≡ IsWaiting → judge l s k ≡ Waits) → pass l s .changed ≡ false
+  pub pass-stays : ((k : ℕ) → k < l .used → placeAt l k .standing ≡ IsWaiting → judgeAt l s k ≡ Waits) → pass l s .changed ≡ false
   unfolding passOver
   pass-stays f = ap (λ (p : Outcome). p .changed) (below-stays (l .used) f)
 
   last-same : (n : ℕ) → lastSettled l s n .changed ≡ false
-      → (lastSettled l s n .book ≡ l) × ((k : ℕ) → k + 1 ≡ n → placeAt l k .standing ≡ IsWaiting → judge l s k ≡ Waits)
+      → (lastSettled l s n .book ≡ l) × ((k : ℕ) → k + 1 ≡ n → placeAt l k .standing ≡ IsWaiting → judgeAt l s k ≡ Waits)
   unfolding lastSettled
   last-same zero e = absurd (true≢false e)
   last-same (suc n) e =
       let u = place-unchanged l s n (last-unchanged l s n e) in (
         last-place l s n ∙ u .0,
-        λ k h. let q : n ≡ k = omega arith in subst (λ (i : ℕ). placeAt l i .standing ≡ IsWaiting → judge l s i ≡ Waits) q (u .1),
+        λ k h. let q : n ≡ k = omega arith in subst (λ (i : ℕ). placeAt l i .standing ≡ IsWaiting → judgeAt l s i ≡ Waits) q (u .1),
       )
 
   -- the others wait, and the newest place goes on waiting

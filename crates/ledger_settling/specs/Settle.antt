@@ -15,7 +15,7 @@ use Rattle.ledger_judging.specs.declared.Judgement.{Judgement}
 use Rattle.ledger_judging.specs.declared.Judgement.the-variants.{Holds, Fails, Waits}
 use Rattle.ledger_state.specs.State.{Book, placeAt, storedAt, withStanding, isWaiting}
 use Rattle.ledger_state.specs.View.{bookOf}
-use Rattle.ledger_judging.specs.Judge.{judge}
+use Rattle.ledger_judging.specs.Judge.{judgeAt}
 
 -- what settling comes to: the bookkeeping, and whether a standing changed (or, where settling begins, whether passes are to be made)
 pub record Outcome : Type 0 where
@@ -34,7 +34,7 @@ settleBy l k Waits = record { book = l; changed = false }
 
 unfoldable pub settleFrom : Standing → Book → List ℕ → ℕ → Outcome
 settleFrom Held l s k = record { book = l; changed = false }
-settleFrom Waiting l s k = settleBy l k (judge l s k)
+settleFrom Waiting l s k = settleBy l k (judgeAt l s k)
 settleFrom Void l s k = record { book = l; changed = false }
 
 unfoldable pub settlePlace : Book → List ℕ → ℕ → Outcome
@@ -78,7 +78,7 @@ isWaits Waits = true
 unfoldable pub lastSettled : Book → List ℕ → ℕ → Outcome
 lastSettled l s zero = record { book = l; changed = true }
 lastSettled l s (suc n) =
-    cond (isWaiting (placeAt l n .standing)) (settleBy l n (judge l s n)) (record { book = l; changed = true })
+    cond (isWaiting (placeAt l n .standing)) (settleBy l n (judgeAt l s n)) (record { book = l; changed = true })
 
 -- the same of the newest place
 unfoldable pub newestSettled : Book → List ℕ → Outcome
@@ -93,8 +93,8 @@ abbrev pub followsAt : Book → List ℕ → Id → ℕ → Bool
 followsAt l s i k = follows i (decode (storedAt l s k))
 
 -- every place is chosen, where `all`; else those whose updates name the id i
-abbrev pub chosen : Book → List ℕ → Bool → Id → ℕ → Bool
-chosen l s all i k = all || followsAt l s i k
+abbrev pub selected : Book → List ℕ → Bool → Id → ℕ → Bool
+selected l s all i k = all || followsAt l s i k
 
 -- a pass over the places whose updates name the id i
 abbrev pub followers : Book → List ℕ → Id → Outcome
@@ -121,7 +121,7 @@ pub record PassedFrom (p : Outcome) (s : List ℕ) (r : Book) : Type 0 where
 
 -- every place that waits, but the newest, is judged to go on waiting: so it is where the ledger was settled before the newest place was taken
 abbrev pub OthersWait : Book → List ℕ → Type 0
-OthersWait l s = (k : ℕ) → k + 1 < l .used → placeAt l k .standing ≡ Waiting → judge l s k ≡ Waits
+OthersWait l s = (k : ℕ) → k + 1 < l .used → placeAt l k .standing ≡ Waiting → judgeAt l s k ≡ Waits
 
 -- r is what passes come to, over l with its newest place judged and then that one's successors; and where the others waited in l, a further pass changes nothing
 pub record SettledFrom (l : Book) (s : List ℕ) (r : Book) : Type 0 where

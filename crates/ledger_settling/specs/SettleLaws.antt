@@ -11,21 +11,21 @@ use Rattle.bytes_order.specs.BoolLaws.{or-true→}
 use Rattle.bytes_order.specs.Member.{_∈_}
 use Rattle.bytes_order.specs.MemberLaws.{getD-∈}
 use Rattle.update_format.specs.Update.{Update, maxLength}
-use Rattle.update_format.specs.Decode.{part}
+use Rattle.update_format.specs.Decode.{slice}
 use Rattle.rules.specs.Standing.{Ancestor, Known, Held, Void}
 use Rattle.rules.specs.Settle.{waiting}
-use Rattle.rules.specs.LeastSets.{Sound as SoundVerdicts, Stable, settled-waiting}
+use Rattle.rules.specs.LeastSets.{SoundVerdicts, Stable, settled-waiting}
 use Rattle.bitset.specs.Bits.{has, within}
 use Rattle.bitset.specs.BitsLaws.{within-none}
 use Rattle.bitset.specs.BelowLaws.{countBelow-one}
 use Rattle.ledger_state.specs.declared.Standing.{Standing}
 use Rattle.ledger_state.specs.declared.Standing.the-variants.{Held as IsHeld, Waiting as IsWaiting, Void as IsVoid}
 use Rattle.ledger_judging.specs.declared.Judgement.the-variants.{Waits}
-use Rattle.ledger_state.specs.State.{places, Place, Book, placeAt, withStanding, isWaiting, countOf}
+use Rattle.ledger_state.specs.State.{places, Place, Book, placeAt, withStanding, isWaiting, standingCount}
 use Rattle.ledger_state.specs.Row1.{sound}
 use Rattle.ledger_state.specs.Row1Laws.{SoundPlace, sound→, sound←, holds-sound}
 use Rattle.ledger_state.specs.Verdicts.{verdictOf, verdict-held, verdict-waiting, verdict-void, verdict, verdict-at, Placed, placed}
-use Rattle.ledger_judging.specs.Judge.{judge}
+use Rattle.ledger_judging.specs.Judge.{judgeAt}
 use Rattle.ledger_settling.specs.Settle.{Outcome, settlePlace, settleNext, settleBelow, passOver, every, pass, newestSettled, begun, OthersWait, SettledFrom}
 use Rattle.ledger_state.specs.Stands.{ident, noUpdate, updateAt, Holds, Truthful, Settled, Stands}
 use Rattle.ledger_state.specs.BookLaws.{replaced-same, replaced-other, replaced-cases}
@@ -110,12 +110,12 @@ settled-kept-all l s r f = settled-keeps (Kept l) s (l .used) (kept-on l s) (λ 
 
 -- fewer places wait, or nothing changed
 record Falls (l : Book) (p : Outcome) : Type 0 where
-  no-more : countOf isWaiting (p .book) ≤ countOf isWaiting l
-  fewer : p .changed ≡ true → countOf isWaiting (p .book) < countOf isWaiting l
+  no-more : standingCount isWaiting (p .book) ≤ standingCount isWaiting l
+  fewer : p .changed ≡ true → standingCount isWaiting (p .book) < standingCount isWaiting l
 
 settled-falls : (l : Book) (k : ℕ) (v : Standing) (w : ℕ) → k < l .used → placeAt l k .standing ≡ IsWaiting
-    → isWaiting v ≡ false → countOf isWaiting l ≡ countOf isWaiting (withStanding l k v w) + 1
-unfolding countOf isWaiting
+    → isWaiting v ≡ false → standingCount isWaiting l ≡ standingCount isWaiting (withStanding l k v w) + 1
+unfolding standingCount isWaiting
 settled-falls l k v w h q n =
     countBelow-one (l .used) (waitsIn l) (waitsIn (withStanding l k v w)) k h (ap isWaiting q)
     (ap test (replaced-same (l .place) k (settled-place l k v w)) ∙ n)
@@ -153,7 +153,7 @@ below-falls l s p (suc n) h c b =
 
 -- a pass that changes a standing leaves fewer waiting
 pub pass-falls : (l : Book) (s : List ℕ) → pass l s .changed ≡ true
-    → countOf isWaiting (pass l s .book) < countOf isWaiting l
+    → standingCount isWaiting (pass l s .book) < standingCount isWaiting l
 unfolding passOver
 pass-falls l s =
     below-falls l s (record { book = l; changed = false }) (l .used) (le-refl _) (kept-refl l)
@@ -198,7 +198,7 @@ module _ (s : List ℕ) (us : List Update) where
         distinct = h .distinct;
         ids = λ j g. same-id l k v w j ∙ h .ids j g;
         lengths = λ j g. same-length l k v w j ∙ h .lengths j g;
-        bytes = λ j g. ap (λ (n : ℕ). part s (maxLength * j) n) (same-length l k v w j) ∙ h .bytes j g;
+        bytes = λ j g. ap (λ (n : ℕ). slice s (maxLength * j) n) (same-length l k v w j) ∙ h .bytes j g;
         inside = λ j g. place-cases l k v w (λ p. within (p .ancestors) (length us) ≡ true) j (h .inside j g)
             (λ _. subst (λ (n : ℕ). within w n ≡ true) (h .number) inside);
       }
@@ -244,7 +244,7 @@ module _ (s : List ℕ) (us : List Update) where
 
 -- a ledger that says what is so, and judges each waiting place to go on waiting, is settled
 module _ (l : Book) (s : List ℕ) (us : List Update) (h : Holds l s us) (t : Truthful l us)
-    (still : (k : ℕ) → k < length us → placeAt l k .standing ≡ IsWaiting → judge l s k ≡ Waits) where
+    (still : (k : ℕ) → k < length us → placeAt l k .standing ≡ IsWaiting → judgeAt l s k ≡ Waits) where
   ledger-sound : SoundVerdicts ident us (verdict l)
   ledger-sound =
       record {
@@ -256,7 +256,7 @@ module _ (l : Book) (s : List ℕ) (us : List Update) (h : Holds l s us) (t : Tr
             subst (Void ident us) (p .is) (t .void-right (p .place) (p .inside) (verdict-void (placeAt l (p .place) .standing) (p .says ∙ e)));
       }
 
-  judged-waits : {u : Update} (p : Placed l s us h u) → verdict l u ≡ waiting → judge l s (p .place) ≡ Waits
+  judged-waits : {u : Update} (p : Placed l s us h u) → verdict l u ≡ waiting → judgeAt l s (p .place) ≡ Waits
   judged-waits p e = still (p .place) (p .inside) (verdict-waiting (placeAt l (p .place) .standing) (p .says ∙ e))
 
   ledger-stable : Stable ident us (verdict l)

@@ -12,7 +12,7 @@ use Rattle.bytes_order.specs.BoolLaws.{bool-cases, true-false, or-false→}
 use Rattle.bytes_order.specs.Order.{same}
 use Rattle.bytes_order.specs.Member.{member}
 use Rattle.update_format.specs.Update.{Id, maxLength}
-use Rattle.update_format.specs.Decode.{decode, part}
+use Rattle.update_format.specs.Decode.{decode, slice}
 use Rattle.bitset.specs.Below.{firstBelow}
 use Rattle.bitset.specs.BelowLaws.{firstBelow-some→}
 use Rattle.ledger_state.specs.declared.Standing.{Standing}
@@ -21,7 +21,7 @@ use Rattle.ledger_judging.specs.declared.Gathered.{Gathered}
 use Rattle.ledger_judging.specs.declared.Judgement.the-variants.{Waits}
 use Rattle.ledger_state.specs.State.{Place, Book, placeAt, storedAt, withStanding, isWaiting, findIn}
 use Rattle.ledger_state.specs.BookLaws.{replaced-same, replaced-other}
-use Rattle.ledger_judging.specs.Judge.{nothingGathered, gatherAt, gather, judgeDecoded, judge}
+use Rattle.ledger_judging.specs.Judge.{nothingGathered, gatherAt, gather, judgeDecoded, judgeAt}
 use Rattle.ledger_settling.specs.Settle.{Outcome, settlePlace, pass, lastSettled, newestSettled, follows, followsAt, lastFollowers, successors, begun, OthersWait}
 use Rattle.ledger_settling.specs.Passes.{settles-not-waiting, settle-cases, last-place, over-unchanged, over-same, pass-stays, newest-unchanged}
 use Rattle.ledger_settling.specs.SettleLaws.{settled-place, same-id, place-kept}
@@ -59,11 +59,11 @@ module _ (l : Book) (n : ℕ) (v : Standing) (w : ℕ) where
       ap (λ (h : Gathered). gather after h xs) (gather-one x (o .0) g) ∙ gather-others (gatherAt l g (findIn l x)) xs (o .1)
 
   -- a place that does not name it goes on waiting
-  stays-waiting : (s : List ℕ) (k : ℕ) → (k ≡ n → ⊥) → followsAt after s (placeAt after n .id) k ≡ false → judge l s k ≡ Waits
-      → judge after s k ≡ Waits
-  unfolding judge follows
+  stays-waiting : (s : List ℕ) (k : ℕ) → (k ≡ n → ⊥) → followsAt after s (placeAt after n .id) k ≡ false → judgeAt l s k ≡ Waits
+      → judgeAt after s k ≡ Waits
+  unfolding judgeAt follows
   stays-waiting s k ne out e =
-      let stored : storedAt l s k ≡ storedAt after s k = ap (λ (p : Place). part s (maxLength * k) (p .length)) (sym (other k ne)) in
+      let stored : storedAt l s k ≡ storedAt after s k = ap (λ (p : Place). slice s (maxLength * k) (p .length)) (sym (other k ne)) in
       decoded-waits l after s s (decode (storedAt after s k))
       (λ u q. gather-others nothingGathered (u .preds)
       (ap (follows (placeAt l n .id)) (sym q) ∙ ap (λ (i : Id). followsAt after s i k) (sym (same-id l n v w n)) ∙ out))
@@ -72,7 +72,7 @@ module _ (l : Book) (n : ℕ) (v : Standing) (w : ℕ) where
 -- where each place that names the last one, n, is judged to go on waiting, so is each place that waits
 module _ (l : Book) (s : List ℕ) (n : ℕ) (last : l .used ≡ n + 1) (others : OthersWait l s) where
   abbrev WaitsIn : Book → ℕ → Type 0
-  WaitsIn m k = placeAt m k .standing ≡ Waiting → judge m s k ≡ Waits
+  WaitsIn m k = placeAt m k .standing ≡ Waiting → judgeAt m s k ≡ Waits
 
   all-wait : let m = settlePlace l s n .book in
       ((k : ℕ) → k < l .used → followsAt m s (placeAt m n .id) k ≡ true → WaitsIn m k)
@@ -99,14 +99,14 @@ module _ (l : Book) (s : List ℕ) (n : ℕ) (last : l .used ≡ n + 1) (others 
 module _ (m : Book) (s : List ℕ) where
   successors-unchanged : (u : ℕ) → lastFollowers m s u .changed ≡ false
       → (lastFollowers m s u .book ≡ m)
-      × ((n k : ℕ) → u ≡ n + 1 → k < m .used → followsAt m s (placeAt m n .id) k ≡ true → placeAt m k .standing ≡ Waiting → judge m s k ≡ Waits)
+      × ((n k : ℕ) → u ≡ n + 1 → k < m .used → followsAt m s (placeAt m n .id) k ≡ true → placeAt m k .standing ≡ Waiting → judgeAt m s k ≡ Waits)
   unfolding lastFollowers
   successors-unchanged zero e = (refl, λ n k q. absurd (omega arith))
   successors-unchanged (suc i) e = (
     over-same m s (followsAt m s (placeAt m i .id)) e,
     λ n k q h.
         let g : i ≡ n = omega arith in
-        subst (λ (x : ℕ). followsAt m s (placeAt m x .id) k ≡ true → placeAt m k .standing ≡ Waiting → judge m s k ≡ Waits) g
+        subst (λ (x : ℕ). followsAt m s (placeAt m x .id) k ≡ true → placeAt m k .standing ≡ Waiting → judgeAt m s k ≡ Waits) g
         (over-unchanged m s (followsAt m s (placeAt m i .id)) e k h),
   )
 

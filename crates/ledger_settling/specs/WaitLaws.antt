@@ -12,7 +12,7 @@ use lib.Dec.{eqb}
 use Rattle.bytes_order.specs.BoolLaws.{true-false}
 use Rattle.bytes_order.specs.Order.{same}
 use Rattle.update_format.specs.Update.{Id, Operation, Update, maxLength}
-use Rattle.update_format.specs.Decode.{Decoded, refused, update, decode, part}
+use Rattle.update_format.specs.Decode.{Decoded, refused, update, decode, slice}
 use Rattle.bitset.specs.Bits.{including, join, meet}
 use Rattle.bitset.specs.BelowLaws.{firstBelow-some→, firstBelow-some←, firstBelow-none→}
 use Rattle.ledger_state.specs.declared.Standing.{Standing}
@@ -20,20 +20,22 @@ use Rattle.ledger_state.specs.declared.Standing.the-variants.{Held, Waiting, Vo
 use Rattle.ledger_judging.specs.declared.Gathered.{Gathered}
 use Rattle.ledger_judging.specs.declared.Judgement.{Judgement}
 use Rattle.ledger_judging.specs.declared.Judgement.the-variants.{Holds as Judged-holds, Fails, Waits}
-use Rattle.ledger_state.specs.State.{places, Place, Book, placeAt, storedAt, withTaken, written, findIn}
-use Rattle.ledger_judging.specs.Judge.{nothingGathered, gatherBy, gatherAt, gather, valid, judgeReady, judgeGathered, judgeDecoded, judge}
+use Rattle.bytes_copy.specs.Overwritten.{overwritten}
+use Rattle.bytes_copy.specs.OverwrittenLaws.{overwritten-before}
+use Rattle.ledger_state.specs.State.{places, Place, Book, placeAt, storedAt, withTaken, findIn}
+use Rattle.ledger_judging.specs.Judge.{nothingGathered, gatherBy, gatherAt, gather, valid, judgeReady, judgeGathered, judgeDecoded, judgeAt}
 use Rattle.ledger_settling.specs.Settle.{isWaits, OthersWait}
 use Rattle.ledger_state.specs.Stands.{Stands}
 use Rattle.ledger_state.specs.Row1Laws.{holds-sound}
 use Rattle.ledger_state.specs.FindLaws.{find-taken}
 use Rattle.ledger_judging.specs.JudgeLaws.{judged-held, judged-void}
-use Rattle.ledger_state.specs.TakeLaws.{taken-new, taken-old, written-before}
+use Rattle.ledger_state.specs.TakeLaws.{taken-new, taken-old}
 
 waits-judged : (l : Book) (s : List ℕ) (us : List Update) → Stands l s us
-    → (k : ℕ) → k < length us → placeAt l k .standing ≡ Waiting → judge l s k ≡ Waits
-waits-judged l s us stands k h q = by (judge l s k) refl
+    → (k : ℕ) → k < length us → placeAt l k .standing ≡ Waiting → judgeAt l s k ≡ Waits
+waits-judged l s us stands k h q = by (judgeAt l s k) refl
   where
-    by : (j : Judgement) → judge l s k ≡ j → j ≡ Waits
+    by : (j : Judgement) → judgeAt l s k ≡ j → j ≡ Waits
     by (Judged-holds w) e =
         absurd (stands .settled .waiting-right k h q .not-held (judged-held l s us (stands .holds) (stands .truthful) k w h e))
     by Fails e = absurd (stands .settled .waiting-right k h q .not-void (judged-void l s us (stands .holds) (stands .truthful) k h e))
@@ -126,17 +128,17 @@ module _ (l : Book) (i : Id) (n : ℕ) where
 
 -- where the ledger stood, the others wait once the next place is taken and its bytes are written
 pub taken-others : (l : Book) (s : List ℕ) (us : List Update) → Stands l s us → (i : Id) (b : List ℕ) → l .used < places → length b ≤ maxLength
-    → OthersWait (withTaken l i (length b)) (written s (maxLength * l .used) b)
-unfolding judge
+    → OthersWait (withTaken l i (length b)) (overwritten s (maxLength * l .used) b)
+unfolding judgeAt
 taken-others l s us stands i b free short k h q =
     let r = withTaken l i (length b) in
-    let s′ = written s (maxLength * l .used) b in
+    let s′ = overwritten s (maxLength * l .used) b in
     let holds = stands .holds in
     let inside : k < l .used = omega arith in
     let old : placeAt r k ≡ placeAt l k = at-old l i (length b) k inside in
     let stored : storedAt r s′ k ≡ storedAt l s k =
-    ap (λ (p : Place). part s′ (maxLength * k) (p .length)) old
-    ∙ written-before s (maxLength * l .used) b (omega (arith, holds .store-whole)) (maxLength * k) (placeAt l k .length)
+    ap (λ (p : Place). slice s′ (maxLength * k) (p .length)) old
+    ∙ overwritten-before s (maxLength * l .used) b (omega (arith, holds .store-whole)) (maxLength * k) (placeAt l k .length)
     (omega (arith, holds-sound l s us holds .each k inside .short)) in
     ap (λ (x : List ℕ). judgeDecoded r s′ (decode x)) stored
     ∙ decoded-waits l r s s′ (decode (storedAt l s k)) (λ u _. gather-taken l i (length b) nothingGathered (u .preds))

@@ -11,8 +11,9 @@ use lib.ListN.{length, getD, set, take, drop, length-set, drop-of-length-le}
 use lib.Seq.{length-take-le, take-suc, take-suc-set, drop-set-lt, drop-cons, getD-take, take-append-add, take-all}
 use Rattle.bytes_order.specs.Member.{all}
 use Rattle.bytes_order.specs.BoolLaws.{and-true, and-true→}
+use Rattle.ledger_state.specs.State.{places}
 use Rattle.ledger_sorting.specs.declared.Places.{Places}
-use Rattle.ledger_sorting.specs.Pieces.{placesIn, ins, small, Sound, Lists}
+use Rattle.ledger_sorting.specs.PlaceLists.{placesIn, ins, small, PlaceList, Lists, InsertsAt}
 
 -- the list with c put before the index i does not change where c takes the place of the i-th element, and that goes on
 pub carry : (ys : List ℕ) (i c : ℕ) → i < length ys → ins (i + 1) (getD ys i 0) (set ys i c) ≡ ins i c ys
@@ -60,26 +61,27 @@ renamed e a = record { sound = a .sound; are = a .are ∙ e }
 
 -- what the loop of an insertion comes to
 pub inserted :
-    (o : Places) (at k : ℕ) → Sound o → o .count < 64 → at ≤ o .count → k < 64 →
-    (ys : List ℕ) (c i : ℕ) → i ≤ o .count → o .count ≤ i → length ys ≡ 64 → ins i c ys ≡ ins at k (o .items) →
+    (o : Places) (at k : ℕ) → InsertsAt o at k →
+    (ys : List ℕ) (c i : ℕ) → i ≤ o .count → o .count ≤ i → length ys ≡ places → ins i c ys ≡ ins at k (o .items) →
     Lists (record { count = o .count + 1; items = set ys i c }) (ins at k (placesIn o))
-inserted o at k s h a b ys c i below above w e =
+inserted o at k pre ys c i below above w e =
     let n = o .count in
+    let s = pre .room-for .sound in
     let q : i ≡ n = omega arith in
     let f : take (n + 1) (set ys i c) ≡ take (suc n) (set ys n c) = ap₂ (λ (x y : ℕ). take x (set ys y c)) (add-one n) q in
     let g : ins n c ys ≡ ins at k (o .items) = ap (λ (x : ℕ). ins x c ys) (sym q) ∙ e in
     let r : take (n + 1) (set ys i c) ≡ ins at k (placesIn o) =
-    f ∙ last ys n c (omega arith) ∙ ap (take (suc n)) g ∙ front at n k (o .items) a (omega (arith, s .whole)) in
+    f ∙ last ys n c (omega arith) ∙ ap (take (suc n)) g ∙ front at n k (o .items) (pre .index-within) (omega (arith, s .whole)) in
     record {
       sound = record {
         whole = length-set ys i c ∙ w;
         room = omega arith;
-        inside = ap small r ∙ all-ins (λ (j : ℕ). ltb j 64) at k (placesIn o) (s .inside) (lt-ltb k 64 b);
+        inside = ap small r ∙ all-ins (λ (j : ℕ). ltb j places) at k (placesIn o) (s .inside) (lt-ltb k places (pre .room-for .place-within));
       };
       are = r;
     }
 
-module _ (o : Places) (s : Sound o) where
+module _ (o : Places) (s : PlaceList o) where
   pub length-is : length (placesIn o) ≡ o .count
   length-is = length-take-le (o .count) (o .items) (omega (arith, s .whole, s .room))
 
@@ -103,10 +105,10 @@ module _ (o : Places) (s : Sound o) where
     pub ended : o .count ≤ i → drop i (placesIn o) ≡ []
     ended h = drop-of-length-le (placesIn o) {i = i} (omega (arith, length-is))
 
-    pub below : i < o .count → nth < 64
+    pub below : i < o .count → nth < places
     below h =
-        let e = all-get (λ (j : ℕ). ltb j 64) (placesIn o) i (s .inside) (omega (arith, length-is)) in
-        ltb-true nth 64 (ap (λ (x : ℕ). ltb x 64) (sym (getD-take (o .count) (o .items) i 0 h)) ∙ e)
+        let e = all-get (λ (j : ℕ). ltb j places) (placesIn o) i (s .inside) (omega (arith, length-is)) in
+        ltb-true nth places (ap (λ (x : ℕ). ltb x places) (sym (getD-take (o .count) (o .items) i 0 h)) ∙ e)
 
   -- at the end
   pub ins-end : (k : ℕ) → ins (o .count) k (placesIn o) ≡ placesIn o ++ (k ∷ [])

@@ -1,20 +1,9 @@
 -- What passes a test, one number after the other.
-use Prim.Native.Nat.{ℕ, _+_}
-use mathlib.Core.Path.{_≡_, refl, sym, ap, _∙_}
+use Prim.Native.Nat.{ℕ}
+use mathlib.Core.Path.{_≡_, sym, ap, _∙_}
 use mathlib.Core.List.{List, [], _∷_, _++_, append-nil}
 use mathlib.Core.Bool.{Bool, true, false, cond}
-use native.Mathlib.Numerals.{add-one}
 use Rattle.bytes_order.specs.Member.{keep}
-use Rattle.bytes_order.specs.MemberLaws.{keep-append}
-use Rattle.bitset.specs.Below.{upTo}
-
-pub upTo-more : (p : ℕ → Bool) (a : ℕ) → keep p (upTo a) ++ keep p (a ∷ []) ≡ keep p (upTo (a + 1))
-unfolding upTo
-upTo-more p a = sym (ap (λ (m : ℕ). keep p (upTo m)) (add-one a) ∙ keep-append p (upTo a) (a ∷ []))
-
-pub upTo-start : (p : ℕ → Bool) → [] ≡ keep p (upTo 0)
-unfolding upTo keep
-upTo-start p = refl
 
 -- one more at the end
 pub keep-yes : (p : ℕ → Bool) (xs : List ℕ) (a : ℕ) {b : Bool} → b ≡ p a → b ≡ true → xs ++ (a ∷ []) ≡ xs ++ keep p (a ∷ [])

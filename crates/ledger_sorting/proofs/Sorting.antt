@@ -19,8 +19,8 @@ use Rattle.bytes_order.specs.declared.Order.the-variants.{Less, Equal, Greater}
 use Rattle.bitset.specs.Below.{upTo}
 use Rattle.ledger_state.specs.State.{Book}
 use Rattle.ledger_sorting.specs.declared.Key.the-variants.{Id}
-use Rattle.ledger_relations.specs.PlaceTests.{idAt, order}
-use Rattle.ledger_sorting.specs.Pieces.{ins, candidate, sortedBy}
+use Rattle.ledger_relations.specs.PlaceTests.{idAt, idOrder}
+use Rattle.ledger_sorting.specs.PlaceLists.{ins, candidate, sortedBy}
 use Rattle.ledger_sorting.proofs.Inserting.{shift}
 
 module _ (key : ℕ → List ℕ) (x : ℕ) where
@@ -117,6 +117,6 @@ module _ (key : ℕ → List ℕ) (p : ℕ → Bool) (n : ℕ) where
 
 -- the places by id
 module _ (l : Book) (s : List ℕ) where
-  pub sorted-ids : sortedBy l s Id ≡ order l s
-  unfolding sortedBy order
+  pub sorted-ids : sortedBy l s Id ≡ idOrder l s
+  unfolding sortedBy idOrder
   sorted-ids = ap (sort (idAt l s)) (keep-all (candidate l s Id) (upTo (l .used)) (λ x m. refl))

@@ -1,8 +1,8 @@
 // Lists of places by value.
 ghost use mathlib.Core.Path.{_≡_};
 ghost use mathlib.Core.List.{[]};
-ghost use Prim.Native.Nat.{_+_, _≤_, _<_};
-ghost use Rattle.ledger_sorting.specs.Pieces.{placesIn, ins, Sound, Lists};
+ghost use Prim.Native.Nat.{_+_};
+ghost use Rattle.ledger_sorting.specs.PlaceLists.{placesIn, ins, Lists, InsertsAt};
 use crate::Places;
 use ledger_state::PLACES;
 
@@ -19,7 +19,7 @@ impl Places {
 
     // The place k put before the index `at`.
     pub fn insert(self, at: usize, k: usize) -> Self
-        requires { ⌜ Sound self × (self .count < 64) × (at ≤ self .count) × (k < 64) ⌝ }
+        requires { ⌜ InsertsAt self at k ⌝ }
         ensures { λ r. ⌜ Lists r (ins at k (placesIn self)) × (r .count ≡ self .count + 1) ⌝ }
     {
         let count = self.count;

@@ -1,24 +1,26 @@
 // Ascending lists of places.
 ghost use mathlib.Core.Path.{_≡_};
 ghost use mathlib.Core.Bool.{cond};
-ghost use Prim.Native.Nat.{_+_, _≤_, _<_};
+ghost use Prim.Native.Nat.{_+_, _≤_};
 ghost use Rattle.bytes_order.specs.Compare.{orderOf};
-ghost use Rattle.bytes_order.specs.Sort.{insert as insertBy};
+ghost use Rattle.bytes_order.specs.Sort.{insert};
 ghost use Rattle.update_fields.specs.Fields.{tagIn};
+ghost use Rattle.ledger_state.specs.State.{places};
 ghost use Rattle.ledger_state.specs.View.{placeOf, bookOf};
-ghost use Rattle.ledger_sorting.specs.Pieces.{placesIn, Sound, Lists, keyIn, keyOf, candidate as candidateOf, sortedBy};
+ghost use Rattle.ledger_state.specs.Bounds.{PlaceIn, TwoPlaces};
+ghost use Rattle.ledger_sorting.specs.PlaceLists.{placesIn, Lists, RoomFor, RoomIn, keyIn, keyOf, candidate, sortedBy};
 ghost use Rattle.ledger_relations.specs.Related.{decodedIn};
 use crate::Key;
 use crate::Places;
 use bytes_order::Order;
-use ledger_row1::compare_ids;
 use ledger_state::Ledger;
 use ledger_state::Place;
+use ledger_state::places::compare_ids;
 use ledger_state::store::stored;
 
 // How the tag of the one place, j, stands to that of the other, k.
 fn compare_tags(store: &[u8], own: Place, j: usize, other: Place, k: usize) -> Order
-    requires { ⌜ (j < 64) × (k < 64) ⌝ }
+    requires { ⌜ TwoPlaces j k ⌝ }
     ensures { λ r. ⌜ r ≡ orderOf (tagIn (decodedIn (now (store .entry)) (placeOf own) j)) (tagIn (decodedIn (now (store .entry)) (placeOf other) k)) ⌝ }
 {
     let tag = update_fields::tag_of(stored(store, j, own.length));
@@ -27,7 +29,7 @@ fn compare_tags(store: &[u8], own: Place, j: usize, other: Place, k: usize) -> O
 
 // How the key of the one place, j, stands to that of the other, k.
 fn compare(store: &[u8], key: Key, own: Place, j: usize, other: Place, k: usize) -> Order
-    requires { ⌜ (j < 64) × (k < 64) ⌝ }
+    requires { ⌜ TwoPlaces j k ⌝ }
     ensures { λ r. ⌜ r ≡ orderOf (keyIn (now (store .entry)) key (placeOf own) j) (keyIn (now (store .entry)) key (placeOf other) k) ⌝ }
 {
     match key {
@@ -38,8 +40,8 @@ fn compare(store: &[u8], key: Key, own: Place, j: usize, other: Place, k: usize)
 
 // The list with place j among it, unless its key is there.
 fn insert(l: Ledger, store: &[u8], key: Key, places: Places, j: usize) -> Places
-    requires { ⌜ Sound places × (places .count < 64) × (j < 64) ⌝ }
-    ensures { λ r. ⌜ Lists r (insertBy (keyOf (bookOf l) (now (store .entry)) key) j (placesIn places)) × (r .count ≤ places .count + 1) ⌝ }
+    requires { ⌜ RoomFor places j ⌝ }
+    ensures { λ r. ⌜ Lists r (insert (keyOf (bookOf l) (now (store .entry)) key) j (placesIn places)) × (r .count ≤ places .count + 1) ⌝ }
 {
     let count = places.count;
     let own = l.places[j];
@@ -57,8 +59,8 @@ fn insert(l: Ledger, store: &[u8], key: Key, places: Places, j: usize) -> Places
 
 // Whether place k is listed.
 fn candidate(l: Ledger, store: &[u8], key: Key, k: usize) -> bool
-    requires { ⌜ (bookOf l .used ≤ 64) × (k < 64) ⌝ }
-    ensures { λ r. ⌜ r ≡ candidateOf (bookOf l) (now (store .entry)) key k ⌝ }
+    requires { ⌜ PlaceIn (bookOf l) k ⌝ }
+    ensures { λ r. ⌜ r ≡ candidate (bookOf l) (now (store .entry)) key k ⌝ }
 {
     match key {
         Key::Id => true,
@@ -68,8 +70,8 @@ fn candidate(l: Ledger, store: &[u8], key: Key, k: usize) -> bool
 
 // The list with place k among it, if it is listed.
 fn insert_listed(l: Ledger, store: &[u8], key: Key, places: Places, k: usize) -> Places
-    requires { ⌜ (bookOf l .used ≤ 64) × Sound places × (places .count < 64) × (k < 64) ⌝ }
-    ensures { λ r. ⌜ Lists r (cond (candidateOf (bookOf l) (now (store .entry)) key k) (insertBy (keyOf (bookOf l) (now (store .entry)) key) k (placesIn places)) (placesIn places)) × (r .count ≤ places .count + 1) ⌝ }
+    requires { ⌜ RoomIn (bookOf l) places k ⌝ }
+    ensures { λ r. ⌜ Lists r (cond (candidate (bookOf l) (now (store .entry)) key k) (insert (keyOf (bookOf l) (now (store .entry)) key) k (placesIn places)) (placesIn places)) × (r .count ≤ places .count + 1) ⌝ }
 {
     if candidate(l, store, key, k) {
         insert(l, store, key, places, k)
@@ -80,7 +82,7 @@ fn insert_listed(l: Ledger, store: &[u8], key: Key, places: Places, k: usize) ->
 
 // The listed places, ascending by key, of each key one.
 pub fn sorted(l: Ledger, store: &[u8], key: Key) -> Places
-    requires { ⌜ bookOf l .used ≤ 64 ⌝ }
+    requires { ⌜ bookOf l .used ≤ places ⌝ }
     ensures { λ r. ⌜ Lists r (sortedBy (bookOf l) (now (store .entry)) key) ⌝ }
 {
     let mut places = Places::none();

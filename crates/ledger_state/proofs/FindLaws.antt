@@ -9,7 +9,7 @@ use Rattle.bytes_order.specs.Order.{same}
 use Rattle.update_format.specs.Update.{Id}
 use Rattle.bitset.specs.Below.{firstBelow, orElse}
 use Rattle.bitset.specs.BelowLaws.{firstBelow-more, firstBelow-some←, firstBelow-none→}
-use Rattle.ledger_state.specs.State.{Book, placeAt, findIn, foundOf}
+use Rattle.ledger_state.specs.State.{places, Book, placeAt, findIn, foundOf}
 use Rattle.ledger_state.specs.FindLaws.{find-taken}
 use Rattle.ledger_state.specs.declared.Found.the-variants.{At, Nowhere}
 
@@ -47,5 +47,5 @@ pub found-nowhere : (o : Option ℕ) → foundOf o ≡ Nowhere → o ≡ none
 found-nowhere none e = refl
 found-nowhere (some k) e = let z : _≡_ {A = ℕ} 0 1 = cc in absurd (omega arith)
 
-pub found-below : (l : Book) (i : Id) {j : ℕ} → foundOf (findIn l i) ≡ At j → l .used ≤ 64 → j < 64
+pub found-below : (l : Book) (i : Id) {j : ℕ} → foundOf (findIn l i) ≡ At j → l .used ≤ places → j < places
 found-below l i {j} e h = omega (arith, find-taken l i j (found-at (findIn l i) j e))

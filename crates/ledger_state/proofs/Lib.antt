@@ -1,3 +1,2 @@
 pub mod FindLaws
-pub mod CopyLaws
 pub mod Owning

@@ -10,7 +10,7 @@ use Rattle.bytes_order.specs.Distinct.{Distinct}
 use Rattle.bytes_order.specs.DistinctLaws.{distinct-keep, distinct-map, distinct-same-length}
 use Rattle.update_format.specs.Update.{Update}
 use Rattle.rules.specs.Standing.{Held, Void, Waiting}
-use Rattle.rules.specs.Settle.{Verdict, held, waiting, void, Row, Table, isHeld as saysHeld, isVoid as saysVoid, settled}
+use Rattle.rules.specs.Settle.{Verdict, held, waiting, void, Row, Table, isHeld as saysHeld, isVoid as saysVoid, settledTable}
 use Rattle.rules.specs.Decides.{Decides}
 use Rattle.rules.specs.LeastSets.{held-not-void}
 use Rattle.rules.specs.Settling.{settled-decides}
@@ -18,7 +18,7 @@ use Rattle.bitset.specs.Below.{countBelow}
 use Rattle.bitset.specs.BelowLaws.{countBelow-cong}
 use Rattle.ledger_state.specs.declared.Standing.{Standing}
 use Rattle.ledger_state.specs.declared.Standing.the-variants.{Held as IsHeld, Waiting as IsWaiting, Void as IsVoid}
-use Rattle.ledger_state.specs.State.{Book, placeAt, isHeld, isVoid, countOf}
+use Rattle.ledger_state.specs.State.{Book, placeAt, isHeld, isVoid, standingCount}
 use Rattle.ledger_state.specs.Stands.{ident, noUpdate, updateAt, Stands}
 use Rattle.ledger_state.specs.ListFacts.{count-keep}
 use Rattle.ledger_state.specs.Verdicts.{verdictOf, verdict, verdict-at, placed}
@@ -42,7 +42,7 @@ means-one us u void void a b = refl
 
 module _ (l : Book) (s : List ℕ) (us : List Update) (stands : Stands l s us) where
   table : Table
-  table = settled ident us
+  table = settledTable ident us
 
   decides : Decides ident us table
   unfolding table
@@ -110,18 +110,18 @@ module _ (l : Book) (s : List ℕ) (us : List Update) (stands : Stands l s us) w
 
     -- .. for a test of standings that agrees
     standing-count : (q : Standing → Bool) → ((v : Standing) → q v ≡ p (verdictOf v))
-        → countOf q l ≡ length (keep (λ (r : Row). p (r .verdict)) (settled ident us))
-    unfolding countOf table
+        → standingCount q l ≡ length (keep (λ (r : Row). p (r .verdict)) (settledTable ident us))
+    unfolding standingCount table
     standing-count q agree =
         ap (λ (n : ℕ). countBelow n (λ (k : ℕ). q (placeAt l k .standing))) (stands .holds .number)
         ∙ countBelow-cong (length us) (λ (k : ℕ). q (placeAt l k .standing)) (λ (k : ℕ). p (verdictOf (placeAt l k .standing)))
         (λ k _. agree (placeAt l k .standing))
         ∙ verdict-count
 
-  pub held-count : countOf isHeld l ≡ length (keep (λ (r : Row). saysHeld (r .verdict)) (settled ident us))
+  pub held-count : standingCount isHeld l ≡ length (keep (λ (r : Row). saysHeld (r .verdict)) (settledTable ident us))
   unfolding isHeld saysHeld
   held-count = standing-count saysHeld isHeld (elim [ IsHeld ↦ refl | IsWaiting ↦ refl | IsVoid ↦ refl ])
 
-  pub void-count : countOf isVoid l ≡ length (keep (λ (r : Row). saysVoid (r .verdict)) (settled ident us))
+  pub void-count : standingCount isVoid l ≡ length (keep (λ (r : Row). saysVoid (r .verdict)) (settledTable ident us))
   unfolding isVoid saysVoid
   void-count = standing-count saysVoid isVoid (elim [ IsHeld ↦ refl | IsWaiting ↦ refl | IsVoid ↦ refl ])

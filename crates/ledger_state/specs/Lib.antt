@@ -1,4 +1,5 @@
 pub mod State
+pub mod Bounds
 pub mod BookLaws
 pub mod View
 pub mod ViewLaws

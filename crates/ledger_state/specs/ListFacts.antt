@@ -1,10 +1,9 @@
--- Parts, and counts by index.
+-- Counts by index.
 use mathlib.Core.Path.{_≡_, refl, _∙_, ap}
-use Prim.Native.Nat.{ℕ, zero, suc, _+_, _≤_}
+use Prim.Native.Nat.{ℕ, zero, suc, _+_}
 use native.Mathlib.Omega.{arith}
-use mathlib.Core.List.{List, [], _∷_, _++_}
-use lib.ListN.{length, getD, take, drop, length-drop}
-use lib.Seq.{take-append-le, drop-append-le}
+use mathlib.Core.List.{List, [], _∷_}
+use lib.ListN.{length, getD}
 use mathlib.Core.Bool.{Bool, true, false, cond}
 use Rattle.bytes_order.specs.Member.{keep}
 use Rattle.bitset.specs.Below.{countBelow}
@@ -23,11 +22,6 @@ count-first p (suc n) = step (p 0) (p (suc n)) (countBelow n (λ (k : ℕ). p (s
     step false false d e = e
 
 module _ {A : Type 0} where
-  -- a part that ends before the seam
-  pub part-append : (p q : List A) (at n : ℕ) → at + n ≤ length p → take n (drop at (p ++ q)) ≡ take n (drop at p)
-  part-append p q at n h =
-      ap (take n) (drop-append-le at p q (omega arith)) ∙ take-append-le n (drop at p) q (omega (arith, length-drop at p))
-
   -- the indices of the elements that pass, and those elements
   pub count-keep : (p : A → Bool) (xs : List A) (d : A) → countBelow (length xs) (λ (k : ℕ). p (getD xs k d)) ≡ length (keep p xs)
   unfolding countBelow keep

@@ -14,6 +14,6 @@ pub record TakesPlace (l : Ledger) (i : Id) (n : ℕ) (r : Ledger) : Type 0 wher
   pub none-free : places ≤ bookOf l .used → r ≡ l
 
 -- the place k is settled, where there is one
-pub record SettlesPlace (l : Ledger) (k : ℕ) (v : Standing) (w : ℕ) (r : Ledger) : Type 0 where
+pub record ChangesStanding (l : Ledger) (k : ℕ) (v : Standing) (w : ℕ) (r : Ledger) : Type 0 where
   pub inside : k < places → bookOf r ≡ withStanding (bookOf l) k v w
   pub outside : places ≤ k → r ≡ l

@@ -5,10 +5,10 @@ use lib.Dec.{eqb}
 use Rattle.ledger_state.specs.declared.Standing.{Standing}
 use Rattle.ledger_state.specs.declared.Standing.the-variants.{Held, Waiting, Void}
 
-abbrev pub numberOf : Standing → ℕ
-numberOf Held = 0
-numberOf Waiting = 1
-numberOf Void = 2
+abbrev pub standingNumber : Standing → ℕ
+standingNumber Held = 0
+standingNumber Waiting = 1
+standingNumber Void = 2
 
 unfoldable pub hasStanding : Standing → Standing → Bool
-hasStanding s v = eqb (numberOf v) (numberOf s)
+hasStanding s v = eqb (standingNumber v) (standingNumber s)

@@ -1,14 +1,14 @@
 -- Document 01, "Ledger and store": the bookkeeping, as laws and contracts see it, and the lent store. How a ledger keeps its bookkeeping is not said here: `View` makes
 -- this of the declared struct.
 use Prim.Native.Nat.{ℕ, _+_, _*_}
-use mathlib.Core.List.{List, _++_}
+use mathlib.Core.List.{List}
 use mathlib.Core.Option.{Option, none, some}
 use mathlib.Core.Bool.{Bool, true, false, cond}
-use lib.ListN.{length, take, drop}
+use lib.ListN.{length}
 use lib.Dec.{eqb}
 use Rattle.bytes_order.specs.Order.{same}
 use Rattle.update_format.specs.Update.{Id, maxLength}
-use Rattle.update_format.specs.Decode.{part}
+use Rattle.update_format.specs.Decode.{slice}
 use Rattle.bitset.specs.Below.{countBelow, firstBelow}
 use Rattle.ledger_state.specs.declared.Found.{Found}
 use Rattle.ledger_state.specs.declared.Found.the-variants.{At, Nowhere}
@@ -20,7 +20,7 @@ abbrev pub places : ℕ
 places = 64
 
 abbrev pub storeLength : ℕ
-storeLength = 34112
+storeLength = places * maxLength
 
 -- one place: its update's id and length, the set of its ancestors' places as a number (bit k for place k), and how it stands
 pub record Place : Type 0 where
@@ -60,11 +60,7 @@ withStanding l k v w =
 
 -- "Place k's update is written from byte 533 × k of the lent store"
 abbrev pub storedAt : Book → List ℕ → ℕ → List ℕ
-storedAt l s k = part s (maxLength * k) (placeAt l k .length)
-
--- the store with the bytes b written from byte at on; "no other byte changes"
-abbrev pub written : List ℕ → ℕ → List ℕ → List ℕ
-written s at b = take at s ++ (b ++ drop (at + length b) s)
+storedAt l s k = slice s (maxLength * k) (placeAt l k .length)
 
 -- the first taken place with this id
 unfoldable pub findIn : Book → Id → Option ℕ
@@ -90,5 +86,5 @@ isVoid Held = false
 isVoid Waiting = false
 isVoid Void = true
 
-unfoldable pub countOf : (Standing → Bool) → Book → ℕ
-countOf p l = countBelow (l .used) (λ (k : ℕ). p (placeAt l k .standing))
+unfoldable pub standingCount : (Standing → Bool) → Book → ℕ
+standingCount p l = countBelow (l .used) (λ (k : ℕ). p (placeAt l k .standing))

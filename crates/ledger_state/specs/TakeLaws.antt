@@ -6,15 +6,17 @@ use native.Mathlib.Nat.{not-suc-le-zero, le-refl, eq-or-lt-of-le}
 use mathlib.Core.Logic.{⊎-elim}
 use mathlib.Core.List.{List, [], _∷_, _++_, List·Memᴰ·not-nil}
 use mathlib.Core.Bool.{true}
-use lib.ListN.{length, take, drop, length-append, length-drop, take-append-drop, List·getD-append}
-use lib.Seq.{length-take-le, take-append-seam, drop-at, getD-at}
+use lib.ListN.{length, length-append, List·getD-append}
+use lib.Seq.{getD-at}
+use Rattle.bytes_copy.specs.Overwritten.{overwritten}
+use Rattle.bytes_copy.specs.OverwrittenLaws.{overwritten-length, overwritten-back, overwritten-before}
 use Rattle.bytes_order.specs.BoolLaws.{true-false}
 use Rattle.bytes_order.specs.Member.{_∈_}
 use Rattle.bytes_order.specs.MemberLaws.{∈-singleton}
 use Rattle.bytes_order.specs.Distinct.{Distinct, distinct-nil, distinct-cons}
 use Rattle.bytes_order.specs.DistinctLaws.{distinct-append}
 use Rattle.update_format.specs.Update.{Id, Update, Bounded, encode, maxLength}
-use Rattle.update_format.specs.Decode.{part}
+use Rattle.update_format.specs.Decode.{slice}
 use Rattle.update_format.specs.Laws.{encode-within}
 use Rattle.rules.specs.Standing.{Ancestor, Held, Void}
 use Rattle.rules.specs.LeastSets.{ancestor-stored}
@@ -22,12 +24,11 @@ use Rattle.rules.specs.Growth.{grow-ancestor, grow-held, grow-void, held-ancest
 use Rattle.bitset.specs.Bits.{has, within}
 use Rattle.bitset.specs.BitsLaws.{within→, within-more, within-none}
 use Rattle.ledger_state.specs.declared.Standing.the-variants.{Held as IsHeld, Waiting as IsWaiting, Void as IsVoid}
-use Rattle.ledger_state.specs.State.{places, storeLength, Place, Book, placeAt, withTaken, written}
+use Rattle.ledger_state.specs.State.{places, storeLength, Place, Book, placeAt, withTaken}
 use Rattle.ledger_state.specs.BookLaws.{replaced-same, replaced-other}
 use Rattle.ledger_state.specs.Row1.{sound}
 use Rattle.ledger_state.specs.Row1Laws.{sound←, holds-sound}
 use Rattle.ledger_state.specs.Stands.{ident, noUpdate, updateAt, Holds, Truthful, Stands}
-use Rattle.ledger_state.specs.ListFacts.{part-append}
 use Rattle.ledger_state.specs.StandingLaws.{held≢waiting, void≢waiting}
 
 -- a ledger that stands is never row 1
@@ -72,27 +73,6 @@ module _ (l : Book) (i : Id) (n : ℕ) where
   pub taken-old : (k : ℕ) → (k ≡ l .used → ⊥) → placeAt (withTaken l i n) k ≡ placeAt l k
   taken-old = replaced-other (l .place) (l .used) new-place
 
--- bytes written into a store
-module _ (s : List ℕ) (at : ℕ) (b : List ℕ) (fits : at + length b ≤ length s) where
-  front : length (take at s) ≡ at
-  front = length-take-le at s (omega arith)
-
-  pub written-length : length (written s at b) ≡ length s
-  written-length =
-      let rest = drop (at + length b) s in
-      omega (arith, length-append (take at s) (b ++ rest), length-append b rest, length-drop (at + length b) s, front)
-
-  -- they are read back, and what ends before them is as it was
-  written-back : part (written s at b) at (length b) ≡ b
-  written-back =
-      let rest = drop (at + length b) s in ap (take (length b)) (drop-at (take at s) (b ++ rest) at front) ∙ take-append-seam b rest
-
-  pub written-before : (j n : ℕ) → j + n ≤ at → part (written s at b) j n ≡ part s j n
-  written-before j n h =
-      part-append (take at s) (b ++ drop (at + length b) s) j n (omega (arith, front))
-      ∙ sym (part-append (take at s) (drop at s) j n (omega (arith, front)))
-      ∙ ap (λ (r : List ℕ). part r j n) (take-append-drop at s)
-
 module _ (l : Book) (s : List ℕ) (us : List Update) (u : Update) (stands : Stands l s us) (bounded : Bounded u)
     (free : length us < places) (new : (v : Update) → v ∈ us → ident v ≡ ident u → ⊥) where
   abbrev more : List Update
@@ -132,13 +112,13 @@ module _ (l : Book) (s : List ℕ) (us : List Update) (u : Update) (stands : Sta
       number : l .used ≡ length us
       number = stands .holds .number
 
-  pub take-holds : Holds (withTaken l (ident u) (length (encode u))) (written s (maxLength * l .used) (encode u)) (us ++ (u ∷ []))
+  pub take-holds : Holds (withTaken l (ident u) (length (encode u))) (overwritten s (maxLength * l .used) (encode u)) (us ++ (u ∷ []))
   take-holds =
       let h = stands .holds in
       let at = maxLength * l .used in
       let fits : at + length (encode u) ≤ length s = omega (arith, h .number, h .store-whole, free, encode-within u bounded .1) in
       record {
-        store-whole = written-length s at (encode u) fits ∙ h .store-whole;
+        store-whole = overwritten-length s at (encode u) fits ∙ h .store-whole;
         room = omega (arith, one-more, free);
         number = ap (λ (n : ℕ). n + 1) (h .number) ∙ sym one-more;
         bounded = λ v m.
@@ -147,13 +127,13 @@ module _ (l : Book) (s : List ℕ) (us : List Update) (u : Update) (stands : Sta
         ids = taken-cases (λ _ p v. p .id ≡ ident v) (h .ids) refl;
         lengths = taken-cases (λ _ p v. p .length ≡ length (encode v)) (h .lengths) refl;
         bytes =
-            taken-cases (λ k p v. part (written s at (encode u)) (maxLength * k) (p .length) ≡ encode v)
+            taken-cases (λ k p v. slice (overwritten s at (encode u)) (maxLength * k) (p .length) ≡ encode v)
             (λ k g.
-            written-before s at (encode u) fits (maxLength * k) (placeAt l k .length)
+            overwritten-before s at (encode u) fits (maxLength * k) (placeAt l k .length)
             (omega (arith, holds-sound l s us h .each k (omega (arith, h .number)) .short, h .number))
             ∙ h .bytes k g)
-            (subst (λ (n : ℕ). part (written s at (encode u)) (maxLength * n) (length (encode u)) ≡ encode u) (h .number)
-            (written-back s at (encode u) fits));
+            (subst (λ (n : ℕ). slice (overwritten s at (encode u)) (maxLength * n) (length (encode u)) ≡ encode u) (h .number)
+            (overwritten-back s at (encode u) fits));
         inside =
             taken-cases (λ _ p v. within (p .ancestors) (length more) ≡ true)
             (λ k g. within-more (placeAt l k .ancestors) (length us) (length more) (omega (arith, one-more)) (h .inside k g))

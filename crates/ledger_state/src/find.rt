@@ -2,7 +2,7 @@
 ghost use mathlib.Core.Path.{_≡_};
 ghost use Prim.Native.Nat.{_≤_};
 ghost use Rattle.bytes_order.specs.Order.{same};
-ghost use Rattle.ledger_state.specs.State.{findIn, foundOf};
+ghost use Rattle.ledger_state.specs.State.{places, findIn, foundOf};
 ghost use Rattle.ledger_state.specs.View.{bookOf};
 use crate::Found;
 use crate::Ledger;
@@ -18,7 +18,7 @@ pub fn has_id(p: Place, id: &[u8]) -> bool
 
 // The first taken place with this id.
 pub fn find(l: Ledger, id: &[u8]) -> Found
-    requires { ⌜ bookOf l .used ≤ 64 ⌝ }
+    requires { ⌜ bookOf l .used ≤ places ⌝ }
     ensures { λ r. ⌜ r ≡ foundOf (findIn (bookOf l) (now (id .entry))) ⌝ }
 {
     let used = l.used;

@@ -1,16 +1,21 @@
 // The bookkeeping of a ledger: places, standings and ancestor words, by value; and the lent store.
 pub mod find;
+pub mod places;
 pub mod store;
 
 ghost use mathlib.Core.Path.{_≡_};
 ghost use Rattle.ledger_state.specs.View.{freshLedger};
-ghost use Rattle.ledger_state.specs.Methods.{TakesPlace, SettlesPlace};
+ghost use Rattle.ledger_state.specs.Methods.{TakesPlace, ChangesStanding};
+use bitset::Set;
+use update_format::Id;
+use update_format::bounds::ID_LENGTH;
+use update_format::bounds::MAX_LENGTH;
 
 // How many places a ledger has.
 pub const PLACES: usize = 64;
 
-// How many bytes a store has: PLACES times update_format::MAX_LENGTH.
-pub const STORE_LENGTH: usize = 34112;
+// How many bytes a store has.
+pub const STORE_LENGTH: usize = PLACES * MAX_LENGTH;
 
 // How a stored update stands.
 pub enum Standing {
@@ -21,9 +26,9 @@ pub enum Standing {
 
 // One place: its update's id, length, ancestors (bit k for place k) and standing. The update's bytes are in the store.
 pub struct Place {
-    pub id: [u8; 32],
+    pub id: Id,
     pub length: usize,
-    pub ancestors: u64,
+    pub ancestors: Set,
     pub standing: Standing,
 }
 
@@ -44,7 +49,7 @@ pub fn fresh() -> Ledger
     ensures { λ r. ⌜ r ≡ freshLedger ⌝ }
 {
     let free = Place {
-        id: [0u8; 32],
+        id: [0u8; ID_LENGTH],
         length: 0,
         ancestors: 0,
         standing: Standing::Held,
@@ -57,7 +62,7 @@ pub fn fresh() -> Ledger
 
 impl Ledger {
     // The next place is taken, by an update that waits. Where none is free, nothing changes.
-    pub fn taken(mut self, id: [u8; 32], length: usize) -> Ledger
+    pub fn taken(mut self, id: Id, length: usize) -> Ledger
         ensures { λ r. ⌜ TakesPlace self id length r ⌝ }
     {
         let next = self.used;
@@ -75,8 +80,8 @@ impl Ledger {
     }
 
     // The standing of place k is changed, and its ancestors with it. Where there is no place k, nothing changes.
-    pub fn settled(mut self, k: usize, standing: Standing, ancestors: u64) -> Ledger
-        ensures { λ r. ⌜ SettlesPlace self k standing ancestors r ⌝ }
+    pub fn with_standing(mut self, k: usize, standing: Standing, ancestors: Set) -> Ledger
+        ensures { λ r. ⌜ ChangesStanding self k standing ancestors r ⌝ }
     {
         if PLACES <= k {
             return self;

@@ -12,6 +12,7 @@ use Rattle.ledger_state.specs.State.{storeLength}
 use Rattle.ledger_state.specs.View.{bookOf, freshLedger}
 use Rattle.ledger_refusals.specs.declared.Refusal.{Refusal}
 use Rattle.ledger_refusals.specs.Numbers.{refusalNumber}
+use Rattle.rules.specs.Report.{maxReport}
 use Rattle.ledger.specs.declared.Reported.the-variants.{Written}
 use Rattle.ledger.specs.Calls.{Calls, stored, offers-stand}
 use Rattle.ledger.specs.Report.{Reporting}
@@ -126,7 +127,7 @@ check-says (compared n k c h d q) both fits-first fits-second none = compared-sa
 
 -- Both give one where the stores have the stated length and the buffers 12,000 bytes.
 pub check-answers : {xs ys : List (List ℕ)} {s t o p s′ t′ o′ p′ : List ℕ} {r : Compared} → Checking xs ys s t o p r s′ t′ o′ p′
-    → length s ≡ storeLength → length t ≡ storeLength → 12000 ≤ length o → 12000 ≤ length p → BothReported r
+    → length s ≡ storeLength → length t ≡ storeLength → maxReport ≤ length o → maxReport ≤ length p → BothReported r
 check-answers {xs = xs} (first-unreported f c h) u v a b = absurd (report-answers (stored xs) (offers-stand u c) h a (refusalNumber f) refl)
 check-answers {ys = ys} (second-unreported n f c h d q) u v a b = absurd (report-answers (stored ys) (offers-stand v d) q b (refusalNumber f) refl)
 check-answers (compared {o′ = o′} {p′ = p′} n k c h d q) u v a b = compared-both (take n o′) (take k p′) (same (take n o′) (take k p′)) refl

@@ -6,7 +6,7 @@ use mathlib.Core.List.{List}
 use lib.ListN.{length}
 use Rattle.bytes_order.specs.BoolLaws.{true-false}
 use Rattle.update_format.specs.Update.{Update}
-use Rattle.rules.specs.Report.{reportOf}
+use Rattle.rules.specs.Report.{reportOf, maxReport}
 use Rattle.rules.specs.ReportLaws.{report-length}
 use Rattle.ledger_state.specs.State.{Book}
 use Rattle.ledger_state.specs.Stands.{ident, Stands}
@@ -16,16 +16,16 @@ use Rattle.ledger_state.specs.FindLaws.{ident-length}
 use Rattle.ledger.specs.Report.{ReportRow, unfit, short, written}
 
 -- for a ledger that stands, row 11 does not apply where the buffer has 12,000 bytes
-pub report-fits : {l : Book} {s o o′ : List ℕ} {v : Output} (us : List Update) → Stands l s us → ReportRow l s o v o′ → 12000 ≤ length o
+pub report-fits : {l : Book} {s o o′ : List ℕ} {v : Output} (us : List Update) → Stands l s us → ReportRow l s o v o′ → maxReport ≤ length o
     → v ≡ refusedBy row11 → ⊥
 report-fits us h (unfit e) k q = let z : _≡_ {A = ℕ} row1 row11 = cc in omega arith
 report-fits us h (short text e t j) k q =
-    let b : length (reportOf ident us) ≤ 12000 = report-length ident ident-length us (h .holds .distinct) (h .holds .room) (h .holds .bounded) in
+    let b : length (reportOf ident us) ≤ maxReport = report-length ident ident-length us (h .holds .distinct) (h .holds .room) (h .holds .bounded) in
     omega (arith, b, ap length (t .of-rules us h))
 report-fits us h (written text e t j) k q = let z : _≡_ {A = ℕ} 0 1 = cc in omega arith
 
 -- so the report is not refused
-pub report-answers : {l : Book} {s o o′ : List ℕ} {v : Output} (us : List Update) → Stands l s us → ReportRow l s o v o′ → 12000 ≤ length o
+pub report-answers : {l : Book} {s o o′ : List ℕ} {v : Output} (us : List Update) → Stands l s us → ReportRow l s o v o′ → maxReport ≤ length o
     → (n : ℕ) → v ≡ refusedBy n → ⊥
 report-answers {l = l} {s = s} us h (unfit f) k n q = true-false (stands-sound l s us h) f
 report-answers {o = o} us h (short text f t j) k n q = report-fits {o = o} us h (short text f t j) k refl

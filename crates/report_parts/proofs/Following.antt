@@ -7,9 +7,9 @@ use lib.ListN.{take, drop}
 use Rattle.bytes_order.specs.Order.{same}
 use Rattle.ledger_state.specs.State.{Book}
 use Rattle.ledger_relations.specs.PlaceTests.{idAt}
-use Rattle.ledger_sorting.specs.Pieces.{ins}
+use Rattle.ledger_sorting.specs.PlaceLists.{ins}
 use Rattle.ledger_sorting.proofs.Inserting.{shift}
-use Rattle.report_parts.specs.Board.{after}
+use Rattle.report_parts.specs.PlaceParts.{after}
 
 module _ (l : Book) (s a : List ℕ) (e : ℕ) (xs : List ℕ) (i y : ℕ) (inv : after l s a e xs ≡ take i xs ++ after l s a e (drop i xs)) where
   meets : {b : Bool} → drop i xs ≡ y ∷ drop (i + 1) xs → same (idAt l s y) a ≡ b →

@@ -1,5 +1,5 @@
 -- The marked authors, place by place.
-use Prim.Native.Nat.{ℕ, _+_, _≤_}
+use Prim.Native.Nat.{ℕ, suc, _+_, _≤_}
 use mathlib.Core.Path.{_≡_, refl, sym, ap, _∙_}
 use mathlib.Core.List.{List}
 use mathlib.Core.Bool.{Bool, true, false, _&&_, _||_}
@@ -12,11 +12,12 @@ use Rattle.bytes_order.specs.MemberLaws.{keep-cong}
 use Rattle.bitset.specs.Below.{anyBelow, upTo}
 use Rattle.bitset.specs.Bits.{wordBits, has, includingBelow}
 use Rattle.bitset.specs.BitsLaws.{included, has-including, has-none}
+use Rattle.update_format.specs.Update.{maxAuthor}
 use Rattle.update_fields.specs.Fields.{authorIn}
 use Rattle.ledger_state.specs.State.{Book}
 use Rattle.ledger_relations.specs.PlaceTests.{decodedAt, authorAt, forkedAt}
 use Rattle.ledger_relations.proofs.Testing.{any-more, any-zero, with-true}
-use Rattle.report_parts.specs.Board.{markedAt, marksOf}
+use Rattle.report_parts.specs.PlaceParts.{markedAt, marksOf}
 
 eqb-sym : (a b : ℕ) → eqb a b ≡ eqb b a
 eqb-sym a b = test-ext (eqb a b) (eqb b a) (λ e. eq-eqb b a (sym (eqb-true a b e))) (λ e. eq-eqb a b (sym (eqb-true b a e)))
@@ -26,7 +27,7 @@ module _ (l : Book) (s : List ℕ) where
   abbrev marksAt : ℕ → ℕ → Bool
   marksAt a k = eqb (authorAt l s k) a && forkedAt l s k
 
-  pub author-added : (w k a : ℕ) {b : Bool} {c m : ℕ} → b ≡ forkedAt l s k → b ≡ true → c ≡ authorIn (decodedAt l s k) → c ≤ 15 → m ≡ includingBelow wordBits w c → has m a ≡ has w a || marksAt a k
+  pub author-added : (w k a : ℕ) {b : Bool} {c m : ℕ} → b ≡ forkedAt l s k → b ≡ true → c ≡ authorIn (decodedAt l s k) → c ≤ maxAuthor → m ≡ includingBelow wordBits w c → has m a ≡ has w a || marksAt a k
   unfolding authorAt
   author-added w k a e t f h g =
       ap (λ (x : ℕ). has x a) (g ∙ included wordBits w _ (omega arith))
@@ -51,8 +52,7 @@ module _ (l : Book) (s : List ℕ) where
   unfolding markedAt
   marked-end w k h g i a = let e : k ≡ l .used = omega arith in i a ∙ ap (λ (m : ℕ). anyBelow m (marksAt a)) e
 
-  pub marks-end : (w a : ℕ) → a ≤ 16 → 16 ≤ a → ((a : ℕ) → has w a ≡ markedAt l s a) → keep (has w) (upTo a) ≡ marksOf l s
+  -- the authors of such a set, ascending, are the marks
+  pub marks-are : (w : ℕ) → ((a : ℕ) → has w a ≡ markedAt l s a) → keep (has w) (upTo (suc maxAuthor)) ≡ marksOf l s
   unfolding marksOf
-  marks-end w a h g i =
-      let e : a ≡ 16 = omega arith in
-      ap (λ (m : ℕ). keep (has w) (upTo m)) e ∙ keep-cong (has w) (markedAt l s) (upTo 16) (λ x m. i x)
+  marks-are w e = keep-cong (has w) (markedAt l s) (upTo (suc maxAuthor)) (λ a m. e a)

@@ -14,14 +14,14 @@ use Rattle.bytes_order.specs.Order.{same}
 use Rattle.bytes_order.specs.Member.{keep}
 use Rattle.bytes_order.specs.MemberLaws.{keep-append, keep-length}
 use Rattle.rules.specs.Standing.{beginning}
-use Rattle.ledger_state.specs.State.{Book, placeAt}
-use Rattle.ledger_relations.specs.PlaceTests.{decodedAt, heldAt, rankAt, order}
+use Rattle.ledger_state.specs.State.{places, Book, placeAt}
+use Rattle.ledger_relations.specs.PlaceTests.{decodedAt, heldAt, rankAt, idOrder}
 use Rattle.ledger_relations.specs.Related.{rankedIn}
-use Rattle.report_parts.specs.Board.{insertAt, byRank, after, putBy, put, putAll, entriesOf}
+use Rattle.report_parts.specs.PlaceParts.{insertAt, byRank, after, putBy, putEntry, putAll, entriesOf}
 use Rattle.update_fields.specs.Fields.{anchorIn}
 use Rattle.ledger_sorting.specs.declared.Places.{Places}
-use Rattle.ledger_sorting.specs.Pieces.{placesIn, ins, Sound, Lists}
-use Rattle.report_parts.specs.Ranked.{ranked}
+use Rattle.ledger_sorting.specs.PlaceLists.{placesIn, ins, PlaceList, Lists}
+use Rattle.report_parts.specs.Ranked.{rankedAt}
 use Rattle.ledger_sorting.proofs.Inserting.{renamed}
 use Rattle.ledger_sorting.proofs.Keeping.{keep-no, keep-one}
 
@@ -91,58 +91,58 @@ module _ (p : ℕ → Bool) (f : ℕ → ℕ) (n : ℕ) where
       go false i = i
 
 module _ (l : Book) (s : List ℕ) where
-  pub ranked-is : (k n : ℕ) {b : Bool} → b ≡ rankedIn s n (placeAt l k) k → b ≡ ranked l s n k
-  unfolding ranked
+  pub ranked-is : (k n : ℕ) {b : Bool} → b ≡ rankedIn s n (placeAt l k) k → b ≡ rankedAt l s n k
+  unfolding rankedAt
   ranked-is k n e = e
 
-  by-rank-length : (n : ℕ) → length (byRank l s n) ≡ length (keep (λ (k : ℕ). insertAt l s k && ltb (rankAt l s k) n) (order l s))
+  by-rank-length : (n : ℕ) → length (byRank l s n) ≡ length (keep (λ (k : ℕ). insertAt l s k && ltb (rankAt l s k) n) (idOrder l s))
   unfolding byRank
-  by-rank-length zero = sym (none (insertAt l s) (rankAt l s) 0 refl (order l s))
+  by-rank-length zero = sym (none (insertAt l s) (rankAt l s) 0 refl (idOrder l s))
   by-rank-length (suc n) =
-      length-append (byRank l s n) (keep (λ (k : ℕ). insertAt l s k && eqb (rankAt l s k) n) (order l s))
-      ∙ ap (λ (m : ℕ). m + length (keep (λ (k : ℕ). insertAt l s k && eqb (rankAt l s k) n) (order l s))) (by-rank-length n)
-      ∙ sym (split (insertAt l s) (rankAt l s) n (order l s))
+      length-append (byRank l s n) (keep (λ (k : ℕ). insertAt l s k && eqb (rankAt l s k) n) (idOrder l s))
+      ∙ ap (λ (m : ℕ). m + length (keep (λ (k : ℕ). insertAt l s k && eqb (rankAt l s k) n) (idOrder l s))) (by-rank-length n)
+      ∙ sym (split (insertAt l s) (rankAt l s) n (idOrder l s))
 
-  pub by-rank-most : (n : ℕ) → length (byRank l s n) ≤ length (order l s)
-  by-rank-most n = omega (arith, by-rank-length n, keep-length (λ (k : ℕ). insertAt l s k && ltb (rankAt l s k) n) (order l s))
+  pub by-rank-most : (n : ℕ) → length (byRank l s n) ≤ length (idOrder l s)
+  by-rank-most n = omega (arith, by-rank-length n, keep-length (λ (k : ℕ). insertAt l s k && ltb (rankAt l s k) n) (idOrder l s))
 
-  pub by-rank-more : (n : ℕ) → byRank l s (n + 1) ≡ byRank l s n ++ keep (ranked l s n) (order l s)
-  unfolding byRank insertAt heldAt rankAt ranked
+  pub by-rank-more : (n : ℕ) → byRank l s (n + 1) ≡ byRank l s n ++ keep (rankedAt l s n) (idOrder l s)
+  unfolding byRank insertAt heldAt rankAt rankedAt
   by-rank-more n = ap (byRank l s) (add-one n)
 
   pub put-append : (xs es fs : List ℕ) → putAll l s xs (es ++ fs) ≡ putAll l s (putAll l s xs es) fs
   unfolding putAll
   put-append xs [] fs = refl
-  put-append xs (e ∷ es) fs = put-append (put l s e xs) es fs
+  put-append xs (e ∷ es) fs = put-append (putEntry l s e xs) es fs
 
   -- the room for one more rank
-  pub rank-room : (n : ℕ) (os : List ℕ) → os ≡ order l s → length os ≤ 64 → length (byRank l s n) + length (keep (ranked l s n) os) ≤ 64
+  pub rank-room : (n : ℕ) (os : List ℕ) → os ≡ idOrder l s → length os ≤ places → length (byRank l s n) + length (keep (rankedAt l s n) os) ≤ places
   rank-room n os e h =
-      let f = ap (λ (x : List ℕ). length (keep (ranked l s n) x)) e in
+      let f = ap (λ (x : List ℕ). length (keep (rankedAt l s n) x)) e in
       let g = ap length e in
-      omega (arith, f, g, ap length (by-rank-more n), length-append (byRank l s n) (keep (ranked l s n) (order l s)), by-rank-most (n + 1))
+      omega (arith, f, g, ap length (by-rank-more n), length-append (byRank l s n) (keep (rankedAt l s n) (idOrder l s)), by-rank-most (n + 1))
 
   pub rank-zero : length (byRank l s 0) ≡ 0
   unfolding byRank
   rank-zero = refl
 
-  pub rank-count : (n : ℕ) (os : List ℕ) → os ≡ order l s → length (byRank l s n) + length (keep (ranked l s n) os) ≡ length (byRank l s (n + 1))
+  pub rank-count : (n : ℕ) (os : List ℕ) → os ≡ idOrder l s → length (byRank l s n) + length (keep (rankedAt l s n) os) ≡ length (byRank l s (n + 1))
   rank-count n os e =
-      ap (λ (x : List ℕ). length (byRank l s n) + length (keep (ranked l s n) x)) e
-      ∙ sym (ap length (by-rank-more n) ∙ length-append (byRank l s n) (keep (ranked l s n) (order l s)))
+      ap (λ (x : List ℕ). length (byRank l s n) + length (keep (rankedAt l s n) x)) e
+      ∙ sym (ap length (by-rank-more n) ∙ length-append (byRank l s n) (keep (rankedAt l s n) (idOrder l s)))
 
   pub rank-start : [] ≡ putAll l s [] (byRank l s 0)
   unfolding byRank putAll
   rank-start = refl
 
-  pub rank-next : (n : ℕ) (os xs : List ℕ) → os ≡ order l s → xs ≡ putAll l s [] (byRank l s n) → putAll l s xs (keep (ranked l s n) os) ≡ putAll l s [] (byRank l s (n + 1))
+  pub rank-next : (n : ℕ) (os xs : List ℕ) → os ≡ idOrder l s → xs ≡ putAll l s [] (byRank l s n) → putAll l s xs (keep (rankedAt l s n) os) ≡ putAll l s [] (byRank l s (n + 1))
   rank-next n os xs e f =
-      ap₂ (λ (x o : List ℕ). putAll l s x (keep (ranked l s n) o)) f e
-      ∙ sym (ap (putAll l s []) (by-rank-more n) ∙ put-append [] (byRank l s n) (keep (ranked l s n) (order l s)))
+      ap₂ (λ (x o : List ℕ). putAll l s x (keep (rankedAt l s n) o)) f e
+      ∙ sym (ap (putAll l s []) (by-rank-more n) ∙ put-append [] (byRank l s n) (keep (rankedAt l s n) (idOrder l s)))
 
-  pub rank-end : (n : ℕ) → n ≤ 64 → 64 ≤ n → putAll l s [] (byRank l s n) ≡ entriesOf l s
+  pub rank-end : (n : ℕ) → n ≤ places → places ≤ n → putAll l s [] (byRank l s n) ≡ entriesOf l s
   unfolding entriesOf
-  rank-end n h g = let e : n ≡ 64 = omega arith in ap (λ (m : ℕ). putAll l s [] (byRank l s m)) e
+  rank-end n h g = let e : n ≡ places = omega arith in ap (λ (m : ℕ). putAll l s [] (byRank l s m)) e
 
   -- those of a list from the i-th on that pass
   module _ (q : ℕ → Bool) (xs : List ℕ) (i k : ℕ) (d : drop i xs ≡ k ∷ drop (i + 1) xs) where
@@ -165,7 +165,7 @@ module _ (l : Book) (s : List ℕ) where
   unfolding putAll keep
   put-end q xs all i e = ap (λ (r : List ℕ). putAll l s all (keep q r)) e
 
-  pub put-one : (xs : List ℕ) (k : ℕ) {ks : List ℕ} → k ∷ [] ≡ ks → put l s k xs ≡ putAll l s xs ks
+  pub put-one : (xs : List ℕ) (k : ℕ) {ks : List ℕ} → k ∷ [] ≡ ks → putEntry l s k xs ≡ putAll l s xs ks
   unfolding putAll
   put-one xs k e = ap (putAll l s xs) e
 
@@ -178,21 +178,21 @@ module _ (l : Book) (s : List ℕ) where
     abbrev pub Met : Places → Type 0
     Met es′ = Lists es′ (putAll l s (placesIn es) (keep q (k ∷ []))) × (es′ .count ≡ es .count + length (keep q (k ∷ [])))
 
-    pub met-put : {es′ r : Places} → b ≡ true → Lists r (put l s k (placesIn es)) × (r .count ≡ es .count + 1) → es′ ≡ r → Met es′
+    pub met-put : {es′ r : Places} → b ≡ true → Lists r (putEntry l s k (placesIn es)) × (r .count ≡ es .count + 1) → es′ ≡ r → Met es′
     met-put t h a =
         let f = keep-one q k e t in
         subst Met (sym a) (renamed (put-one (placesIn es) k f) (h .0), omega (arith, h .1, ap length f))
 
-    pub met-left : {es′ : Places} → b ≡ false → Sound es → es′ ≡ es → Met es′
+    pub met-left : {es′ : Places} → b ≡ false → PlaceList es → es′ ≡ es → Met es′
     met-left t h a =
         let f = keep-no q k e t in
         subst Met (sym a) (record { sound = h; are = put-none (placesIn es) f }, omega (arith, ap length f))
 
   -- one entry
-  pub put-first : (k : ℕ) (xs a : List ℕ) {b : Bool} → a ≡ anchorIn (decodedAt l s k) → b ≡ same a beginning → b ≡ true → ins 0 k xs ≡ put l s k xs
-  unfolding put putBy
+  pub put-first : (k : ℕ) (xs a : List ℕ) {b : Bool} → a ≡ anchorIn (decodedAt l s k) → b ≡ same a beginning → b ≡ true → ins 0 k xs ≡ putEntry l s k xs
+  unfolding putEntry putBy
   put-first k xs a e f t = sym (ap (λ (x : List ℕ). cond (same x beginning) (k ∷ xs) (after l s x k xs)) (sym e) ∙ ap (λ (b : Bool). cond b (k ∷ xs) (after l s a k xs)) (sym f ∙ t))
 
-  pub put-after : (k : ℕ) (xs a : List ℕ) {b : Bool} → a ≡ anchorIn (decodedAt l s k) → b ≡ same a beginning → b ≡ false → after l s a k xs ≡ put l s k xs
-  unfolding put putBy
+  pub put-after : (k : ℕ) (xs a : List ℕ) {b : Bool} → a ≡ anchorIn (decodedAt l s k) → b ≡ same a beginning → b ≡ false → after l s a k xs ≡ putEntry l s k xs
+  unfolding putEntry putBy
   put-after k xs a e f t = sym (ap (λ (x : List ℕ). cond (same x beginning) (k ∷ xs) (after l s x k xs)) (sym e) ∙ ap (λ (b : Bool). cond b (k ∷ xs) (after l s a k xs)) (sym f ∙ t))

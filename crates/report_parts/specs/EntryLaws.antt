@@ -16,7 +16,7 @@ use Rattle.update_format.specs.Update.{Id}
 use Rattle.rules.specs.Standing.{beginning}
 use Rattle.rules.specs.TableLaws.{not-true→}
 use Rattle.ledger_relations.specs.PlaceTests.{idAt, decodedAt}
-use Rattle.report_parts.specs.Board.{after, putBy, put, putAll}
+use Rattle.report_parts.specs.PlaceParts.{after, putBy, putEntry, putAll}
 use Rattle.update_fields.specs.Fields.{anchorIn}
 use Rattle.ledger_state.specs.State.{Book}
 
@@ -32,13 +32,13 @@ module _ (l : Book) (s : List ℕ) where
   underAt x a = not (same a beginning) && same a (idAt l s x)
 
   -- the entries whose anchor passes a test
-  unfoldable pub among : List ℕ → (Id → Bool) → List ℕ
-  among O p = keep (λ (k : ℕ). p (anchorAt k)) O
+  unfoldable pub entriesAt : List ℕ → (Id → Bool) → List ℕ
+  entriesAt O p = keep (λ (k : ℕ). p (anchorAt k)) O
 
   -- the walk of siblings, with what hangs under each in the order of O, is the second list
   pub data Walked (O : List ℕ) : List ℕ → List ℕ → Type 0 where
     none : Walked O [] []
-    entry : {e : ℕ} {es below next : List ℕ} → Walked O (among O (underAt e)) below → Walked O es next → Walked O (e ∷ es) (e ∷ (below ++ next))
+    entry : {e : ℕ} {es below next : List ℕ} → Walked O (entriesAt O (underAt e)) below → Walked O es next → Walked O (e ∷ es) (e ∷ (below ++ next))
 
   -- e right after each entry that it hangs under
   under-all : ℕ → List ℕ → List ℕ
@@ -46,15 +46,15 @@ module _ (l : Book) (s : List ℕ) where
 
   -- one more entry, the first of all, with nothing under it
   module _ {O : List ℕ} {e : ℕ} (leaf : (x : ℕ) → x ∈ e ∷ O → underAt e (anchorAt x) ≡ false) where
-    no-child : Walked (e ∷ O) (among (e ∷ O) (underAt e)) []
-    unfolding among
+    no-child : Walked (e ∷ O) (entriesAt (e ∷ O) (underAt e)) []
+    unfolding entriesAt
     no-child = subst (λ (es : List ℕ). Walked (e ∷ O) es []) (sym (keep-none (λ (k : ℕ). underAt e (anchorAt k)) (e ∷ O) leaf)) Walked.none
 
-    first-child : (p : Id → Bool) {w : List ℕ} → Walked (e ∷ O) (among O p) w → Walked (e ∷ O) (among (e ∷ O) p) (cond (p (anchorAt e)) (e ∷ []) [] ++ w)
-    unfolding among keep
+    first-child : (p : Id → Bool) {w : List ℕ} → Walked (e ∷ O) (entriesAt O p) w → Walked (e ∷ O) (entriesAt (e ∷ O) p) (cond (p (anchorAt e)) (e ∷ []) [] ++ w)
+    unfolding entriesAt keep
     first-child p {w} h = step (p (anchorAt e))
       where
-        step : (c : Bool) → Walked (e ∷ O) (cond c (e ∷ among O p) (among O p)) (cond c (e ∷ []) [] ++ w)
+        step : (c : Bool) → Walked (e ∷ O) (cond c (e ∷ entriesAt O p) (entriesAt O p)) (cond c (e ∷ []) [] ++ w)
         step true = Walked.entry no-child h
         step false = h
 
@@ -145,7 +145,7 @@ module _ (l : Book) (s : List ℕ) where
 
   -- the entries O, put so far, and their walk w
   pub record Put (O w : List ℕ) : Type 0 where
-    pub walked : Walked O (among O atStart) w
+    pub walked : Walked O (entriesAt O atStart) w
     pub forth : (x : ℕ) → x ∈ w → x ∈ O
     pub back : (x : ℕ) → x ∈ O → x ∈ w
     pub once : Distinct (idAt l s) w
@@ -153,11 +153,11 @@ module _ (l : Book) (s : List ℕ) where
   put-one : {O w : List ℕ} {e : ℕ} → Put O w → ((x : ℕ) → x ∈ e ∷ O → underAt e (anchorAt x) ≡ false)
       → ((x : ℕ) → x ∈ O → idAt l s e ≡ idAt l s x → ⊥)
       → (same (anchorAt e) beginning ≡ false → (q : ℕ) × (q ∈ O) × (idAt l s q ≡ anchorAt e))
-      → Put (e ∷ O) (put l s e w)
-  unfolding put putBy atStart underAt
+      → Put (e ∷ O) (putEntry l s e w)
+  unfolding putEntry putBy atStart underAt
   put-one {O} {w} {e} h leaf fresh parent = step (same (anchorAt e) beginning) refl
     where
-      more : Walked (e ∷ O) (among (e ∷ O) atStart) (cond (same (anchorAt e) beginning) (e ∷ []) [] ++ under-all e w)
+      more : Walked (e ∷ O) (entriesAt (e ∷ O) atStart) (cond (same (anchorAt e) beginning) (e ∷ []) [] ++ under-all e w)
       more = first-child leaf atStart (walked-more leaf (h .walked))
 
       both : {x : ℕ} → x ∈ e ∷ w → x ∈ e ∷ O
@@ -171,7 +171,7 @@ module _ (l : Book) (s : List ℕ) where
 
       step : (b : Bool) → same (anchorAt e) beginning ≡ b → Put (e ∷ O) (cond b (e ∷ w) (after l s (anchorAt e) e w))
       step true q = record {
-        walked = subst (Walked (e ∷ O) (among (e ∷ O) atStart))
+        walked = subst (Walked (e ∷ O) (entriesAt (e ∷ O) atStart))
             (λ i. cond (q i) (e ∷ []) [] ++ under-none e w (λ x m. ap (λ (b : Bool). not b && same (anchorAt e) (idAt l s x)) q) i) more;
         forth = λ x m. both m;
         back = λ x m. back′ m;
@@ -180,7 +180,7 @@ module _ (l : Book) (s : List ℕ) where
       step false q =
           let f = parent q in
           record {
-            walked = subst (Walked (e ∷ O) (among (e ∷ O) atStart))
+            walked = subst (Walked (e ∷ O) (entriesAt (e ∷ O) atStart))
                 (λ i. cond (q i) (e ∷ []) [] ++ sym (after-under e q (h .once) (f .0) (h .back (f .0) (f .1)) (f .2)) i) more;
             forth = λ x m. both (⊎-elim (λ (r : x ≡ e). List·Memᴰ·head r) (λ (k : x ∈ w). List·Memᴰ·tail k) (after-∈ (anchorAt e) e w m));
             back = λ x m. ∈-after (anchorAt e) e w (back′ m);
@@ -215,7 +215,7 @@ module _ (l : Book) (s : List ℕ) where
       to-come : (x : ℕ) → x ∈ es → x ∈ All
       all-in : (x : ℕ) → x ∈ All → (x ∈ O) ⊎ (x ∈ es)
 
-    next : {O es w : List ℕ} {e : ℕ} → ((y : ℕ) → y ∈ es → before (key e) (key y) ≡ true) → Between O (e ∷ es) w → Between (e ∷ O) es (put l s e w)
+    next : {O es w : List ℕ} {e : ℕ} → ((y : ℕ) → y ∈ es → before (key e) (key y) ≡ true) → Between O (e ∷ es) w → Between (e ∷ O) es (putEntry l s e w)
     unfolding underAt
     next {O} {es} {w} {e} smallest b = record {
       is-put = put-one (b .is-put) leaf (λ x m q. before→ne (key x) (key e) (larger x m) (ap key (sym (rooted .apart e x e-in (b .only x m) q)))) parent;
@@ -272,7 +272,7 @@ module _ (l : Book) (s : List ℕ) where
     run (ascending-cons h d) b = run d (next h b)
 
     pub put-all : Ascending key All → IsWalk key All (putAll l s [] All)
-    unfolding among keep
+    unfolding entriesAt keep
     put-all d = run d (record {
       is-put = record { walked = Walked.none; forth = λ x m. m; back = λ x m. m; once = distinct-nil };
       descending = descending-nil;

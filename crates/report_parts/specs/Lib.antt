@@ -1,6 +1,6 @@
-pub mod Board
+pub mod PlaceParts
 pub mod Ranked
 pub mod ListFacts
-pub mod BoardLaws
+pub mod PlacePartsLaws
 pub mod EntryLaws
 pub mod ListedLaws

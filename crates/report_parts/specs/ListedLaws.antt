@@ -19,8 +19,8 @@ use Rattle.bytes_order.specs.DistinctLaws.{distinct-keep, distinct-keys}
 use Rattle.bytes_order.specs.SortLaws.{ascending-keep, ascending-append, ascending-rekey}
 use Rattle.update_format.specs.Update.{Id, Operation, Insert, Delete, Update}
 use Rattle.rules.specs.Standing.{beginning, Ancestor, Held, Valid, InsertAncestor}
-use Rattle.rules.specs.ReadOff.{Deleted, Rank, InsertAt, Sooner, Ordered, Siblings, First, Under, Walk, Shown, Listed}
-use Rattle.rules.specs.Settle.{isInsert, deletes, valuesOf, list, settled}
+use Rattle.rules.specs.ReadOff.{Deleted, Rank, InsertAt, Sooner, Ordered, Siblings, AtBeginning, Under, Walk, Shown, Listed}
+use Rattle.rules.specs.Settle.{isInsert, deletes, valuesOf, list, settledTable}
 use Rattle.rules.specs.LeastSets.{ancestor-stored, ancestor-trans, held-stored, held-ancestors, held-acyclic}
 use Rattle.rules.specs.TableLaws.{deletes→, →deletes, held-fine, not-true→}
 use Rattle.rules.specs.SettlingTable.{isInsert→}
@@ -33,11 +33,11 @@ use Rattle.bitset.specs.BitsLaws.{within→lt, count-within, count-lt}
 use Rattle.ledger_state.specs.State.{places, Book, placeAt}
 use Rattle.update_fields.specs.Fields.{testOf, anchorOf, anchorIn, valueIn}
 use Rattle.ledger_state.specs.Stands.{ident, updateAt, Stands}
-use Rattle.ledger_relations.specs.PlaceTests.{idAt, decodedAt, heldAt, deletedAt, shownAt, order, rankAt}
-use Rattle.report_parts.specs.Board.{insertAt, byRank, entriesOf, valueAt}
+use Rattle.ledger_relations.specs.PlaceTests.{idAt, decodedAt, heldAt, deletedAt, shownAt, idOrder, rankAt}
+use Rattle.report_parts.specs.PlaceParts.{insertAt, byRank, entriesOf, valueAt}
 use Rattle.ledger_relations.specs.PlaceLaws.{from-used, to-used, place-of, place-id, same-place, places-distinct, place-decoded, place-test, held-at→, →held-at, above-at→, →above-at}
 use Rattle.ledger_relations.specs.RowLaws.{order-∈, ∈-order, order-ascending}
-use Rattle.report_parts.specs.EntryLaws.{anchorAt, atStart, underAt, among, Walked, Descending, descending-nil, descending-cons, Rooted, IsWalk, put-all}
+use Rattle.report_parts.specs.EntryLaws.{anchorAt, atStart, underAt, entriesAt, Walked, Descending, descending-nil, descending-cons, Rooted, IsWalk, put-all}
 
 module _ {l : Book} {s : List ℕ} {us : List Update} (stands : Stands l s us) where
   -- ranks
@@ -149,8 +149,8 @@ module _ {l : Book} {s : List ℕ} {us : List Update} (stands : Stands l s us) w
   by-rank-∈ (suc n) {k} m =
       ⊎-elim
       (λ (i : k ∈ byRank l s n). let f = by-rank-∈ n i in (f .0, omega (arith, f .1)))
-      (λ (i : k ∈ keep (of-rank n) (order l s)).
-      let f = keep-∈ (of-rank n) (order l s) i in
+      (λ (i : k ∈ keep (of-rank n) (idOrder l s)).
+      let f = keep-∈ (of-rank n) (idOrder l s) i in
       let g = and-true→ (insertAt l s k) (eqb (rankAt l s k) n) (f .1) in
       let q : rankAt l s k ≡ n = eqb-true (rankAt l s k) n (g .1) in
       (insert-at→ (order-∈ stands (f .0)) (g .0), omega arith))
@@ -163,12 +163,12 @@ module _ {l : Book} {s : List ℕ} {us : List Update} (stands : Stands l s us) w
       ⊎-elim
       (λ (q : rankAt l s k ≡ n). ∈-append-right (byRank l s n)
       (∈-keep (of-rank n) (∈-order stands (f .taken)) (and-true (insertAt l s k) (eqb (rankAt l s k) n) (→insert-at f) (eq-eqb (rankAt l s k) n q))))
-      (λ (i : rankAt l s k < n). ∈-append-left (keep (of-rank n) (order l s)) (∈-by-rank n f i))
+      (λ (i : rankAt l s k < n). ∈-append-left (keep (of-rank n) (idOrder l s)) (∈-by-rank n f i))
       (eq-or-lt-of-le (le-of-suc-le-suc h))
 
-  rank-of : (n : ℕ) {k : ℕ} → k ∈ keep (of-rank n) (order l s) → rankAt l s k ≡ n
+  rank-of : (n : ℕ) {k : ℕ} → k ∈ keep (of-rank n) (idOrder l s) → rankAt l s k ≡ n
   unfolding of-rank
-  rank-of n {k} m = eqb-true (rankAt l s k) n (and-true→ (insertAt l s k) (eqb (rankAt l s k) n) (keep-∈ (of-rank n) (order l s) m .1) .1)
+  rank-of n {k} m = eqb-true (rankAt l s k) n (and-true→ (insertAt l s k) (eqb (rankAt l s k) n) (keep-∈ (of-rank n) (idOrder l s) m .1) .1)
 
   by-rank-ascending : (n : ℕ) → Ascending key (byRank l s n)
   unfolding byRank of-rank
@@ -247,13 +247,13 @@ module _ {l : Book} {s : List ℕ} {us : List Update} (stands : Stands l s us) w
   in-O : {k : ℕ} → k ∈ O → EntryAt k
   in-O {k} m = entry-at (walk-of .only k m)
 
-  among-∈ : (p : Id → Bool) {k : ℕ} → k ∈ among l s O p → EntryAt k × (p (anchorAt l s k) ≡ true)
-  unfolding among
+  among-∈ : (p : Id → Bool) {k : ℕ} → k ∈ entriesAt l s O p → EntryAt k × (p (anchorAt l s k) ≡ true)
+  unfolding entriesAt
   among-∈ p m = let f = keep-∈ (λ (k : ℕ). p (anchorAt l s k)) O m in (in-O (f .0), f .1)
 
   siblings-right : (p : Id → Bool) (At : Update → Type 0) → ((u : Update) → At u → (a : Id) × InsertAt ident us a u × (p a ≡ true))
-      → ((a : Id) (u : Update) → InsertAt ident us a u → p a ≡ true → At u) → Siblings ident us At (updates (among l s O p))
-  unfolding among
+      → ((a : Id) (u : Update) → InsertAt ident us a u → p a ≡ true → At u) → Siblings ident us At (updates (entriesAt l s O p))
+  unfolding entriesAt
   siblings-right p At to from = record {
     ordered = ordered (λ (k : ℕ). p (anchorAt l s k)) (walk-of .descending) (λ k m. in-O m);
     all-in = λ u h.
@@ -262,18 +262,18 @@ module _ {l : Book} {s : List ℕ} {us : List Update} (stands : Stands l s us) w
         ∈-cast (sym (f .2))
         (∈-map (updateAt us) (∈-keep (λ (k : ℕ). p (anchorAt l s k)) (walk-of .all-in (f .0) (at-entry (f .1))) (ap p (entry-anchor (f .1) ∙ f .3) ∙ t .2)));
     only = λ u m.
-        let f = map-∈ (updateAt us) (among l s O p) m in
+        let f = map-∈ (updateAt us) (entriesAt l s O p) m in
         let g = among-∈ p (f .1) in
         subst At (f .2) (from (g .0 .anchor) (updateAt us (f .0)) (entry-insert (g .0)) (ap p (sym (entry-anchor (g .0))) ∙ g .1));
   }
 
-  first-right : Siblings ident us (First ident us) (updates (among l s O (atStart l s)))
+  first-right : Siblings ident us (AtBeginning ident us) (updates (entriesAt l s O (atStart l s)))
   unfolding atStart
   first-right =
-      siblings-right (atStart l s) (First ident us) (λ u h. (beginning, h, eq→same beginning beginning refl))
+      siblings-right (atStart l s) (AtBeginning ident us) (λ u h. (beginning, h, eq→same beginning beginning refl))
       (λ a u h e. subst (λ (b : Id). InsertAt ident us b u) (same→eq a beginning e) h)
 
-  under-right : {e : ℕ} → EntryAt e → Siblings ident us (Under ident us (updateAt us e)) (updates (among l s O (underAt l s e)))
+  under-right : {e : ℕ} → EntryAt e → Siblings ident us (Under ident us (updateAt us e)) (updates (entriesAt l s O (underAt l s e)))
   unfolding underAt
   under-right {e} f =
       let i : idAt l s e ≡ ident (updateAt us e) = place-id stands (f .taken) in
@@ -338,14 +338,14 @@ module _ {l : Book} {s : List ℕ} {us : List Update} (stands : Stands l s us) w
 
   listed : Listed ident us (map (valueAt l s) (keep (shownAt l s) (entriesOf l s)))
   listed = record {
-    first = updates (among l s O (atStart l s));
+    first = updates (entriesAt l s O (atStart l s));
     walk = updates (entriesOf l s);
     siblings = first-right;
     walked = walk-right (walk-of .is-put .walked) (λ k m. among-∈ (atStart l s) m .0);
     shows = shown-right (entriesOf l s) (λ k m. in-O (walk-of .is-put .forth k m));
   }
 
-  pub values-agree : map (valueAt l s) (keep (shownAt l s) (entriesOf l s)) ≡ list (settled ident us)
+  pub values-agree : map (valueAt l s) (keep (shownAt l s) (entriesOf l s)) ≡ list (settledTable ident us)
   values-agree =
       let distinct = stands .holds .distinct in
-      listed-unique ident us distinct listed (list-right ident us (settled ident us) distinct (settled-decides ident us distinct))
+      listed-unique ident us distinct listed (list-right ident us (settledTable ident us) distinct (settled-decides ident us distinct))

@@ -6,15 +6,16 @@ use mathlib.Core.Bool.{Bool, not, _&&_}
 use lib.ListN.{length}
 use Rattle.bytes_order.specs.Member.{keep, concatMap}
 use Rattle.update_format.specs.Update.{Update}
-use Rattle.rules.specs.Settle.{Row, Table, isHeld, isWaiting, isVoid, heldRow, covered, heads, settled, updatesIn, partsIn, partsOf}
-use Rattle.rules.specs.Report.{ascii, hex, decimal, updateLine, idLine, bytesLine}
+use Rattle.rules.specs.Settle.{Row, Table, isHeld, isWaiting, isVoid, heldRow, covered, heads, settledTable, updatesIn, partsIn, partsOf}
+use Rattle.bytes_ascii.specs.Ascii.{ascii, hex, decimal}
+use Rattle.rules.specs.Report.{updateLine, idLine, bytesLine}
 use Rattle.ledger_state.specs.Stands.{ident, Stands}
 use Rattle.ledger_state.specs.State.{Book}
-use Rattle.ledger_relations.specs.PlaceTests.{idAt, heldAt, waitingAt, voidAt, headAt, shownAt, order}
-use Rattle.report_parts.specs.Board.{tagAt, tagOrder, entriesOf, valueAt}
+use Rattle.ledger_relations.specs.PlaceTests.{idAt, heldAt, waitingAt, voidAt, headAt, shownAt, idOrder}
+use Rattle.report_parts.specs.PlaceParts.{tagAt, tagOrder, entriesOf, valueAt}
 use Rattle.report_text.specs.Text.{updateLineAt}
 use Rattle.report_parts.specs.ListFacts.{concatMap-map, concatMap-keep-map}
-use Rattle.report_parts.specs.BoardLaws.{tags-agree}
+use Rattle.report_parts.specs.PlacePartsLaws.{tags-agree}
 use Rattle.report_parts.specs.ListedLaws.{values-agree}
 use Rattle.ledger_relations.specs.RowLaws.{rowAt, update-id, order-∈, table-rows, held-agrees, waiting-agrees, void-agrees, author-agrees, head-agrees}
 
@@ -22,32 +23,32 @@ module _ {l : Book} {s : List ℕ} {us : List Update} (stands : Stands l s us) w
   -- the lines of the updates whose rows pass a test
   lines-agree : (line : Update → List ℕ) (p : Row → Bool) (line′ : ℕ → List ℕ) (p′ : ℕ → Bool)
       → ((k : ℕ) → k < length us → line (rowAt us k .update) ≡ line′ k) → ((k : ℕ) → k < length us → p (rowAt us k) ≡ p′ k)
-      → concatMap line′ (keep p′ (order l s)) ≡ concatMap line (updatesIn (keep p (settled ident us)))
+      → concatMap line′ (keep p′ (idOrder l s)) ≡ concatMap line (updatesIn (keep p (settledTable ident us)))
   lines-agree line p line′ p′ h g =
-      sym (concatMap-map line (λ (r : Row). r .update) (keep p (settled ident us))
+      sym (concatMap-map line (λ (r : Row). r .update) (keep p (settledTable ident us))
       ∙ ap (λ (T : Table). concatMap (λ (r : Row). line (r .update)) (keep p T)) (table-rows stands)
-      ∙ concatMap-keep-map (λ (r : Row). line (r .update)) p (rowAt us) line′ p′ (order l s) (λ k m. g k (order-∈ stands m)) (λ k m. h k (order-∈ stands m)))
+      ∙ concatMap-keep-map (λ (r : Row). line (r .update)) p (rowAt us) line′ p′ (idOrder l s) (λ k m. g k (order-∈ stands m)) (λ k m. h k (order-∈ stands m)))
 
   update-line : (k : ℕ) → k < length us → updateLine ident (rowAt us k .update) ≡ updateLineAt l s k
   unfolding updateLine updateLineAt
   update-line k h = λ i. ascii "(" ++ (hex (update-id stands h i) ++ (ascii " " ++ (decimal (author-agrees stands h i) ++ ascii ")\n")))
 
-  pub held-part : concatMap (updateLineAt l s) (keep (heldAt l s) (order l s)) ≡ concatMap (updateLine ident) (partsOf ident us .held)
+  pub held-part : concatMap (updateLineAt l s) (keep (heldAt l s) (idOrder l s)) ≡ concatMap (updateLine ident) (partsOf ident us .held)
   unfolding partsOf partsIn heldRow
   held-part = lines-agree (updateLine ident) (λ (r : Row). isHeld (r .verdict)) (updateLineAt l s) (heldAt l s) update-line (held-agrees stands)
 
-  pub waiting-part : concatMap (updateLineAt l s) (keep (waitingAt l s) (order l s)) ≡ concatMap (updateLine ident) (partsOf ident us .waiting)
+  pub waiting-part : concatMap (updateLineAt l s) (keep (waitingAt l s) (idOrder l s)) ≡ concatMap (updateLine ident) (partsOf ident us .waiting)
   unfolding partsOf partsIn
   waiting-part = lines-agree (updateLine ident) (λ (r : Row). isWaiting (r .verdict)) (updateLineAt l s) (waitingAt l s) update-line (waiting-agrees stands)
 
-  pub void-part : concatMap (updateLineAt l s) (keep (voidAt l s) (order l s)) ≡ concatMap (updateLine ident) (partsOf ident us .void)
+  pub void-part : concatMap (updateLineAt l s) (keep (voidAt l s) (idOrder l s)) ≡ concatMap (updateLine ident) (partsOf ident us .void)
   unfolding partsOf partsIn
   void-part = lines-agree (updateLine ident) (λ (r : Row). isVoid (r .verdict)) (updateLineAt l s) (voidAt l s) update-line (void-agrees stands)
 
-  pub heads-part : concatMap (λ (k : ℕ). bytesLine (idAt l s k)) (keep (headAt l s) (order l s)) ≡ concatMap (idLine ident) (partsOf ident us .heads)
+  pub heads-part : concatMap (λ (k : ℕ). bytesLine (idAt l s k)) (keep (headAt l s) (idOrder l s)) ≡ concatMap (idLine ident) (partsOf ident us .heads)
   unfolding partsOf partsIn heads idLine
   heads-part =
-      lines-agree (idLine ident) (λ (r : Row). heldRow r && not (covered (settled ident us) r)) (λ (k : ℕ). bytesLine (idAt l s k)) (headAt l s)
+      lines-agree (idLine ident) (λ (r : Row). heldRow r && not (covered (settledTable ident us) r)) (λ (k : ℕ). bytesLine (idAt l s k)) (headAt l s)
       (λ k h. ap bytesLine (update-id stands h)) (head-agrees stands)
 
   pub set-part : concatMap (λ (k : ℕ). bytesLine (tagAt l s k)) (tagOrder l s) ≡ concatMap bytesLine (partsOf ident us .set)

@@ -1,46 +1,98 @@
--- The parts of the report by cases: which places have a line in one, and the line.
-use Prim.Native.Nat.{ℕ}
+-- The parts of the report by cases: which places have a line in one, and the line; and the part of the marks.
+use Prim.Native.Nat.{ℕ, suc, _+_, _*_, _≤_, _<_}
 use mathlib.Core.List.{List, _++_}
 use mathlib.Core.Bool.{Bool, true}
 use Rattle.bytes_order.specs.Member.{keep, concatMap}
-use Rattle.rules.specs.Report.{ascii, bytesLine, markLine}
-use Rattle.ledger_state.specs.State.{Book}
-use Rattle.ledger_relations.specs.PlaceTests.{idAt, heldAt, waitingAt, voidAt, headAt, shownAt, order}
-use Rattle.report_parts.specs.Board.{marksOf, tagAt, tagOrder, entriesOf, valueAt}
+use Rattle.bytes_ascii.specs.Ascii.{ascii}
+use Rattle.update_format.specs.Update.{maxAuthor}
+use Rattle.bitset.specs.Below.{upTo}
+use Rattle.bitset.specs.Bits.{has}
+use Rattle.rules.specs.Report.{bytesLine, markLine}
+use Rattle.ledger_state.specs.State.{places, Book}
+use Rattle.ledger_relations.specs.PlaceTests.{idAt, heldAt, waitingAt, voidAt, headAt, shownAt, idOrder}
+use Rattle.report_parts.specs.PlaceParts.{marksOf, tagAt, tagOrder, entriesOf, valueAt}
 use Rattle.report_wording.specs.declared.Part.{Part}
-use Rattle.report_wording.specs.declared.Part.the-variants.{Held, Heads, Waiting, Void, Marks, Set, List as Entries}
-use Rattle.report_wording.specs.Lines.{wordOf}
+use Rattle.report_wording.specs.declared.Part.the-variants.{Held, Heads, Waiting, Void, Set, List as Entries}
+use Rattle.report_wording.specs.Lines.{maxReportLine, wordOf}
 use Rattle.report_text.specs.Text.{updateLineAt}
+use Rattle.ledger_state.specs.Bounds.{PlaceIn}
+use Rattle.bytes_print.specs.Page.{farthest}
+use Rattle.ledger_sorting.specs.declared.Places.{Places}
+use Rattle.ledger_sorting.specs.PlaceLists.{PlaceList, InOrder}
+
+-- the authors in the set w, ascending
+abbrev pub authorsIn : ℕ → List ℕ
+authorsIn w = keep (has w) (upTo (suc maxAuthor))
+
+-- the part of the marks: its word, a line for each of these authors, the closing bracket
+unfoldable pub marksPart : List ℕ → List ℕ
+marksPart authors = ascii "(marks\n" ++ (concatMap markLine authors ++ ascii ")\n")
+
+-- what bounds the bytes of the lines of a part, one for each place; of a part, with its word and its closing bracket; of the heading and the first four parts
+abbrev pub maxLines : ℕ
+maxLines = places * maxReportLine
+
+abbrev pub maxPart : ℕ
+maxPart = maxLines + maxReportLine
+
+abbrev pub maxStandings : ℕ
+maxStandings = maxReportLine + 4 * maxPart
+
+-- .. of the lines of the marks, one for each author, and of their part
+abbrev pub maxMarkLines : ℕ
+maxMarkLines = suc maxAuthor * maxReportLine
+
+abbrev pub maxMarksPart : ℕ
+maxMarksPart = maxMarkLines + maxReportLine
+
+-- the page has room for a line at byte `at`, and k is a place
+pub record LineAt (at k : ℕ) : Type 0 where
+  pub line-within : at + maxReportLine ≤ farthest
+  pub place-within : k < places
+
+-- .. of the bookkeeping
+pub record ShownLine (l : Book) (at k : ℕ) : Type 0 where
+  pub place-in : PlaceIn l k
+  pub line-within : at + maxReportLine ≤ farthest
+
+-- the page has room for n bytes at byte `at`, for what is printed of the places of a list
+pub record ListOnPage (l : Book) (o : Places) (at n : ℕ) : Type 0 where
+  pub used-within : l .used ≤ places
+  pub sound : PlaceList o
+  pub page-within : at + n ≤ farthest
+
+-- the list has the places in their order, and the parts that go by standing end at byte `at`
+pub record StandingsEnd (l : Book) (s : List ℕ) (o : Places) (at : ℕ) : Type 0 where
+  pub in-order : InOrder l s o
+  pub at-within : at ≤ maxStandings
 
 module _ (l : Book) (s : List ℕ) where
-  abbrev pub passes : Part → ℕ → Bool
-  passes Held k = heldAt l s k
-  passes Heads k = headAt l s k
-  passes Waiting k = waitingAt l s k
-  passes Void k = voidAt l s k
-  passes Marks k = true
-  passes Set k = true
-  passes Entries k = shownAt l s k
+  abbrev pub listedIn : Part → ℕ → Bool
+  listedIn Held k = heldAt l s k
+  listedIn Heads k = headAt l s k
+  listedIn Waiting k = waitingAt l s k
+  listedIn Void k = voidAt l s k
+  listedIn Set k = true
+  listedIn Entries k = shownAt l s k
 
   abbrev pub lineOf : Part → ℕ → List ℕ
   lineOf Held k = updateLineAt l s k
   lineOf Heads k = bytesLine (idAt l s k)
   lineOf Waiting k = updateLineAt l s k
   lineOf Void k = updateLineAt l s k
-  lineOf Marks k = markLine k
   lineOf Set k = bytesLine (tagAt l s k)
   lineOf Entries k = bytesLine (valueAt l s k)
 
-  unfoldable pub linesOf : Part → List ℕ → List ℕ
-  linesOf p xs = concatMap (lineOf p) (keep (passes p) xs)
+  unfoldable pub partLines : Part → List ℕ → List ℕ
+  partLines p xs = concatMap (lineOf p) (keep (listedIn p) xs)
 
   unfoldable pub partOf : Part → List ℕ → List ℕ
-  partOf p xs = wordOf p ++ (linesOf p xs ++ ascii ")\n")
+  partOf p xs = wordOf p ++ (partLines p xs ++ ascii ")\n")
 
   unfoldable pub standings : List ℕ
   standings =
       ascii "(ledger 1\n"
-      ++ (partOf Held (order l s) ++ (partOf Heads (order l s) ++ (partOf Waiting (order l s) ++ partOf Void (order l s))))
+      ++ (partOf Held (idOrder l s) ++ (partOf Heads (idOrder l s) ++ (partOf Waiting (idOrder l s) ++ partOf Void (idOrder l s))))
 
   unfoldable pub readOffs : List ℕ
-  readOffs = partOf Marks (marksOf l s) ++ (partOf Set (tagOrder l s) ++ (partOf Entries (entriesOf l s) ++ ascii ")\n"))
+  readOffs = marksPart (marksOf l s) ++ (partOf Set (tagOrder l s) ++ (partOf Entries (entriesOf l s) ++ ascii ")\n"))

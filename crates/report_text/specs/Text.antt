@@ -2,23 +2,24 @@
 use Prim.Native.Nat.{ℕ}
 use mathlib.Core.List.{List, _++_}
 use Rattle.bytes_order.specs.Member.{keep}
-use Rattle.rules.specs.Report.{ascii, hex, decimal, bytesLine, markLine, part}
+use Rattle.bytes_ascii.specs.Ascii.{ascii}
+use Rattle.rules.specs.Report.{authorLine, bytesLine, markLine, partText}
 use Rattle.ledger_state.specs.State.{Book}
-use Rattle.ledger_relations.specs.PlaceTests.{idAt, authorAt, heldAt, waitingAt, voidAt, headAt, shownAt, order}
-use Rattle.report_parts.specs.Board.{marksOf, tagOrder, tagAt, entriesOf, valueAt}
+use Rattle.ledger_relations.specs.PlaceTests.{idAt, authorAt, heldAt, waitingAt, voidAt, headAt, shownAt, idOrder}
+use Rattle.report_parts.specs.PlaceParts.{marksOf, tagOrder, tagAt, entriesOf, valueAt}
 
 module _ (l : Book) (s : List ℕ) where
   unfoldable pub updateLineAt : ℕ → List ℕ
-  updateLineAt k = ascii "(" ++ (hex (idAt l s k) ++ (ascii " " ++ (decimal (authorAt l s k) ++ ascii ")\n")))
+  updateLineAt k = authorLine (idAt l s k) (authorAt l s k)
 
   unfoldable pub textOf : List ℕ
   textOf =
       ascii "(ledger 1\n"
-      ++ part "(held\n" updateLineAt (keep (heldAt l s) (order l s))
-      (part "(heads\n" (λ (k : ℕ). bytesLine (idAt l s k)) (keep (headAt l s) (order l s))
-      (part "(waiting\n" updateLineAt (keep (waitingAt l s) (order l s))
-      (part "(void\n" updateLineAt (keep (voidAt l s) (order l s))
-      (part "(marks\n" markLine (marksOf l s)
-      (part "(set\n" (λ (k : ℕ). bytesLine (tagAt l s k)) (tagOrder l s)
-      (part "(list\n" (λ (k : ℕ). bytesLine (valueAt l s k)) (keep (shownAt l s) (entriesOf l s))
+      ++ partText "(held\n" updateLineAt (keep (heldAt l s) (idOrder l s))
+      (partText "(heads\n" (λ (k : ℕ). bytesLine (idAt l s k)) (keep (headAt l s) (idOrder l s))
+      (partText "(waiting\n" updateLineAt (keep (waitingAt l s) (idOrder l s))
+      (partText "(void\n" updateLineAt (keep (voidAt l s) (idOrder l s))
+      (partText "(marks\n" markLine (marksOf l s)
+      (partText "(set\n" (λ (k : ℕ). bytesLine (tagAt l s k)) (tagOrder l s)
+      (partText "(list\n" (λ (k : ℕ). bytesLine (valueAt l s k)) (keep (shownAt l s) (entriesOf l s))
       (ascii ")\n")))))))

@@ -6,11 +6,12 @@ use Prim.Native.String.{String}
 use Rattle.update_format.specs.Update.{Update}
 use Rattle.bytes_order.specs.Member.{concatMap}
 use Rattle.rules.specs.Settle.{partsIn, partsOf}
-use Rattle.rules.specs.Report.{ascii, markLine, part, reportText, reportOf}
+use Rattle.bytes_ascii.specs.Ascii.{ascii}
+use Rattle.rules.specs.Report.{markLine, partText, reportText, reportOf}
 use Rattle.ledger_state.specs.Stands.{ident, Stands}
 use Rattle.ledger_state.specs.State.{Book}
 use Rattle.report_text.specs.Text.{textOf}
-use Rattle.report_parts.specs.BoardLaws.{marks-part}
+use Rattle.report_parts.specs.PlacePartsLaws.{marks-part}
 use Rattle.report_text.specs.PartLaws.{held-part, heads-part, waiting-part, void-part, set-part, list-part}
 
 -- one part, by its lines
@@ -18,7 +19,7 @@ abbrev partOf : String → List ℕ → List ℕ → List ℕ
 partOf word lines rest = ascii word ++ (lines ++ (ascii ")\n" ++ rest))
 
 pub text-right : (l : Book) (s : List ℕ) (us : List Update) → Stands l s us → textOf l s ≡ reportOf ident us
-unfolding textOf part reportOf reportText partsOf partsIn
+unfolding textOf partText reportOf reportText partsOf partsIn
 text-right l s us stands =
     λ i.
     ascii "(ledger 1\n"

@@ -1,12 +1,13 @@
 // The report of a ledger and its store, printed on a page that the caller lends.
 ghost use Prim.Native.Nat.{_≤_};
+ghost use Rattle.ledger_state.specs.State.{places};
 ghost use Rattle.ledger_state.specs.View.{bookOf};
 ghost use Rattle.report_text.specs.Text.{textOf};
 ghost use Rattle.bytes_print.specs.Page.{Prints};
-ghost use Rattle.ledger_sorting.specs.Pieces.{Lists};
-ghost use Rattle.report_text.specs.Parts.{standings, readOffs};
-ghost use Rattle.ledger_relations.specs.PlaceTests.{order as orderOf};
+ghost use Rattle.ledger_sorting.specs.PlaceLists.{InOrder};
+ghost use Rattle.report_text.specs.Parts.{maxStandings, StandingsEnd, standings, readOffs};
 
+mod marks;
 mod parts;
 
 use bytes_print::put;
@@ -15,14 +16,14 @@ use ledger_sorting::Places;
 use ledger_sorting::sorted;
 use ledger_state::Ledger;
 use report_parts::list;
-use report_parts::marks;
+use report_parts::marks::marked;
 use report_wording::Part;
 
 // The parts that go by standing.
 fn print_standings(l: Ledger, store: &[u8], order: Places, page: &mut [u8]) -> usize
-    requires { ⌜ (bookOf l .used ≤ 64) × Lists order (orderOf (bookOf l) (now store)) ⌝ }
+    requires { ⌜ InOrder (bookOf l) (now store) order ⌝ }
     ensures prints { λ r. ⌜ Prints (now (page .entry)) 0 (standings (bookOf l) (now (store .entry))) (now (page .exit)) r ⌝ }
-    ensures small { λ r. ⌜ r ≤ 30000 ⌝ }
+    ensures small { λ r. ⌜ r ≤ maxStandings ⌝ }
 {
     let start = put(page, 0, b"(ledger 1\n");
     let held = parts::print(l, store, Part::Held, order, page, start);
@@ -33,11 +34,10 @@ fn print_standings(l: Ledger, store: &[u8], order: Places, page: &mut [u8]) -> u
 
 // The parts that are read from the held updates, and the closing bracket.
 fn print_read_offs(l: Ledger, store: &[u8], order: Places, page: &mut [u8], at: usize) -> usize
-    requires { ⌜ (bookOf l .used ≤ 64) × Lists order (orderOf (bookOf l) (now store)) × (at ≤ 30000) ⌝ }
+    requires { ⌜ StandingsEnd (bookOf l) (now store) order at ⌝ }
     ensures { λ r. ⌜ Prints (now (page .entry)) at (readOffs (bookOf l) (now (store .entry))) (now (page .exit)) r ⌝ }
 {
-    let marked = marks::marks(l, store);
-    let marks = parts::print(l, store, Part::Marks, marked, page, at);
+    let marks = marks::print(marked(l, store), page, at);
     let tagged = sorted::sorted(l, store, Key::Tag);
     let set = parts::print(l, store, Part::Set, tagged, page, marks);
     let entries = list::entries(l, store, order);
@@ -47,7 +47,7 @@ fn print_read_offs(l: Ledger, store: &[u8], order: Places, page: &mut [u8], at: 
 
 // Prints the report of a ledger and its store at the start of the page.
 pub fn print(l: Ledger, store: &[u8], page: &mut [u8]) -> usize
-    requires { ⌜ bookOf l .used ≤ 64 ⌝ }
+    requires { ⌜ bookOf l .used ≤ places ⌝ }
     ensures { λ r. ⌜ Prints (now (page .entry)) 0 (textOf (bookOf l) (now (store .entry))) (now (page .exit)) r ⌝ }
 {
     let order = sorted::sorted(l, store, Key::Id);

@@ -6,10 +6,11 @@ use denote.Enum.Declared.{tagOf}
 use types.Run.{OneOf, miss}
 use Rattle.update_format.specs.Update.{Id}
 use Rattle.update_format.specs.Decode.{Decoded}
-use Rattle.rules.specs.Report.{codes, ascii, hex, decimal, bytesLine, markLine}
+use Rattle.bytes_ascii.specs.Ascii.{codes, ascii, hex, decimal}
+use Rattle.rules.specs.Report.{bytesLine, markLine}
 use Rattle.update_fields.specs.Fields.{authorIn}
 use Rattle.report_wording.specs.declared.Part.{Part}
-use Rattle.report_wording.specs.declared.Part.the-variants.{Held, Heads, Waiting, Void, Marks, Set, List as Entries}
+use Rattle.report_wording.specs.declared.Part.the-variants.{Held, Heads, Waiting, Void, Set, List as Entries}
 use Rattle.report_wording.specs.Lines.{wordOf, updateLineBy, lineBy}
 use Rattle.report_wording.proofs.Part.{the-type}
 
@@ -35,14 +36,13 @@ update-line i d a e =
     ∙ ap (λ (x : ℕ). 40 ∷ (hex i ++ (32 ∷ (decimal x ++ (41 ∷ 10 ∷ []))))) e
 
 -- Held, Waiting and Void, the parts 0, 2 and 3, have lines of updates
-pub update-lines : (i : Id) (d : Decoded) (k : ℕ) (p : Part) → OneOf (0 ∷ 2 ∷ 3 ∷ []) (tagOf the-type p) → updateLineBy i d ≡ lineBy p i d k
-update-lines i d k Held n = refl
-update-lines i d k Waiting n = refl
-update-lines i d k Void n = refl
-update-lines i d k Heads n = absurd (miss (0 ∷ 2 ∷ 3 ∷ []) 1 tt n)
-update-lines i d k Marks n = absurd (miss (0 ∷ 2 ∷ 3 ∷ []) 4 tt n)
-update-lines i d k Set n = absurd (miss (0 ∷ 2 ∷ 3 ∷ []) 5 tt n)
-update-lines i d k Entries n = absurd (miss (0 ∷ 2 ∷ 3 ∷ []) 6 tt n)
+pub update-lines : (i : Id) (d : Decoded) (p : Part) → OneOf (0 ∷ 2 ∷ 3 ∷ []) (tagOf the-type p) → updateLineBy i d ≡ lineBy p i d
+update-lines i d Held n = refl
+update-lines i d Waiting n = refl
+update-lines i d Void n = refl
+update-lines i d Heads n = absurd (miss (0 ∷ 2 ∷ 3 ∷ []) 1 tt n)
+update-lines i d Set n = absurd (miss (0 ∷ 2 ∷ 3 ∷ []) 4 tt n)
+update-lines i d Entries n = absurd (miss (0 ∷ 2 ∷ 3 ∷ []) 5 tt n)
 
 -- a part's word in bytes
 abbrev pub bytesOf : Part → List ℕ
@@ -50,7 +50,6 @@ bytesOf Held = 40 ∷ 104 ∷ 101 ∷ 108 ∷ 100 ∷ 10 ∷ []
 bytesOf Heads = 40 ∷ 104 ∷ 101 ∷ 97 ∷ 100 ∷ 115 ∷ 10 ∷ []
 bytesOf Waiting = 40 ∷ 119 ∷ 97 ∷ 105 ∷ 116 ∷ 105 ∷ 110 ∷ 103 ∷ 10 ∷ []
 bytesOf Void = 40 ∷ 118 ∷ 111 ∷ 105 ∷ 100 ∷ 10 ∷ []
-bytesOf Marks = 40 ∷ 109 ∷ 97 ∷ 114 ∷ 107 ∷ 115 ∷ 10 ∷ []
 bytesOf Set = 40 ∷ 115 ∷ 101 ∷ 116 ∷ 10 ∷ []
 bytesOf Entries = 40 ∷ 108 ∷ 105 ∷ 115 ∷ 116 ∷ 10 ∷ []
 
@@ -60,7 +59,6 @@ word-bytes Held = refl
 word-bytes Heads = refl
 word-bytes Waiting = refl
 word-bytes Void = refl
-word-bytes Marks = refl
 word-bytes Set = refl
 word-bytes Entries = refl
 

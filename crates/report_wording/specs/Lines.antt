@@ -1,12 +1,29 @@
--- The first line of each part of the report, and the lines in it.
-use Prim.Native.Nat.{ℕ}
-use mathlib.Core.List.{List, _++_}
-use Rattle.update_format.specs.Update.{Id}
+-- The first line of each part of the report that shows updates, and the lines in it.
+use Prim.Native.Nat.{ℕ, _+_, _≤_}
+use lib.ListN.{length}
+use mathlib.Core.List.{List}
+use Rattle.update_format.specs.Update.{Id, idLength, maxAuthor}
 use Rattle.update_format.specs.Decode.{Decoded}
-use Rattle.rules.specs.Report.{ascii, hex, decimal, bytesLine, markLine}
+use Rattle.bytes_ascii.specs.Ascii.{ascii}
+use Rattle.rules.specs.Report.{authorLine, bytesLine}
 use Rattle.update_fields.specs.Fields.{authorIn, tagIn, valueIn}
 use Rattle.report_wording.specs.declared.Part.{Part}
-use Rattle.report_wording.specs.declared.Part.the-variants.{Held, Heads, Waiting, Void, Marks, Set, List as Entries}
+use Rattle.report_wording.specs.declared.Part.the-variants.{Held, Heads, Waiting, Void, Set, List as Entries}
+use Rattle.bytes_print.specs.Page.{farthest}
+
+-- no line and no word of the report has more bytes: the longest line is `(`, 64 digits, a space, two digits, `)` and the newline
+abbrev pub maxReportLine : ℕ
+maxReportLine = 100
+
+-- the page has room for a line at byte `at`, and the bytes are no more than an id's
+pub record LineOf (at : ℕ) (bytes : List ℕ) : Type 0 where
+  pub line-within : at + maxReportLine ≤ farthest
+  pub bytes-within : length bytes ≤ idLength
+
+-- the page has room for a line at byte `at`, and a is an author
+pub record MarkLineOf (at a : ℕ) : Type 0 where
+  pub line-within : at + maxReportLine ≤ farthest
+  pub author-within : a ≤ maxAuthor
 
 -- the first line of a part
 abbrev pub wordOf : Part → List ℕ
@@ -14,19 +31,17 @@ wordOf Held = ascii "(held\n"
 wordOf Heads = ascii "(heads\n"
 wordOf Waiting = ascii "(waiting\n"
 wordOf Void = ascii "(void\n"
-wordOf Marks = ascii "(marks\n"
 wordOf Set = ascii "(set\n"
 wordOf Entries = ascii "(list\n"
 
--- a line of an update, by its id and by what its bytes decode to; of a mark, by the author
+-- a line of an update, by its id and by what its bytes decode to
 abbrev pub updateLineBy : Id → Decoded → List ℕ
-updateLineBy i d = ascii "(" ++ (hex i ++ (ascii " " ++ (decimal (authorIn d) ++ ascii ")\n")))
+updateLineBy i d = authorLine i (authorIn d)
 
-abbrev pub lineBy : Part → Id → Decoded → ℕ → List ℕ
-lineBy Held i d k = updateLineBy i d
-lineBy Heads i d k = bytesLine i
-lineBy Waiting i d k = updateLineBy i d
-lineBy Void i d k = updateLineBy i d
-lineBy Marks i d k = markLine k
-lineBy Set i d k = bytesLine (tagIn d)
-lineBy Entries i d k = bytesLine (valueIn d)
+abbrev pub lineBy : Part → Id → Decoded → List ℕ
+lineBy Held i d = updateLineBy i d
+lineBy Heads i d = bytesLine i
+lineBy Waiting i d = updateLineBy i d
+lineBy Void i d = updateLineBy i d
+lineBy Set i d = bytesLine (tagIn d)
+lineBy Entries i d = bytesLine (valueIn d)

@@ -1,21 +1,21 @@
 // The words and the lines of the report, printed on a page that the caller lends.
-ghost use Prim.Native.Nat.{_+_, _≤_, _<_};
-ghost use lib.ListN.{length};
+ghost use Prim.Native.Nat.{_+_, _*_, _≤_};
 ghost use mathlib.Core.List.{_++_};
+ghost use Rattle.update_format.specs.Update.{idLength};
 ghost use Rattle.update_format.specs.Decode.{decode};
-ghost use Rattle.rules.specs.Report.{ascii, hex, bytesLine, markLine};
+ghost use Rattle.bytes_ascii.specs.Ascii.{ascii, hex};
+ghost use Rattle.rules.specs.Report.{bytesLine, markLine};
 ghost use Rattle.bytes_print.specs.Page.{Prints, farthest};
-ghost use Rattle.report_wording.specs.Lines.{wordOf, updateLineBy, lineBy};
+ghost use Rattle.report_wording.specs.Lines.{maxReportLine, LineOf, MarkLineOf, wordOf, updateLineBy, lineBy};
 use bytes_print::digits;
 use bytes_print::put;
 
-// The parts of the report.
+// The parts of the report that show updates.
 pub enum Part {
     Held,
     Heads,
     Waiting,
     Void,
-    Marks,
     Set,
     List,
 }
@@ -31,7 +31,6 @@ pub fn word(part: Part, page: &mut [u8], at: usize) -> usize
         Part::Heads => put(page, at, b"(heads\n"),
         Part::Waiting => put(page, at, b"(waiting\n"),
         Part::Void => put(page, at, b"(void\n"),
-        Part::Marks => put(page, at, b"(marks\n"),
         Part::Set => put(page, at, b"(set\n"),
         Part::List => put(page, at, b"(list\n"),
     }
@@ -39,9 +38,9 @@ pub fn word(part: Part, page: &mut [u8], at: usize) -> usize
 
 // A line of bytes.
 fn bytes_line(bytes: &[u8], page: &mut [u8], at: usize) -> usize
-    requires { ⌜ (at + 100 ≤ farthest) × (length (now bytes) ≤ 32) ⌝ }
+    requires { ⌜ LineOf at (now bytes) ⌝ }
     ensures prints { λ r. ⌜ Prints (now (page .entry)) at (bytesLine (now (bytes .entry))) (now (page .exit)) r ⌝ }
-    ensures small { λ r. ⌜ r ≤ at + 100 ⌝ }
+    ensures small { λ r. ⌜ r ≤ at + maxReportLine ⌝ }
 {
     let opened = put(page, at, b"(");
     let shown = digits::hex(page, opened, bytes);
@@ -50,9 +49,9 @@ fn bytes_line(bytes: &[u8], page: &mut [u8], at: usize) -> usize
 
 // The opening bracket and the id.
 fn open_id(id: &[u8], page: &mut [u8], at: usize) -> usize
-    requires { ⌜ (at + 100 ≤ farthest) × (length (now id) ≤ 32) ⌝ }
+    requires { ⌜ LineOf at (now id) ⌝ }
     ensures prints { λ r. ⌜ Prints (now (page .entry)) at (ascii "(" ++ hex (now (id .entry))) (now (page .exit)) r ⌝ }
-    ensures small { λ r. ⌜ r ≤ at + 65 ⌝ }
+    ensures small { λ r. ⌜ r ≤ at + (1 + 2 * idLength) ⌝ }
 {
     let opened = put(page, at, b"(");
     digits::hex(page, opened, id)
@@ -60,9 +59,9 @@ fn open_id(id: &[u8], page: &mut [u8], at: usize) -> usize
 
 // The id and the author of an update's bytes.
 fn update_line(id: &[u8], b: &[u8], page: &mut [u8], at: usize) -> usize
-    requires { ⌜ (at + 100 ≤ farthest) × (length (now id) ≤ 32) ⌝ }
+    requires { ⌜ LineOf at (now id) ⌝ }
     ensures prints { λ r. ⌜ Prints (now (page .entry)) at (updateLineBy (now (id .entry)) (decode (now (b .entry)))) (now (page .exit)) r ⌝ }
-    ensures small { λ r. ⌜ r ≤ at + 100 ⌝ }
+    ensures small { λ r. ⌜ r ≤ at + maxReportLine ⌝ }
 {
     let author = update_fields::author_of(b);
     let identified = open_id(id, page, at);
@@ -71,27 +70,26 @@ fn update_line(id: &[u8], b: &[u8], page: &mut [u8], at: usize) -> usize
     put(page, named, b")\n")
 }
 
-// A marked author.
-fn mark_line(author: usize, page: &mut [u8], at: usize) -> usize
-    requires { ⌜ (at + 100 ≤ farthest) × (author < 64) ⌝ }
+// The line of a marked author.
+pub fn mark_line(author: usize, page: &mut [u8], at: usize) -> usize
+    requires { ⌜ MarkLineOf at author ⌝ }
     ensures prints { λ r. ⌜ Prints (now (page .entry)) at (markLine author) (now (page .exit)) r ⌝ }
-    ensures small { λ r. ⌜ r ≤ at + 100 ⌝ }
+    ensures small { λ r. ⌜ r ≤ at + maxReportLine ⌝ }
 {
     let opened = put(page, at, b"(");
     let named = digits::decimal(page, opened, author as u8);
     put(page, named, b")\n")
 }
 
-// The line in a part of an update with this id and these bytes, or of author k.
-pub fn line_by(id: &[u8], b: &[u8], part: Part, k: usize, page: &mut [u8], at: usize) -> usize
-    requires { ⌜ (at + 100 ≤ farthest) × (length (now id) ≤ 32) × (k < 64) ⌝ }
-    ensures prints { λ r. ⌜ Prints (now (page .entry)) at (lineBy part (now (id .entry)) (decode (now (b .entry))) k) (now (page .exit)) r ⌝ }
-    ensures small { λ r. ⌜ r ≤ at + 100 ⌝ }
+// The line in a part of an update with this id and these bytes.
+pub fn line_by(id: &[u8], b: &[u8], part: Part, page: &mut [u8], at: usize) -> usize
+    requires { ⌜ LineOf at (now id) ⌝ }
+    ensures prints { λ r. ⌜ Prints (now (page .entry)) at (lineBy part (now (id .entry)) (decode (now (b .entry)))) (now (page .exit)) r ⌝ }
+    ensures small { λ r. ⌜ r ≤ at + maxReportLine ⌝ }
 {
     match part {
         Part::Held | Part::Waiting | Part::Void => update_line(id, b, page, at),
         Part::Heads => bytes_line(id, page, at),
-        Part::Marks => mark_line(k, page, at),
         Part::Set => bytes_line(update_fields::tag_of(b), page, at),
         Part::List => bytes_line(update_fields::value_of(b), page, at),
     }

@@ -119,25 +119,25 @@ same-waiting ident S S′ same d d′ {u} w =
     }
 
 -- one more update, w, at the end
-abbrev pub added : List Update → Update → List Update
-added S w = S ++ (w ∷ [])
+abbrev pub extended : List Update → Update → List Update
+extended S w = S ++ (w ∷ [])
 
-pub added-more : (S : List Update) (w u : Update) → u ∈ S → u ∈ added S w
+pub added-more : (S : List Update) (w u : Update) → u ∈ S → u ∈ extended S w
 added-more S w u m = ∈-append-left (w ∷ []) m
 
-pub added-cases : (S : List Update) (w : Update) {u : Update} → u ∈ added S w → (u ∈ S) ⊎ (u ≡ w)
+pub added-cases : (S : List Update) (w : Update) {u : Update} → u ∈ extended S w → (u ∈ S) ⊎ (u ≡ w)
 added-cases S w {u} m = ⊎-elim inl (λ (n : u ∈ (w ∷ [])). inr (∈-singleton n)) (append-∈ S m)
 
 -- u is w or has w as an ancestor
 abbrev pub Reached : (Update → Id) → List Update → Update → Update → Type 0
-Reached ident S w u = (u ≡ w) ⊎ Ancestor ident (added S w) w u
+Reached ident S w u = (u ≡ w) ⊎ Ancestor ident (extended S w) w u
 
-module _ (ident : Update → Id) (S : List Update) (w : Update) (distinct : Distinct ident (added S w)) where
-  reached-above : {u v : Update} → v ∈ added S w → ident v ∈ u .preds → Reached ident S w v → Ancestor ident (added S w) w u
+module _ (ident : Update → Id) (S : List Update) (w : Update) (distinct : Distinct ident (extended S w)) where
+  reached-above : {u v : Update} → v ∈ extended S w → ident v ∈ u .preds → Reached ident S w v → Ancestor ident (extended S w) w u
   reached-above {u} {v} n p r =
       ⊎-elim
-      (λ (e : v ≡ w). Ancestor.direct (subst (λ (x : Update). x ∈ added S w) e n) (subst (λ (x : Update). ident x ∈ u .preds) e p))
-      (λ (a : Ancestor ident (added S w) w v). Ancestor.further n p a)
+      (λ (e : v ≡ w). Ancestor.direct (subst (λ (x : Update). x ∈ extended S w) e n) (subst (λ (x : Update). ident x ∈ u .preds) e p))
+      (λ (a : Ancestor ident (extended S w) w v). Ancestor.further n p a)
       r
 
   -- the id i is that of an update held before
@@ -161,13 +161,13 @@ module _ (ident : Update → Id) (S : List Update) (w : Update) (distinct : Dist
       }
 
   -- they were, or w is an ancestor of u, if each was held before or is reached
-  ready-cases : {u : Update} → Known ident (added S w) u
-      → ((v : Update) → v ∈ added S w → ident v ∈ u .preds → Held ident S v ⊎ Reached ident S w v)
-      → Ready u ⊎ Ancestor ident (added S w) w u
+  ready-cases : {u : Update} → Known ident (extended S w) u
+      → ((v : Update) → v ∈ extended S w → ident v ∈ u .preds → Held ident S v ⊎ Reached ident S w v)
+      → Ready u ⊎ Ancestor ident (extended S w) w u
   ready-cases {u} k cases =
       ⊎-elim (λ (g : (i : Id) → i ∈ u .preds → HeldBefore i). inl (ready g)) inr (all-or {P = HeldBefore} (u .preds) each)
     where
-      each : (i : Id) → i ∈ u .preds → HeldBefore i ⊎ Ancestor ident (added S w) w u
+      each : (i : Id) → i ∈ u .preds → HeldBefore i ⊎ Ancestor ident (extended S w) w u
       each i p =
           let r = k .found i p in
           let q : ident (r .0) ∈ u .preds = subst (λ (j : Id). j ∈ u .preds) (sym (r .2)) p in
@@ -177,17 +177,17 @@ module _ (ident : Update → Id) (S : List Update) (w : Update) (distinct : Dist
           (cases (r .0) (r .1) q)
 
   -- a held update was held before, or is w, or has w as an ancestor
-  pub held-cases : {u : Update} → Held ident (added S w) u → Held ident S u ⊎ Reached ident S w u
+  pub held-cases : {u : Update} → Held ident (extended S w) u → Held ident S u ⊎ Reached ident S w u
   held-cases {u} (Held.held m k hs f) = step (added-cases S w m) (ready-cases k (λ v n p. held-cases (hs v n p)))
     where
-      step : (u ∈ S) ⊎ (u ≡ w) → Ready u ⊎ Ancestor ident (added S w) w u → Held ident S u ⊎ Reached ident S w u
+      step : (u ∈ S) ⊎ (u ≡ w) → Ready u ⊎ Ancestor ident (extended S w) w u → Held ident S u ⊎ Reached ident S w u
       step (inl m′) (inl b) =
-          inl (Held.held m′ (b .known) (b .below) (fine-before ident S (added S w) (added-more S w) distinct (b .known) (b .below) f))
+          inl (Held.held m′ (b .known) (b .below) (fine-before ident S (extended S w) (added-more S w) distinct (b .known) (b .below) f))
       step (inl m′) (inr a) = inr (inr a)
       step (inr e) b = inr (inl e)
 
   -- a void update was void before, or is w, or has w as an ancestor
-  pub void-cases : {u : Update} → Void ident (added S w) u → Void ident S u ⊎ Reached ident S w u
+  pub void-cases : {u : Update} → Void ident (extended S w) u → Void ident S u ⊎ Reached ident S w u
   void-cases (Void.after {u = u} {v = v} m n p x) = step (added-cases S w m) (void-cases x)
     where
       step : (u ∈ S) ⊎ (u ≡ w) → Void ident S v ⊎ Reached ident S w v → Void ident S u ⊎ Reached ident S w u
@@ -196,29 +196,29 @@ module _ (ident : Update → Id) (S : List Update) (w : Update) (distinct : Dist
       step (inr e) y = inr (inl e)
   void-cases (Void.broken {u = u} m k hs bad) = step (added-cases S w m) (ready-cases k (λ v n p. held-cases (hs v n p)))
     where
-      step : (u ∈ S) ⊎ (u ≡ w) → Ready u ⊎ Ancestor ident (added S w) w u → Void ident S u ⊎ Reached ident S w u
+      step : (u ∈ S) ⊎ (u ≡ w) → Ready u ⊎ Ancestor ident (extended S w) w u → Void ident S u ⊎ Reached ident S w u
       step (inl m′) (inl b) =
           inl
-          (Void.broken m′ (b .known) (b .below) (λ f. bad (grow-fine ident S (added S w) (added-more S w) distinct (b .known) (b .below) f)))
+          (Void.broken m′ (b .known) (b .below) (λ f. bad (grow-fine ident S (extended S w) (added-more S w) distinct (b .known) (b .below) f)))
       step (inl m′) (inr a) = inr (inr a)
       step (inr e) b = inr (inl e)
 
   -- what is newly held or newly void is w, or has w as an ancestor
-  pub held-new : {u : Update} → Held ident (added S w) u → (Held ident S u → ⊥) → Reached ident S w u
+  pub held-new : {u : Update} → Held ident (extended S w) u → (Held ident S u → ⊥) → Reached ident S w u
   held-new {u} h n = ⊎-elim (λ (g : Held ident S u). absurd (n g)) (λ (r : Reached ident S w u). r) (held-cases h)
 
-  pub void-new : {u : Update} → Void ident (added S w) u → (Void ident S u → ⊥) → Reached ident S w u
+  pub void-new : {u : Update} → Void ident (extended S w) u → (Void ident S u → ⊥) → Reached ident S w u
   void-new {u} h n = ⊎-elim (λ (g : Void ident S u). absurd (n g)) (λ (r : Reached ident S w u). r) (void-cases h)
 
   -- what was held or void stays so
-  pub held-kept : {u : Update} → Held ident S u → Held ident (added S w) u
-  held-kept = grow-held ident S (added S w) (added-more S w) distinct
+  pub held-kept : {u : Update} → Held ident S u → Held ident (extended S w) u
+  held-kept = grow-held ident S (extended S w) (added-more S w) distinct
 
-  pub void-kept : {u : Update} → Void ident S u → Void ident (added S w) u
-  void-kept = grow-void ident S (added S w) (added-more S w) distinct
+  pub void-kept : {u : Update} → Void ident S u → Void ident (extended S w) u
+  void-kept = grow-void ident S (extended S w) (added-more S w) distinct
 
   -- so what waits is w or waited before, and what waited goes on waiting unless it is reached
-  pub waiting-cases : {u : Update} → Waiting ident (added S w) u → (u ≡ w) ⊎ Waiting ident S u
+  pub waiting-cases : {u : Update} → Waiting ident (extended S w) u → (u ≡ w) ⊎ Waiting ident S u
   waiting-cases {u} x =
       ⊎-elim
       (λ (m : u ∈ S).
@@ -226,7 +226,7 @@ module _ (ident : Update → Id) (S : List Update) (w : Update) (distinct : Dist
       inl
       (added-cases S w (x .stored))
 
-  pub waiting-kept : {u : Update} → Waiting ident S u → (Reached ident S w u → ⊥) → Waiting ident (added S w) u
+  pub waiting-kept : {u : Update} → Waiting ident S u → (Reached ident S w u → ⊥) → Waiting ident (extended S w) u
   waiting-kept {u} x n =
       record {
         stored = added-more S w u (x .stored);

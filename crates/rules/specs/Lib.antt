@@ -10,7 +10,7 @@ pub mod Growth
 pub mod SettlingTable
 pub mod Settling
 pub mod TableLaws
-pub mod ListLaws
+pub mod WalkLaws
 pub mod ListedLaws
 pub mod ReadOffLaws
 pub mod PartsLaws

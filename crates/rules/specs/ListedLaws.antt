@@ -17,11 +17,11 @@ use Rattle.bytes_order.specs.Ascending.{Ascending, ascending-nil, ascending-con
 use Rattle.bytes_order.specs.SortLaws.{sort-∈, sort-ascending}
 use Rattle.update_format.specs.Update.{Id, Delete, Update}
 use Rattle.rules.specs.Standing.{beginning}
-use Rattle.rules.specs.ReadOff.{Deleted, Rank, InsertAt, Sooner, Ordered, Siblings, First, Under, Walk, Shown}
+use Rattle.rules.specs.ReadOff.{Deleted, Rank, InsertAt, Sooner, Ordered, Siblings, AtBeginning, Under, Walk, Shown}
 use Rattle.rules.specs.Settle.{Row, Table, heldRow, rank, anchored, siblings, under, walk, deletes, deleted, valuesOf, siblingKey, updatesIn}
 use Rattle.rules.specs.Decides.{Decides}
 use Rattle.rules.specs.TableLaws.{deletes→, →deletes, insert-value, insert-values, HeldRow, any-held→, →any-held, keep-held→, row-held, row-id, row-rank, held-row, rank-bound}
-use Rattle.rules.specs.ListLaws.{Entry, atBeginning, firstRows, siblings-∈, ∈-siblings, child-held, child-rank, under→, →under}
+use Rattle.rules.specs.WalkLaws.{Entry, atBeginning, firstRows, siblings-∈, ∈-siblings, child-held, child-rank, under→, →under}
 
 module _ {ident : Update → Id} {S : List Update} {T : Table} (distinct : Distinct ident S) (decides : Decides ident S T) where
   -- siblings are in order
@@ -71,9 +71,9 @@ module _ {ident : Update → Id} {S : List Update} {T : Table} (distinct : Disti
         subst At (f .2) (from (k .0 .anchor) (f .0 .update) (record { is-held = row-held distinct decides (k .0 .row); value = k .0 .value; is-insert = k .0 .is-insert }) (k .1));
   }
 
-  pub first-right : Siblings ident S (First ident S) (updatesIn (firstRows T))
+  pub first-right : Siblings ident S (AtBeginning ident S) (updatesIn (firstRows T))
   first-right =
-      siblings-right atBeginning (First ident S) (λ u h. (beginning, h, eq→same beginning beginning refl))
+      siblings-right atBeginning (AtBeginning ident S) (λ u h. (beginning, h, eq→same beginning beginning refl))
       (λ a u h e. subst (λ (b : Id). InsertAt ident S b u) (same→eq a beginning e) h)
 
   under-right : {e : Row} → HeldRow T e → Siblings ident S (Under ident S (e .update)) (updatesIn (siblings T (under e)))

@@ -84,8 +84,8 @@ module _ (ident : Update → Id) (S : List Update) where
 
   -- what stands at the list's beginning, and what hangs under e. The zero anchor is the beginning, whatever ids there are, so nothing hangs
   -- under an Insert whose own id is zero.
-  abbrev pub First : Update → Type 0
-  First u = InsertAt beginning u
+  abbrev pub AtBeginning : Update → Type 0
+  AtBeginning u = InsertAt beginning u
 
   abbrev pub Under : Update → Update → Type 0
   Under e u = InsertAt (ident e) u × (ident e ≡ beginning → ⊥)
@@ -108,6 +108,6 @@ module _ (ident : Update → Id) (S : List Update) where
   pub record Listed (vs : List (List ℕ)) : Type 0 where
     pub first : List Update
     pub walk : List Update
-    pub siblings : Siblings First first
+    pub siblings : Siblings AtBeginning first
     pub walked : Walk first walk
     pub shows : Shown walk vs

@@ -20,7 +20,7 @@ use Rattle.rules.specs.ReadOff.{Head, Marked, Removed, Present, Rank, In
 use Rattle.rules.specs.Settle.{Row, Table, held, heldRow, covered, heads, forkedBy, marks, removed, names, tagsOf, tags, list, entries, rank, updatesIn}
 use Rattle.rules.specs.Decides.{Decides}
 use Rattle.rules.specs.TableLaws.{not-true→, not-true, all-four→, →all-four, tagsOf-∈, ∈-tagsOf, names→, →names, HeldRow, any-held→, →any-held, keep-held→, →keep-held, row-held, row-id, row-rank, held-row, ancestor→above, above→ancestor, rank-bound}
-use Rattle.rules.specs.ListLaws.{Entry, atBeginning, firstRows, siblings-∈, walk-entry, walk-all, walk-distinct}
+use Rattle.rules.specs.WalkLaws.{Entry, atBeginning, firstRows, siblings-∈, walk-entry, walk-all, walk-distinct}
 use Rattle.rules.specs.ListedLaws.{first-right, walk-right, shown-right, siblings-unique, walk-unique, shown-unique}
 
 -- the test of `forkedBy` on a held row

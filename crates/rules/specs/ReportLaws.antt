@@ -15,15 +15,16 @@ use Rattle.bytes_order.specs.SortLaws.{same-sort}
 use Rattle.update_format.specs.Update.{Id, idLength, Update, Bounded}
 use Rattle.rules.specs.Standing.{Held, Void, Waiting}
 use Rattle.rules.specs.Parts.{Parts, ReadFrom}
-use Rattle.rules.specs.Settle.{isInsert, rounds, start, startAll, settled, heads, marks, tags, walk, entries, list, partsIn, partsOf}
-use Rattle.rules.specs.Report.{codes, ascii, part, reportText, reportOf}
+use Rattle.rules.specs.Settle.{isInsert, rounds, start, startAll, settledTable, heads, marks, tags, walk, entries, list, partsIn, partsOf}
+use Rattle.bytes_ascii.specs.Ascii.{codes, ascii}
+use Rattle.rules.specs.Report.{partText, reportText, reportOf, maxReport}
 use Rattle.rules.specs.Decides.{Decides}
 use Rattle.rules.specs.LeastSets.{held-stored, void-stored}
 use Rattle.rules.specs.Settling.{settled-decides, covers}
 use Rattle.rules.specs.ReadOffLaws.{entry-right, entry-once}
 use Rattle.rules.specs.PartsLaws.{read-right, read-unique}
 use Rattle.rules.specs.TextLaws.{SameIds, text-ids}
-use Rattle.rules.specs.ReportLengthLaws.{Sized, text-length}
+use Rattle.rules.specs.ReportLengthLaws.{SizedTable, text-length}
 
 -- the report is laid out from the parts that the definitions give
 pub report-laid-out : (ident : Update → Id) (S : List Update) → Distinct ident S → {parts : Parts} → ReadFrom ident S parts → reportOf ident S ≡ reportText ident parts
@@ -32,7 +33,7 @@ report-laid-out ident S d f = ap (reportText ident) (read-unique ident S d (read
 
 -- only the set counts
 pub same-report : (ident : Update → Id) (S S′ : List Update) → Distinct ident S → Distinct ident S′ → SameMembers S S′ → reportOf ident S ≡ reportOf ident S′
-unfolding reportOf partsOf settled startAll
+unfolding reportOf partsOf settledTable startAll
 same-report ident S S′ d d′ s =
     λ i. reportText ident (partsIn (rounds (distinct-same-length d d′ s i) (map (start ident) (same-sort ident (distinct-identifies d) s i))))
 
@@ -71,7 +72,7 @@ report-shows-set ident S S′ d d′ one e =
 -- the report of no update
 pub empty-text : (ident : Update → Id)
     → reportOf ident [] ≡ ascii "(ledger 1\n(held\n)\n(heads\n)\n(waiting\n)\n(void\n)\n(marks\n)\n(set\n)\n(list\n)\n)\n"
-unfolding reportOf partsOf partsIn settled startAll rounds sort reportText part keep concatMap heads marks tags list entries walk ascii codes
+unfolding reportOf partsOf partsIn settledTable startAll rounds sort reportText partText keep concatMap heads marks tags list entries walk ascii codes
 empty-text ident = refl
 
 -- "The empty report is 72 bytes; none passes 12,000."
@@ -80,22 +81,22 @@ unfolding ascii codes
 empty-length ident = ap length (empty-text ident)
 
 pub report-length : (ident : Update → Id) → ((u : Update) → length (ident u) ≡ idLength) → (S : List Update) → Distinct ident S → length S ≤ 64
-    → ((u : Update) → u ∈ S → Bounded u) → length (reportOf ident S) ≤ 12000
+    → ((u : Update) → u ∈ S → Bounded u) → length (reportOf ident S) ≤ maxReport
 unfolding reportOf partsOf isInsert
 report-length ident sized S d few bounded =
     let rows = distinct-length (D .once) (map ident S) (λ r m. ∈-cast (D .has-id r m) (∈-map ident (D .of-set r m))) in
     let size = length-map S ident in
-    let long = text-length ident sized (settled ident S) sizes in
+    let long = text-length ident sized (settledTable ident S) sizes in
     omega arith
   where
-    D : Decides ident S (settled ident S)
+    D : Decides ident S (settledTable ident S)
     D = settled-decides ident S d
 
-    sizes : Sized (settled ident S)
+    sizes : SizedTable (settledTable ident S)
     sizes =
         record {
           bounded = λ r m. bounded (r .update) (D .of-set r m);
-          entry-row = λ r m. entry-right ident S (settled ident S) d D r m .0;
-          entry-insert = λ r m. ap isInsert (entry-right ident S (settled ident S) d D r m .2 .is-insert);
-          entry-once = entry-once ident S (settled ident S) d D;
+          entry-row = λ r m. entry-right ident S (settledTable ident S) d D r m .0;
+          entry-insert = λ r m. ap isInsert (entry-right ident S (settledTable ident S) d D r m .2 .is-insert);
+          entry-once = entry-once ident S (settledTable ident S) d D;
         }

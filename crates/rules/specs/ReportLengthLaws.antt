@@ -1,15 +1,13 @@
 -- How long a report is: the lines of each part are bounded, and each row of a table shows in few of them.
-use Prim.Native.Nat.{ℕ, zero, suc, _+_, _*_, _/_, _%_, _≤_, _<_, zero-le, suc-le-suc}
+use Prim.Native.Nat.{ℕ, zero, suc, _+_, _*_, _≤_, _<_, zero-le, suc-le-suc}
 use Prim.Native.String.{String}
 use native.Mathlib.Nat.{not-suc-le-zero, le-of-suc-le-suc, le-trans, eq-or-lt-of-le}
 use native.Mathlib.Omega.{arith}
 use mathlib.Core.Path.{_≡_, refl, _∙_, ap, subst}
 use mathlib.Core.Logic.{⊎-elim}
 use mathlib.Core.List.{List, [], _∷_, _++_, List·Memᴰ·head, List·Memᴰ·tail, List·Memᴰ·not-nil}
-use mathlib.Core.Bool.{Bool, true, false, cond}
+use mathlib.Core.Bool.{Bool, true, cond}
 use lib.ListN.{length, length-append, length-map}
-use lib.Dec.{ltb}
-use borrow.Author.Tests.{lt-ltb}
 use Rattle.bytes_order.specs.Member.{_∈_, keep, concatMap}
 use Rattle.bytes_order.specs.MemberLaws.{∈-singleton, map-∈, ∈-keep, keep-∈, keep-length, concatMap-∈}
 use Rattle.bytes_order.specs.Distinct.{Distinct}
@@ -18,29 +16,11 @@ use Rattle.bytes_order.specs.SortLaws.{sort-∈, sort-length, sort-distinct}
 use Rattle.update_format.specs.Update.{Id, idLength, tagLength, maxAuthor, Operation, Add, Remove, Insert, Delete, BoundedOperation, add, remove, insert, delete, Update, Bounded}
 use Rattle.bytes_order.specs.ListLaws.{concatMap-length, keep-concatMap-length}
 use Rattle.rules.specs.Settle.{Row, Table, Verdict, held, waiting, void, isHeld, isWaiting, isVoid, isInsert, heads, marks, tagsOf, tags, entries, valuesOf, list, updatesIn, partsIn}
-use Rattle.rules.specs.Report.{codes, ascii, digit, hexByte, hex, decimalIn, decimal, updateLine, bytesLine, idLine, markLine, part, reportText}
+use Rattle.bytes_ascii.specs.Ascii.{codes, ascii, hex, decimal}
+use Rattle.bytes_ascii.specs.AsciiLaws.{hex-length, decimal-length}
+use Rattle.rules.specs.Report.{updateLine, bytesLine, idLine, markLine, partText, reportText}
 
 -- lines
-
-hex-length : (bs : List ℕ) → length (hex bs) ≡ 2 * length bs
-unfolding hex concatMap hexByte
-hex-length [] = refl
-hex-length (b ∷ bs) = let e : length (hex bs) ≡ 2 * length bs = hex-length bs in omega arith
-
--- one decimal digit below ten, at most two below a hundred
-decimalIn-one : (k n : ℕ) → n < 10 → decimalIn (suc k) n ≡ digit n ∷ []
-unfolding decimalIn
-decimalIn-one k n h = ap (λ (t : Bool). cond t (digit n ∷ []) (decimalIn k (n / 10) ++ (digit (n % 10) ∷ []))) (lt-ltb n 10 h)
-
-decimal-length : (n : ℕ) → n < 100 → length (decimal n) ≤ 2
-unfolding decimal decimalIn
-decimal-length n h = step (ltb n 10) (ap length (decimalIn-one 18 (n / 10) (omega arith))) (length-append (decimalIn 19 (n / 10)) (digit (n % 10) ∷ []))
-  where
-    step : (t : Bool) → length (decimalIn 19 (n / 10)) ≡ 1
-        → length (decimalIn 19 (n / 10) ++ (digit (n % 10) ∷ [])) ≡ length (decimalIn 19 (n / 10)) + 1
-        → length (cond t (digit n ∷ []) (decimalIn 19 (n / 10) ++ (digit (n % 10) ∷ []))) ≤ 2
-    step true e a = omega arith
-    step false e a = omega arith
 
 mark-line-length : (a : ℕ) → a ≤ maxAuthor → length (markLine a) ≤ 5
 unfolding markLine ascii codes
@@ -71,8 +51,8 @@ record Short (bs : List ℕ) (n : ℕ) : Type 0 where
 
 -- a part, whose word has w bytes and whose lines have n
 part-short : {A : Type 0} (word : String) (line : A → List ℕ) (xs : List A) {rest : List ℕ} {w n m : ℕ} → length (ascii word) ≡ w
-    → length (concatMap line xs) ≤ n → Short rest m → Short (part word line xs rest) (w + n + 2 + m)
-unfolding part ascii codes
+    → length (concatMap line xs) ≤ n → Short rest m → Short (partText word line xs rest) (w + n + 2 + m)
+unfolding partText ascii codes
 part-short word line xs {rest} p h k =
     let a = length-append (ascii word) (concatMap line xs ++ (ascii ")\n" ++ rest)) in
     let b = length-append (concatMap line xs) (ascii ")\n" ++ rest) in
@@ -152,13 +132,13 @@ short-lines ts h = concatMap-length bytesLine 35 ts (λ t m. line t (h t m))
     line t e = let f = bytes-line-length t in omega arith
 
 -- a table of bounded updates, whose entries are Inserts of its own, each once
-pub record Sized (T : Table) : Type 0 where
+pub record SizedTable (T : Table) : Type 0 where
   pub bounded : (r : Row) → r ∈ T → Bounded (r .update)
   pub entry-row : (r : Row) → r ∈ entries T → r ∈ T
   pub entry-insert : (r : Row) → r ∈ entries T → isInsert (r .update .op) ≡ true
   pub entry-once : Distinct (λ (r : Row). r .id) (entries T)
 
-module _ (ident : Update → Id) (id-sized : (u : Update) → length (ident u) ≡ idLength) (T : Table) (sized : Sized T) where
+module _ (ident : Update → Id) (id-sized : (u : Update) → length (ident u) ≡ idLength) (T : Table) (sized : SizedTable T) where
   updates-length : (p : Row → Bool) → length (concatMap (updateLine ident) (updatesIn (keep p T))) ≤ 70 * length (keep p T)
   updates-length p =
       rw (← length-map (keep p T) (λ (r : Row). r .update))

@@ -135,8 +135,8 @@ start ident u = record { id = ident u; update = u; verdict = waiting; above = []
 unfoldable pub startAll : (Update → Id) → List Update → Table
 startAll ident S = map (start ident) (sort ident S)
 
-unfoldable pub settled : (Update → Id) → List Update → Table
-settled ident S = rounds (length S) (startAll ident S)
+unfoldable pub settledTable : (Update → Id) → List Update → Table
+settledTable ident S = rounds (length S) (startAll ident S)
 
 -- what is read from a settled table
 
@@ -252,4 +252,4 @@ partsIn T =
     }
 
 unfoldable pub partsOf : (Update → Id) → List Update → Parts
-partsOf ident S = partsIn (settled ident S)
+partsOf ident S = partsIn (settledTable ident S)

@@ -18,11 +18,11 @@ use Rattle.bytes_order.specs.DistinctLaws.{distinct-eq, distinct-identifies, di
 use Rattle.bytes_order.specs.SortLaws.{sort-∈, ∈-sort, sort-ascending, sort-distinct, sort-length}
 use Rattle.update_format.specs.Update.{Id, Update}
 use Rattle.rules.specs.Standing.{Held, Void, Waiting}
-use Rattle.rules.specs.Settle.{Verdict, held, waiting, void, Row, Table, isWaiting, heldIn, voidIn, ruled, judge, round, rounds, start, startAll, settled}
+use Rattle.rules.specs.Settle.{Verdict, held, waiting, void, Row, Table, isWaiting, heldIn, voidIn, ruled, judge, round, rounds, start, startAll, settledTable}
 use Rattle.rules.specs.Decides.{Decides}
-use Rattle.rules.specs.LeastSets.{Sound, Stable, settled-waiting}
-use Rattle.bytes_order.specs.ListLaws.{count, map-lowers, ascending-map}
-use Rattle.rules.specs.SettlingTable.{SoundRow, SoundTable, Undecided, Outcome, stays, rules, judge-outcome, judge-id}
+use Rattle.rules.specs.LeastSets.{SoundVerdicts, Stable, settled-waiting}
+use Rattle.bytes_order.specs.ListLaws.{countMembers, map-lowers, ascending-map}
+use Rattle.rules.specs.SettlingTable.{SoundRow, SoundTable, Undecided, RowOutcome, stays, rules, judge-outcome, judge-id}
 use Rattle.rules.specs.SettlingTable.{round-sound, held-in, void-in, row-of, right-as}
 
 -- the verdict of the row with an id
@@ -51,7 +51,7 @@ module _ {ident : Update → Id} {S : List Update} {T : Table} (sound : SoundTab
   unfolding verdict
   verdict-of m e = sym (verdict-in (sound .once) m) ∙ ap (verdictIn T) e
 
-  table-sound : Sound ident S verdict
+  table-sound : SoundVerdicts ident S verdict
   table-sound =
       record {
         held-sound = λ u m e. let r = row-of sound m in right-as sound held (r .1) (r .3) (verdict-of (r .1) (r .2) ∙ e) .0;
@@ -102,19 +102,19 @@ module _ {ident : Update → Id} {S : List Update} {T : Table} (sound : SoundTab
       kept : {r : Row} → r ∈ T → judge T r ≡ r
       kept {r} m = distinct-eq (sound .once) (subst (λ (X : Table). judge T r ∈ X) fixed (∈-map (judge T) m)) m (judge-id T r)
 
-      step : {r : Row} → Outcome T r (judge T r) → judge T r ≡ r → r .verdict ≡ waiting → Undecided T (r .update)
+      step : {r : Row} → RowOutcome T r (judge T r) → judge T r ≡ r → r .verdict ≡ waiting → Undecided T (r .update)
       step (stays e h) k w = h w
       step (rules e v up s q) k w = absurd (true-false (ap isWaiting w) (ap (λ (q : Row). isWaiting (q .verdict)) (sym k ∙ q) ∙ s))
 
 -- the rounds reach such a table: the number of waiting rows
 waitings : Table → ℕ
-waitings T = count (λ (r : Row). isWaiting (r .verdict)) T
+waitings T = countMembers (λ (r : Row). isWaiting (r .verdict)) T
 
 round-lowers : (T : Table) → (round T ≡ T) ⊎ (waitings (round T) < waitings T)
 unfolding round waitings isWaiting ruled
 round-lowers T = map-lowers (λ (r : Row). isWaiting (r .verdict)) (judge T) (λ r. step (judge-outcome T r)) T
   where
-    step : {r : Row} → Outcome T r (judge T r) → (judge T r ≡ r) ⊎ ((isWaiting (r .verdict) ≡ true) × (isWaiting (judge T r .verdict) ≡ false))
+    step : {r : Row} → RowOutcome T r (judge T r) → (judge T r ≡ r) ⊎ ((isWaiting (r .verdict) ≡ true) × (isWaiting (judge T r .verdict) ≡ false))
     step (stays e w) = inl e
     step (rules w v up s e) = inr (ap isWaiting w, ap (λ (q : Row). isWaiting (q .verdict)) e ∙ s)
 
@@ -159,8 +159,8 @@ module _ (ident : Update → Id) (S : List Update) where
   unfolding startAll
   start-few = subst (λ (n : ℕ). n ≤ length S) (sym (length-map (sort ident S) (start ident))) (sort-length ident S)
 
-pub settled-decides : (ident : Update → Id) (S : List Update) → Distinct ident S → Decides ident S (settled ident S)
-unfolding settled
+pub settled-decides : (ident : Update → Id) (S : List Update) → Distinct ident S → Decides ident S (settledTable ident S)
+unfolding settledTable
 settled-decides ident S distinct =
     stable-decides (rounds-sound (start-sound ident S distinct) (length S)) (rounds-fixed (startAll ident S) (length S) (start-few ident S))
 
@@ -170,8 +170,8 @@ unfolding rounds round
 rounds-ascending a zero = a
 rounds-ascending {T} a (suc n) = ascending-map (λ (r : Row). r .id) (judge (rounds n T)) (rounds-ascending a n) (judge-id (rounds n T))
 
-pub settled-ascending : (ident : Update → Id) (S : List Update) → Ascending (λ (r : Row). r .id) (settled ident S)
-unfolding settled startAll start
+pub settled-ascending : (ident : Update → Id) (S : List Update) → Ascending (λ (r : Row). r .id) (settledTable ident S)
+unfolding settledTable startAll start
 settled-ascending ident S =
     rounds-ascending (ascending-map (λ (r : Row). r .id) (start ident) (sort-ascending ident S) (λ u. refl)) (length S)
 
@@ -182,10 +182,10 @@ covers ident S distinct u m =
     let r = d .row-for u m in
     subst (λ (x : Update). Held ident S x ⊎ (Waiting ident S x ⊎ Void ident S x)) (r .2) (by (r .0) (r .1) (r .0 .verdict) refl)
   where
-    d : Decides ident S (settled ident S)
+    d : Decides ident S (settledTable ident S)
     d = settled-decides ident S distinct
 
-    by : (r : Row) → r ∈ settled ident S → (v : Verdict) → r .verdict ≡ v
+    by : (r : Row) → r ∈ settledTable ident S → (v : Verdict) → r .verdict ≡ v
         → Held ident S (r .update) ⊎ (Waiting ident S (r .update) ⊎ Void ident S (r .update))
     by r k held e = inl (d .held-right r k e)
     by r k waiting e = inr (inl (d .waiting-right r k e))

@@ -42,7 +42,7 @@ module _ (ident : Update → Id) (S : List Update) where
     pub once : Distinct (λ (r : Row). r .id) T
 
 -- every predecessor of u has a held row
-pub record Ready (T : Table) (u : Update) : Type 0 where
+pub record PredecessorsHeld (T : Table) (u : Update) : Type 0 where
   pub held-row : (i : Id) → i ∈ u .preds → (r : Row) × (r ∈ T) × (r .id ≡ i) × (r .verdict ≡ held)
 
 -- the tests of a row
@@ -112,7 +112,7 @@ in-void : (T : Table) (i : Id) → voidIn T i ≡ true → (r : Row) × (r ∈ T
 unfolding voidIn
 in-void T i e = let r = row-with (λ r. isVoid (r .verdict)) T i e in (r .0, r .1, r .2, isVoid→ (r .0 .verdict) (r .3))
 
-all-held : (T : Table) (u : Update) → all (heldIn T) (u .preds) ≡ true → Ready T u
+all-held : (T : Table) (u : Update) → all (heldIn T) (u .preds) ≡ true → PredecessorsHeld T u
 unfolding heldIn
 all-held T u e =
     record {
@@ -126,26 +126,26 @@ abbrev pub Undecided : Table → Update → Type 0
 Undecided T u = (any (voidIn T) (u .preds) ≡ false) × (all (heldIn T) (u .preds) ≡ false)
 
 -- what judging by T makes of a row r: it stays, and if it waits it is undecided yet; or it waited and is ruled
-pub data Outcome (T : Table) (r q : Row) : Type 0 where
-  stays : q ≡ r → (r .verdict ≡ waiting → Undecided T (r .update)) → Outcome T r q
-  rules : r .verdict ≡ waiting → (v : Verdict) (up : List Id) → isWaiting v ≡ false → q ≡ ruled v up r → Outcome T r q
+pub data RowOutcome (T : Table) (r q : Row) : Type 0 where
+  stays : q ≡ r → (r .verdict ≡ waiting → Undecided T (r .update)) → RowOutcome T r q
+  rules : r .verdict ≡ waiting → (v : Verdict) (up : List Id) → isWaiting v ≡ false → q ≡ ruled v up r → RowOutcome T r q
 
-pub judge-outcome : (T : Table) (r : Row) → Outcome T r (judge T r)
+pub judge-outcome : (T : Table) (r : Row) → RowOutcome T r (judge T r)
 unfolding judge judgeFrom judgeBy judgeKnown judgeFine isHeld isVoid isWaiting
 judge-outcome T r = from (r .verdict) refl
   where
-    fine : (b : Bool) (up : List Id) → r .verdict ≡ waiting → Outcome T r (judgeFine b up r)
+    fine : (b : Bool) (up : List Id) → r .verdict ≡ waiting → RowOutcome T r (judgeFine b up r)
     fine true up e = rules e held up refl refl
     fine false up e = rules e void [] refl refl
 
     by : (b h : Bool) → any (voidIn T) (r .update .preds) ≡ b → all (heldIn T) (r .update .preds) ≡ h → r .verdict ≡ waiting
-        → Outcome T r (judgeBy b h T r)
+        → RowOutcome T r (judgeBy b h T r)
     by true h p q e = rules e void [] refl refl
     by false true p q e =
         fine (fineBy T (ancestorsOf T (r .update)) (r .update)) (ancestorsOf T (r .update)) e
     by false false p q e = stays refl (λ w. (p, q))
 
-    from : (v : Verdict) → r .verdict ≡ v → Outcome T r (judgeFrom v T r)
+    from : (v : Verdict) → r .verdict ≡ v → RowOutcome T r (judgeFrom v T r)
     from held e = stays refl (λ w. absurd (true≢false (ap isHeld (sym e ∙ w))))
     from void e = stays refl (λ w. absurd (true≢false (ap isVoid (sym e ∙ w))))
     from waiting e = by (any (voidIn T) (r .update .preds)) (all (heldIn T) (r .update .preds)) refl refl e
@@ -175,7 +175,7 @@ module _ {ident : Update → Id} {S : List Update} {T : Table} (sound : SoundTab
   pub right-as : {r : Row} {u : Update} (v : Verdict) → r ∈ T → r .update ≡ u → r .verdict ≡ v → Right ident S v u (r .above)
   right-as {r} v m e d = subst₂ (λ (w : Verdict) (x : Update). Right ident S w x (r .above)) d e (sound .rows r m .right)
 
-  module _ {u : Update} (ready : Ready T u) where
+  module _ {u : Update} (ready : PredecessorsHeld T u) where
     pub preds-known : Known ident S u
     preds-known =
         record {
@@ -342,7 +342,7 @@ module _ {ident : Update → Id} {S : List Update} {T : Table} (sound : SoundTab
   unfolding ruled
   ruled-sound s v up h = record { of-set = s .of-set; has-id = s .has-id; right = h }
 
-  known-sound : {r : Row} → SoundRow ident S r → Ready T (r .update) → SoundRow ident S (judgeKnown T r (ancestorsOf T (r .update)))
+  known-sound : {r : Row} → SoundRow ident S r → PredecessorsHeld T (r .update) → SoundRow ident S (judgeKnown T r (ancestorsOf T (r .update)))
   unfolding judgeKnown judgeFine
   known-sound {r} s ready = step (fineBy T (ancestorsOf T (r .update)) (r .update)) refl
     where

@@ -18,7 +18,7 @@ use Rattle.bytes_order.specs.Sort.{insert, sort}
 use Rattle.update_format.specs.Update.{Id, Operation, Add, Remove, Insert, Delete, Update, encode, encodeOperation}
 use Rattle.rules.specs.Standing.{beginning}
 use Rattle.rules.specs.Parts.{Parts}
-use Rattle.rules.specs.Settle.{isHeld, isWaiting, isVoid, isAdd, isInsert, heldIn, voidIn, addIn, insertIn, aboveIn, ancestorsOf, antichain, validOp, fineBy, ruled, judgeFine, judgeKnown, judgeBy, judgeFrom, judge, round, rounds, start, startAll, settled, heldRow, covered, heads, forkedBy, marks, names, removed, tagsOf, tags, rank, anchored, siblings, under, walk, entries, deletes, deleted, valuesOf, list, partsIn, partsOf}
+use Rattle.rules.specs.Settle.{isHeld, isWaiting, isVoid, isAdd, isInsert, heldIn, voidIn, addIn, insertIn, aboveIn, ancestorsOf, antichain, validOp, fineBy, ruled, judgeFine, judgeKnown, judgeBy, judgeFrom, judge, round, rounds, start, startAll, settledTable, heldRow, covered, heads, forkedBy, marks, names, removed, tagsOf, tags, rank, anchored, siblings, under, walk, entries, deletes, deleted, valuesOf, list, partsIn, partsOf}
 
 -- an update with its stand-in id
 pub record Named : Type 0 where
@@ -33,13 +33,13 @@ nameIn (n ∷ ns) u = cond (same (encode (n .update)) (encode u)) (n .name) (nam
 unfoldable pub by : Id → ℕ → List Id → Operation → Named
 by i a ps o = record { name = i; update = record { author = a; preds = ps; op = o } }
 
-abbrev pub updatesOf : List Named → List Update
-updatesOf ns = map (λ (n : Named). n .update) ns
+abbrev pub namedUpdates : List Named → List Update
+namedUpdates ns = map (λ (n : Named). n .update) ns
 
 -- the parts that document 01 gives
 unfoldable pub expect : List Named → List Named → List Named → List Named → List ℕ → List (List ℕ) → List (List ℕ) → Parts
 expect h t w v m s l =
-    record { held = updatesOf h; heads = updatesOf t; waiting = updatesOf w; void = updatesOf v; marks = m; set = s; list = l }
+    record { held = namedUpdates h; heads = namedUpdates t; waiting = namedUpdates w; void = namedUpdates v; marks = m; set = s; list = l }
 
 -- the stand-in ids, tags and values
 abbrev pub #a : List ℕ
@@ -251,8 +251,8 @@ pub record Small : Type 0 where
 abbrev pub identOf : Small → Update → Id
 identOf c = nameIn (c .updates)
 
-abbrev pub setOf : Small → List Update
-setOf c = updatesOf (c .updates)
+abbrev pub smallSet : Small → List Update
+smallSet c = namedUpdates (c .updates)
 
 -- the sixteen of document 01, in its words
 unfoldable pub sixteen : List Small
@@ -310,11 +310,11 @@ further =
     ∷ record { updates = (a ∷ p ∷ u ∷ []); gives = expect (a ∷ p ∷ []) (a ∷ p ∷ []) [] (u ∷ []) (1 ∷ []) (t ∷ []) (P ∷ []) }
     ∷ []
 
-abbrev pub table : List Small
-table = sixteen ++ further
+abbrev pub smallLedgers : List Small
+smallLedgers = sixteen ++ further
 
-pub computed : map (λ (c : Small). partsOf (identOf c) (setOf c)) table ≡ map (λ (c : Small). c .gives) table
-unfolding sixteen further expect by nameIn encode encodeOperation same before member keep any all concatMap insert sort isHeld isWaiting isVoid isAdd isInsert heldIn voidIn addIn insertIn aboveIn ancestorsOf antichain validOp fineBy ruled judgeFine judgeKnown judgeBy judgeFrom judge round rounds start startAll settled heldRow covered heads forkedBy marks names removed tagsOf tags rank anchored siblings under walk entries deletes deleted valuesOf list partsIn partsOf a b a′ d e e′ r r′ c p q q′ i x m f g w z y i′ x′ v u k
+pub computed : map (λ (c : Small). partsOf (identOf c) (smallSet c)) smallLedgers ≡ map (λ (c : Small). c .gives) smallLedgers
+unfolding sixteen further expect by nameIn encode encodeOperation same before member keep any all concatMap insert sort isHeld isWaiting isVoid isAdd isInsert heldIn voidIn addIn insertIn aboveIn ancestorsOf antichain validOp fineBy ruled judgeFine judgeKnown judgeBy judgeFrom judge round rounds start startAll settledTable heldRow covered heads forkedBy marks names removed tagsOf tags rank anchored siblings under walk entries deletes deleted valuesOf list partsIn partsOf a b a′ d e e′ r r′ c p q q′ i x m f g w z y i′ x′ v u k
 computed = refl
 
 -- no id stands twice
@@ -322,6 +322,6 @@ unfoldable pub apart : List Id → Bool
 apart [] = true
 apart (i ∷ is) = not (member i is) && apart is
 
-pub ids-apart : all (λ (c : Small). apart (map (identOf c) (setOf c))) table ≡ true
+pub ids-apart : all (λ (c : Small). apart (map (identOf c) (smallSet c))) smallLedgers ≡ true
 unfolding sixteen further by nameIn encode encodeOperation same member all concatMap apart a b a′ d e e′ r r′ c p q q′ i x m f g w z y i′ x′ v u k
 ids-apart = refl

@@ -11,7 +11,7 @@ use Rattle.bytes_order.specs.BoolLaws.{and-true→}
 use Rattle.bytes_order.specs.Distinct.{Distinct, distinct-nil, distinct-cons}
 use Rattle.rules.specs.Parts.{ReadFrom}
 use Rattle.rules.specs.Settle.{partsOf}
-use Rattle.rules.specs.Small.{Small, identOf, setOf, table, computed, apart, ids-apart}
+use Rattle.rules.specs.Small.{Small, identOf, smallSet, smallLedgers, computed, apart, ids-apart}
 use Rattle.rules.specs.TableLaws.{not-true→}
 use Rattle.rules.specs.PartsLaws.{read-right}
 
@@ -29,8 +29,8 @@ agree f g [] e m = absurd (List·Memᴰ·not-nil m)
 agree {A} f g (y ∷ xs) e {x} m =
     ⊎-elim (λ (q : x ≡ y). subst (λ (z : A). f z ≡ g z) (sym q) (head-eq-of-cons-eq e)) (λ (k : x ∈ xs). agree f g xs (tail-eq-of-cons-eq e) k) (∈-cases m)
 
-pub small-ledgers : (c : Small) → c ∈ table → ReadFrom (identOf c) (setOf c) (c .gives)
+pub small-ledgers : (c : Small) → c ∈ smallLedgers → ReadFrom (identOf c) (smallSet c) (c .gives)
 small-ledgers c m =
-    subst (ReadFrom (identOf c) (setOf c))
-    (agree (λ (c : Small). partsOf (identOf c) (setOf c)) (λ (c : Small). c .gives) table computed m)
-    (read-right (identOf c) (setOf c) (apart-distinct (identOf c) (setOf c) (all→∈ (λ (c : Small). apart (map (identOf c) (setOf c))) table ids-apart c m)))
+    subst (ReadFrom (identOf c) (smallSet c))
+    (agree (λ (c : Small). partsOf (identOf c) (smallSet c)) (λ (c : Small). c .gives) smallLedgers computed m)
+    (read-right (identOf c) (smallSet c) (apart-distinct (identOf c) (smallSet c) (all→∈ (λ (c : Small). apart (map (identOf c) (smallSet c))) smallLedgers ids-apart c m)))

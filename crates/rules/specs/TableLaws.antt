@@ -16,7 +16,7 @@ use Rattle.rules.specs.Standing.{beginning, Ancestor, Fine, Held, Valid,
 use Rattle.rules.specs.ReadOff.{Rank}
 use Rattle.rules.specs.Settle.{Verdict, held, waiting, void, Row, Table, isHeld, heldRow, rank, tagsOf, names, deletes, anchored, valuesOf}
 use Rattle.rules.specs.Decides.{Decides}
-use Rattle.rules.specs.LeastSets.{ancestor-stored, ancestor-trans, held-acyclic, held-ancestors, Says, says-stored, one-verdict}
+use Rattle.rules.specs.LeastSets.{ancestor-stored, ancestor-trans, held-acyclic, held-ancestors, VerdictSays, says-stored, one-verdict}
 
 -- a negated test, and four tests
 
@@ -160,17 +160,17 @@ module _ {ident : Update → Id} {S : List Update} {T : Table} (distinct : Disti
   pub row-id : {r : Row} → HeldRow T r → r .id ≡ ident (r .update)
   row-id {r} h = decides .has-id r (h .row-in)
 
-  pub row-says : (v : Verdict) (r : Row) → r ∈ T → r .verdict ≡ v → Says ident S v (r .update)
+  pub row-says : (v : Verdict) (r : Row) → r ∈ T → r .verdict ≡ v → VerdictSays ident S v (r .update)
   row-says held r m e = decides .held-right r m e
   row-says waiting r m e = decides .waiting-right r m e
   row-says void r m e = decides .void-right r m e
 
   -- each update has a row of its verdict
-  pub says-row : (v : Verdict) (u : Update) → Says ident S v u → (r : Row) × (r ∈ T) × (r .verdict ≡ v) × (r .update ≡ u)
+  pub says-row : (v : Verdict) (u : Update) → VerdictSays ident S v u → (r : Row) × (r ∈ T) × (r .verdict ≡ v) × (r .update ≡ u)
   says-row v u h =
       let f = decides .row-for u (says-stored ident S v u h) in
       let w = row-says (f .0 .verdict) (f .0) (f .1) refl in
-      (f .0, f .1, one-verdict ident S (f .0 .verdict) v (f .0 .update) w (subst (Says ident S v) (sym (f .2)) h), f .2)
+      (f .0, f .1, one-verdict ident S (f .0 .verdict) v (f .0 .update) w (subst (VerdictSays ident S v) (sym (f .2)) h), f .2)
 
   pub held-row : {u : Update} → Held ident S u → (r : Row) × HeldRow T r × (r .update ≡ u)
   held-row {u} h = let f = says-row held u h in (f .0, record { row-in = f .1; ruled-held = f .2 }, f .3)

@@ -1,98 +1,15 @@
 -- The report's text can be read back: no digit is a separator, so equal texts have the same lines, part by part.
-use Prim.Native.Nat.{ℕ, zero, suc, _+_, _/_, _%_, _≤_, _<_}
+use Prim.Native.Nat.{ℕ}
 use Prim.Native.String.{String}
 use native.Mathlib.Omega.{arith}
-use mathlib.Core.Path.{_≡_, refl, sym, _∙_, ap, subst}
-use mathlib.Core.Logic.{⊎-elim}
-use mathlib.Core.List.{List, [], _∷_, _++_, map, append-assoc, append-cancel-left, nil≢cons, cons≢nil, head-eq-of-cons-eq, tail-eq-of-cons-eq, List·Memᴰ·head, List·Memᴰ·tail, List·Memᴰ·not-nil}
-use mathlib.Core.Bool.{Bool, true, false, cond}
-use lib.Dec.{ltb}
-use borrow.Author.Tests.{ltb-true}
-use Rattle.bytes_order.specs.Member.{_∈_, concatMap}
-use Rattle.bytes_order.specs.MemberLaws.{∈-cases, append-∈}
+use mathlib.Core.Path.{_≡_, refl, sym, _∙_, ap}
+use mathlib.Core.List.{List, [], _∷_, _++_, map, append-assoc, append-cancel-left, head-eq-of-cons-eq, tail-eq-of-cons-eq}
+use Rattle.bytes_order.specs.Member.{concatMap}
 use Rattle.update_format.specs.Update.{Id, Update}
 use Rattle.rules.specs.Parts.{Parts}
-use Rattle.rules.specs.Report.{codes, ascii, digit, hexByte, hex, decimalIn, decimal, updateLine, bytesLine, idLine, part, reportText}
-
--- bytes that are digits or letters: above every bracket, space and newline
-abbrev Digits : List ℕ → Type 0
-Digits bs = (b : ℕ) → b ∈ bs → 48 ≤ b
-
-digits-cons : {b : ℕ} {bs : List ℕ} → 48 ≤ b → Digits bs → Digits (b ∷ bs)
-digits-cons {b} {bs} h d c m = ⊎-elim (λ (e : c ≡ b). subst (λ (n : ℕ). 48 ≤ n) (sym e) h) (λ (k : c ∈ bs). d c k) (∈-cases m)
-
-digits-nil : Digits []
-digits-nil c m = absurd (List·Memᴰ·not-nil m)
-
-digits-append : {bs cs : List ℕ} → Digits bs → Digits cs → Digits (bs ++ cs)
-digits-append {bs} {cs} d e b m = ⊎-elim (λ (k : b ∈ bs). d b k) (λ (k : b ∈ cs). e b k) (append-∈ bs m)
-
--- one digit
-digit-large : (n : ℕ) → 48 ≤ digit n
-unfolding digit
-digit-large n = step (ltb n 10)
-  where
-    step : (t : Bool) → 48 ≤ cond t (48 + n) (87 + n)
-    step true = omega arith
-    step false = omega arith
-
-digit-injective : (m n : ℕ) → digit m ≡ digit n → m ≡ n
-unfolding digit
-digit-injective m n e = step (ltb m 10) (ltb n 10) refl refl e
-  where
-    step : (s t : Bool) → ltb m 10 ≡ s → ltb n 10 ≡ t → cond s (48 + m) (87 + m) ≡ cond t (48 + n) (87 + n) → m ≡ n
-    step true true p q e = omega arith
-    step true false p q e = let h : m < 10 = ltb-true m 10 p in omega arith
-    step false true p q e = let h : n < 10 = ltb-true n 10 q in omega arith
-    step false false p q e = omega arith
-
--- hexadecimal digits give back their bytes
-pub hex-injective : (bs cs : List ℕ) → hex bs ≡ hex cs → bs ≡ cs
-unfolding hex concatMap hexByte
-hex-injective [] [] e = refl
-hex-injective [] (c ∷ cs) e = absurd (nil≢cons e)
-hex-injective (b ∷ bs) [] e = absurd (cons≢nil e)
-hex-injective (b ∷ bs) (c ∷ cs) e = λ i. byte i ∷ hex-injective bs cs (tail-eq-of-cons-eq (tail-eq-of-cons-eq e)) i
-  where
-    byte : b ≡ c
-    byte =
-        let p : b / 16 ≡ c / 16 = digit-injective (b / 16) (c / 16) (head-eq-of-cons-eq e) in
-        let q : b % 16 ≡ c % 16 = digit-injective (b % 16) (c % 16) (head-eq-of-cons-eq (tail-eq-of-cons-eq e)) in
-        omega arith
-
-hex-digits : (bs : List ℕ) → Digits (hex bs)
-unfolding hex concatMap hexByte
-hex-digits [] = digits-nil
-hex-digits (b ∷ bs) = digits-cons (digit-large (b / 16)) (digits-cons (digit-large (b % 16)) (hex-digits bs))
-
-decimalIn-digits : (k n : ℕ) → Digits (decimalIn k n)
-unfolding decimalIn
-decimalIn-digits zero n = digits-nil
-decimalIn-digits (suc k) n = step (ltb n 10) (decimalIn-digits k (n / 10))
-  where
-    step : (t : Bool) → Digits (decimalIn k (n / 10)) → Digits (cond t (digit n ∷ []) (decimalIn k (n / 10) ++ (digit (n % 10) ∷ [])))
-    step true d = digits-cons (digit-large n) digits-nil
-    step false d = digits-append d (digits-cons (digit-large (n % 10)) digits-nil)
-
-decimal-digits : (n : ℕ) → Digits (decimal n)
-unfolding decimal
-decimal-digits n = decimalIn-digits 20 n
-
--- digits end at the first separator
-cut : (xs ys : List ℕ) {s t : ℕ} {r r′ : List ℕ} → Digits xs → Digits ys → s < 48 → t < 48 → xs ++ s ∷ r ≡ ys ++ t ∷ r′ → (xs ≡ ys) × (r ≡ r′)
-cut [] [] d d′ hs ht e = (refl, tail-eq-of-cons-eq e)
-cut [] (y ∷ ys) {s} d d′ hs ht e =
-    let h : 48 ≤ y = d′ y (List·Memᴰ·head refl) in
-    let q : s ≡ y = head-eq-of-cons-eq e in
-    absurd (omega arith)
-cut (x ∷ xs) [] {s} {t} d d′ hs ht e =
-    let h : 48 ≤ x = d x (List·Memᴰ·head refl) in
-    let q : x ≡ t = head-eq-of-cons-eq e in
-    absurd (omega arith)
-cut (x ∷ xs) (y ∷ ys) d d′ hs ht e =
-    let q : x ≡ y = head-eq-of-cons-eq e in
-    let r = cut xs ys (λ b m. d b (List·Memᴰ·tail m)) (λ b m. d′ b (List·Memᴰ·tail m)) hs ht (tail-eq-of-cons-eq e) in
-    (λ i. q i ∷ r .0 i, r .1)
+use Rattle.bytes_ascii.specs.Ascii.{codes, ascii, hex, decimal}
+use Rattle.bytes_ascii.specs.AsciiLaws.{hex-injective, hex-digits, decimal-digits, cut}
+use Rattle.rules.specs.Report.{updateLine, bytesLine, idLine, partText, reportText}
 
 -- Lines that can be read back: each begins with a bracket, and shows its key, wherever it stands.
 pub record Readable {A : Type 0} (line key : A → List ℕ) : Type 0 where
@@ -120,8 +37,8 @@ module _ {A : Type 0} {line key : A → List ℕ} (readable : Readable line key)
       (λ i. h .0 i ∷ k .0 i, k .1)
 
   -- a part shows the keys of its elements, and then comes the rest
-  pub part-reads : (word : String) (xs ys : List A) (r r′ : List ℕ) → part word line xs r ≡ part word line ys r′ → (map key xs ≡ map key ys) × (r ≡ r′)
-  unfolding part ascii codes
+  pub part-reads : (word : String) (xs ys : List A) (r r′ : List ℕ) → partText word line xs r ≡ partText word line ys r′ → (map key xs ≡ map key ys) × (r ≡ r′)
+  unfolding partText ascii codes
   part-reads word xs ys r r′ e =
       lines-read xs ys r r′ (append-cancel-left (ascii word) (concatMap line xs ++ 41 ∷ 10 ∷ r) (concatMap line ys ++ 41 ∷ 10 ∷ r′) e)
 

@@ -8,7 +8,7 @@ use Rattle.bytes_order.specs.Order.{same}
 use Rattle.bytes_order.specs.Member.{member, keep}
 use Rattle.bytes_order.specs.Sort.{sort}
 use Rattle.update_format.specs.Update.{Id, maxPredecessors, Operation, Update}
-use Rattle.rules.specs.Settle.{Row, Table, heldRow, heads, rankKey, ancestorsOf, validOp, settled}
+use Rattle.rules.specs.Settle.{Row, Table, heldRow, heads, rankKey, ancestorsOf, validOp, settledTable}
 
 -- the held updates of an author
 unfoldable pub heldBy : Table → ℕ → Table
@@ -40,16 +40,16 @@ chosenFrom hs first =
 unfoldable pub chosen : Table → ℕ → Table
 chosen T a = chosenFrom (heads T) (firstHeads (heads T) (ranked (heldBy T a)))
 
-unfoldable pub written : Table → ℕ → Operation → Update
-written T a o = record { author = a; preds = map (λ (r : Row). r .id) (chosen T a); op = o }
+unfoldable pub writtenIn : Table → ℕ → Operation → Update
+writtenIn T a o = record { author = a; preds = map (λ (r : Row). r .id) (chosen T a); op = o }
 
 -- the operation would not be void under the predecessors named
-unfoldable pub writable : Table → ℕ → Operation → Bool
-writable T a o = validOp T (ancestorsOf T (written T a o)) o
+unfoldable pub writableIn : Table → ℕ → Operation → Bool
+writableIn T a o = validOp T (ancestorsOf T (writtenIn T a o)) o
 
 -- the update that an author writes with an operation, from a set alone
 unfoldable pub writtenOf : (Update → Id) → List Update → ℕ → Operation → Update
-writtenOf ident S a o = written (settled ident S) a o
+writtenOf ident S a o = writtenIn (settledTable ident S) a o
 
 unfoldable pub writableOf : (Update → Id) → List Update → ℕ → Operation → Bool
-writableOf ident S a o = writable (settled ident S) a o
+writableOf ident S a o = writableIn (settledTable ident S) a o

@@ -14,16 +14,16 @@ use Rattle.bytes_order.specs.SortLaws.{Ascending→ascending}
 use Rattle.update_format.specs.Update.{Id, idLength, maxAuthor, maxPredecessors, Operation, Add, Update, Bounded, BoundedOperation}
 use Rattle.rules.specs.Standing.{Ancestor, Known, Fine, Held, Void}
 use Rattle.rules.specs.ReadOff.{Head, Marked}
-use Rattle.rules.specs.Settle.{Verdict, held, waiting, void, Row, Table, settled, heads, validOp}
+use Rattle.rules.specs.Settle.{Verdict, held, waiting, void, Row, Table, settledTable, heads, validOp}
 use Rattle.rules.specs.Decides.{Decides}
 use Rattle.rules.specs.LeastSets.{held-stored, held-not-void}
-use Rattle.rules.specs.Growth.{added, added-more, PredsHeld, grow-ready, grow-broken, held-kept}
-use Rattle.rules.specs.SettlingTable.{Right, SoundTable, Ready, preds-known, preds-held, valid→, →valid}
+use Rattle.rules.specs.Growth.{extended, added-more, PredsHeld, grow-ready, grow-broken, held-kept}
+use Rattle.rules.specs.SettlingTable.{Right, SoundTable, PredecessorsHeld, preds-known, preds-held, valid→, →valid}
 use Rattle.rules.specs.Settling.{settled-ascending, settled-decides}
 use Rattle.rules.specs.TableLaws.{row-eq, row-id, held-row, above→ancestor}
 use Rattle.rules.specs.ReadOffLaws.{head-right, head-all}
 use Rattle.rules.specs.ChoiceLaws.{rowId, chosen-all, chosen-few, chosen-ascending, chosen-head, chosen-some, head-row, some-head, named}
-use Rattle.rules.specs.Writing.{chosen, written, writable, writtenOf, writableOf}
+use Rattle.rules.specs.Writing.{chosen, writtenIn, writableIn, writtenOf, writableOf}
 
 -- a table that decides its set is sound
 decides-sound : {ident : Update → Id} {S : List Update} {T : Table} → Decides ident S T → SoundTable ident S T
@@ -41,19 +41,19 @@ decides-sound {ident} {S} {T} d =
 
 module _ (ident : Update → Id) (S : List Update) (distinct : Distinct ident S) (a : ℕ) (o : Operation) where
   abbrev table : Table
-  table = settled ident S
+  table = settledTable ident S
 
   decides : Decides ident S table
   decides = settled-decides ident S distinct
 
   -- the row of a predecessor
   pred-head : {i : Id} → i ∈ writtenOf ident S a o .preds → (r : Row) × (r ∈ heads table) × (r .id ≡ i)
-  unfolding writtenOf written
+  unfolding writtenOf writtenIn
   pred-head m = let f = map-∈ rowId (chosen table a) m in (f .0, chosen-head table a (f .1), f .2)
 
   -- it is bounded, so that it decodes to itself
   pub written-bounded : ((u : Update) → length (ident u) ≡ idLength) → a ≤ maxAuthor → BoundedOperation o → Bounded (writtenOf ident S a o)
-  unfolding writtenOf written
+  unfolding writtenOf writtenIn
   written-bounded sized small op =
       record {
         author-small = small;
@@ -71,8 +71,8 @@ module _ (ident : Update → Id) (S : List Update) (distinct : Distinct ident S)
       let f = pred-head m in
       (f .0 .update, head-right ident S table distinct decides (f .0) (f .1), sym (row-id distinct decides (head-row distinct decides (f .1))) ∙ f .2)
 
-  pub written-all-heads : length (heads (settled ident S)) ≤ maxPredecessors → (u : Update) → Head ident S u → ident u ∈ writtenOf ident S a o .preds
-  unfolding writtenOf written
+  pub written-all-heads : length (heads (settledTable ident S)) ≤ maxPredecessors → (u : Update) → Head ident S u → ident u ∈ writtenOf ident S a o .preds
+  unfolding writtenOf writtenIn
   written-all-heads few u h =
       let f = head-all ident S table distinct decides u h in
       let m : f .0 ∈ chosen table a = subst (λ (rs : Table). f .0 ∈ rs) (sym (chosen-all table a few)) (f .1) in
@@ -80,7 +80,7 @@ module _ (ident : Update → Id) (S : List Update) (distinct : Distinct ident S)
 
   -- the predecessors are held, and none is an ancestor of a held update
 
-  ready : Ready table (writtenOf ident S a o)
+  ready : PredecessorsHeld table (writtenOf ident S a o)
   ready =
       record {
         held-row = λ i m. let f = pred-head m in let k = head-row distinct decides (f .1) in (f .0, k .row-in, f .2, k .ruled-held);
@@ -100,19 +100,19 @@ module _ (ident : Update → Id) (S : List Update) (distinct : Distinct ident S)
   -- writable is fine
 
   writable-fine : writableOf ident S a o ≡ true → Fine ident S (writtenOf ident S a o)
-  unfolding writtenOf written writableOf writable
+  unfolding writtenOf writtenIn writableOf writableIn
   writable-fine e =
       record { antichain = λ x y m n p q. pred-on-top m p y (below y n q); valid = valid→ (decides-sound decides) ready o e }
 
   fine-writable : Fine ident S (writtenOf ident S a o) → writableOf ident S a o ≡ true
-  unfolding writtenOf written writableOf writable
+  unfolding writtenOf writtenIn writableOf writableIn
   fine-writable f = →valid (decides-sound decides) ready o (f .valid)
 
   -- no stored update has its id
   abbrev New : Type 0
   New = (u : Update) → u ∈ S → ident u ≡ ident (writtenOf ident S a o) → ⊥
 
-  added-distinct : New → Distinct ident (added S (writtenOf ident S a o))
+  added-distinct : New → Distinct ident (extended S (writtenOf ident S a o))
   added-distinct new =
       distinct-append distinct (distinct-cons (λ y m. absurd (List·Memᴰ·not-nil m)) distinct-nil)
       (λ x y m k e. new x m (e ∙ ap ident (∈-singleton k)))
@@ -122,7 +122,7 @@ module _ (ident : Update → Id) (S : List Update) (distinct : Distinct ident S)
       → Held ident (S ++ (writtenOf ident S a o ∷ [])) (writtenOf ident S a o)
   written-held new e =
       let w : Update = writtenOf ident S a o in
-      grow-ready ident S (added S w) (added-more S w) (added-distinct new) (∈-append-right S (List·Memᴰ·head refl)) known below
+      grow-ready ident S (extended S w) (added-more S w) (added-distinct new) (∈-append-right S (List·Memᴰ·head refl)) known below
       (λ v m p. held-kept ident S w (added-distinct new) (below v m p)) (writable-fine e)
 
   -- and void otherwise
@@ -130,7 +130,7 @@ module _ (ident : Update → Id) (S : List Update) (distinct : Distinct ident S)
       → Void ident (S ++ (writtenOf ident S a o ∷ [])) (writtenOf ident S a o)
   written-void new e =
       let w : Update = writtenOf ident S a o in
-      grow-broken ident S (added S w) (added-more S w) (added-distinct new) (∈-append-right S (List·Memᴰ·head refl)) known below
+      grow-broken ident S (extended S w) (added-more S w) (added-distinct new) (∈-append-right S (List·Memᴰ·head refl)) known below
       (λ f. true-false (fine-writable f) e)
 
   pub unwritable-void : ((u : Update) → u ∈ S → ident u ≡ ident (writtenOf ident S a o) → ⊥) → writableOf ident S a o ≡ false
@@ -139,7 +139,7 @@ module _ (ident : Update → Id) (S : List Update) (distinct : Distinct ident S)
 
   -- a writable one is not stored: a stored update with its id is another update
   pub written-new : writableOf ident S a o ≡ true → writtenOf ident S a o ∈ S → ⊥
-  unfolding writtenOf written
+  unfolding writtenOf writtenIn
   written-new e m =
       let h : Held ident S (writtenOf ident S a o) = Held.held m known below (writable-fine e) in
       let r = held-row distinct decides h in
@@ -151,7 +151,7 @@ module _ (ident : Update → Id) (S : List Update) (distinct : Distinct ident S)
 
   -- every held update of an author who is not marked is its ancestor: it forms no fork
   pub written-no-fork : (Marked ident S a → ⊥) → (u : Update) → Held ident S u → u .author ≡ a → Ancestor ident S u (writtenOf ident S a o)
-  unfolding writtenOf written
+  unfolding writtenOf writtenIn
   written-no-fork n u k e =
       let r = held-row distinct decides k in
       let f = named distinct decides a n (r .1) (ap (λ (v : Update). v .author) (r .2) ∙ e) in
@@ -165,5 +165,5 @@ module _ (ident : Update → Id) (S : List Update) (distinct : Distinct ident S)
 
 -- an Add is always writable
 pub add-writable : (ident : Update → Id) (S : List Update) (a : ℕ) (t : List ℕ) → writableOf ident S a (Add t) ≡ true
-unfolding writableOf writable validOp
+unfolding writableOf writableIn validOp
 add-writable ident S a t = refl

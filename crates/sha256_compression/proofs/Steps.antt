@@ -1,8 +1,8 @@
 -- The steps of the compression, one more and eight more.
 use mathlib.Core.Path.{_≡_, subst}
 use mathlib.Core.List.{List}
-use Prim.Native.Nat.{ℕ, suc, _+_, _≤_, _<_}
-use native.Mathlib.Nat.{add-assoc, le-of-lt}
+use Prim.Native.Nat.{ℕ, suc, _+_, _≤_}
+use native.Mathlib.Nat.{add-assoc}
 use native.Mathlib.Numerals.{add-one}
 use native.Mathlib.Omega.{arith}
 use mir.Syntax.{w64}
@@ -28,9 +28,9 @@ step-on t k W H i j l = rw (l, j, i, steps-one t W H)
 pub onward : (t n : ℕ) (W : List ℕ) (H : Working) {s : Working} → s ≡ steps (t + n + 1) W H → s ≡ steps (t + (n + 1)) W H
 onward t n W H {s} e = subst (λ (k : ℕ). s ≡ steps k W H) (add-assoc t n 1) e
 
--- t + n is an index of the 64 steps, where z more follow it
-pub index : (t n z : ℕ) → t + (n + suc z) ≤ 64 → t + n < 64
+-- t + n is one of the 64 steps, where z more follow it
+pub index : (t n z : ℕ) → t + (n + suc z) ≤ 64 → t + n + 1 ≤ 64
 index t n z h = omega arith
 
 pub index-fits : (t n z : ℕ) → t + (n + suc z) ≤ 64 → Fits w64 (t + n)
-index-fits t n z h = fits-le (le-of-lt (index t n z h)) (fits-lit tt)
+index-fits t n z h = let k : t + n ≤ 64 = omega arith in fits-le k (fits-lit tt)

@@ -5,7 +5,7 @@ ghost use mathlib.Core.List.{List};
 ghost use Prim.Native.Nat.{ℕ, _+_, _≤_, _<_};
 ghost use lib.ListN.{length};
 ghost use Rattle.sha256_fips180.specs.Fips180.{ROTR, Ch, Maj, Σ₀, Σ₁, σ₀, σ₁, K, wordAt, words, Working, T₁, T₂, step, steps, added, compress};
-ghost use Rattle.sha256_compression.specs.Code.{working, Scheduled};
+ghost use Rattle.sha256_compression.specs.Code.{working, Scheduled, Rotation, Steps, Loadable, Blocks};
 
 // K₀ .. K₆₃ of 4.2.2.
 pub const CONSTANTS: [u32; 64] = [
@@ -96,7 +96,7 @@ fn wide(x: u8) -> u32
 
 // x rotated right by n.
 fn rotr(n: u32, x: u32) -> u32
-    requires { ⌜ (0 < n) × (n < 32) ⌝ }
+    requires { ⌜ Rotation n ⌝ }
     ensures { λ r. ⌜ r ≡ ROTR n x ⌝ }
 {
     (x >> n) | (x << (32 - n))
@@ -181,7 +181,7 @@ fn step(s: State, k: u32, w: u32) -> State
 
 // Step t: from the first t steps to the first t + 1, of any hash value H.
 fn step_at(s: State, k: &[u32; 64], w: &[u32; 64], t: usize) -> State
-    requires { ⌜ (t < 64) × (now k ≡ K) ⌝ }
+    requires { ⌜ Steps t 1 (now k) ⌝ }
     ensures { λ r. ⌜ ((H : Working) → working s ≡ steps t (now (w .entry)) H → working r ≡ steps (t + 1) (now (w .entry)) H) ⌝ }
 {
     step(s, k[t], w[t])
@@ -189,7 +189,7 @@ fn step_at(s: State, k: &[u32; 64], w: &[u32; 64], t: usize) -> State
 
 // Eight steps: written out, they leave no move of a variable to the next.
 fn eight_steps(s: State, k: &[u32; 64], w: &[u32; 64], t: usize) -> State
-    requires { ⌜ (t + 8 ≤ 64) × (now k ≡ K) ⌝ }
+    requires { ⌜ Steps t 8 (now k) ⌝ }
     ensures { λ r. ⌜ ((H : Working) → working s ≡ steps t (now (w .entry)) H → working r ≡ steps (t + 8) (now (w .entry)) H) ⌝ }
 {
     let s1 = step_at(s, k, w, t);
@@ -226,7 +226,7 @@ fn word(s: &[u8], i: usize) -> u32
 
 // The block's 16 words to the front of the schedule.
 fn load(w: &mut [u32; 64], s: &[u8])
-    requires { ⌜ (length (now w) ≡ 64) × (64 ≤ length (now s)) ⌝ }
+    requires { ⌜ Loadable (now w) (now s) ⌝ }
     ensures { λ r. ⌜ Scheduled (words 16 (now (s .entry))) 0 (now (w .exit)) ⌝ }
 {
     let mut t: usize = 0;
@@ -290,7 +290,7 @@ fn added(s: State, h: State) -> State
 
 // The hash value after one more block, s.
 pub fn compress(h: State, s: &[u8], k: &[u32; 64]) -> State
-    requires { ⌜ (64 ≤ length (now s)) × (now k ≡ K) ⌝ }
+    requires { ⌜ Blocks 1 (now s) (now k) ⌝ }
     ensures { λ r. ⌜ working r ≡ compress (working h) (now (s .entry)) ⌝ }
 {
     let mut w = [0u32; 64];

@@ -2,11 +2,11 @@
 // crate `fips180`.
 ghost use mathlib.Core.Path.{_≡_};
 ghost use mathlib.Core.List.{_++_};
-ghost use Prim.Native.Nat.{_+_, _*_, _/_, _≤_, _<_};
+ghost use Prim.Native.Nat.{_+_, _/_, _≤_, _<_};
 ghost use lib.ListN.{length, take, drop};
-ghost use Rattle.sha256_fips180.specs.Fips180.{SHA-256, K, bigEndian, pad, hash, bytesOf};
-ghost use Rattle.sha256_compression.specs.Code.{working};
-ghost use Rattle.sha256_digest.specs.Tail.{tail, lastSize};
+ghost use Rattle.sha256_fips180.specs.Fips180.{SHA-256, bigEndian, pad, hash, bytesOf};
+ghost use Rattle.sha256_compression.specs.Code.{working, Blocks};
+ghost use Rattle.sha256_digest.specs.Tail.{tail, lastSize, HashedWhole};
 use bytes_copy::copy;
 use sha256_compression::CONSTANTS;
 use sha256_compression::State;
@@ -14,7 +14,7 @@ use sha256_compression::compress;
 
 // The hash value after the first n blocks of s.
 fn blocks(s: &[u8], k: &[u32; 64], n: usize) -> State
-    requires { ⌜ (64 * n ≤ length (now s)) × (now k ≡ K) ⌝ }
+    requires { ⌜ Blocks n (now s) (now k) ⌝ }
     ensures { λ r. ⌜ working r ≡ hash n (now (s .entry)) ⌝ }
 {
     let mut h = State {
@@ -75,7 +75,7 @@ fn last_blocks(s: &[u8]) -> [u8; 128]
 
 // The last hash value of the padded message, from that after the whole blocks of s.
 fn finish(h: State, s: &[u8], k: &[u32; 64]) -> State
-    requires { ⌜ (working h ≡ hash (length (now s) / 64) (now s)) × (now k ≡ K) ⌝ }
+    requires { ⌜ HashedWhole (working h) (now s) (now k) ⌝ }
     ensures { λ r. ⌜ working r ≡ hash (length (pad (now (s .entry))) / 64) (pad (now (s .entry))) ⌝ }
 {
     let b = last_blocks(s);

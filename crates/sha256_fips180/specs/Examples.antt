@@ -8,8 +8,8 @@ pub record Example : Type 0 where
   pub message : List ℕ
   pub digest : List ℕ
 
-unfoldable pub table : List Example
-table =
+unfoldable pub examples : List Example
+examples =
     -- the empty message
     record { message = []; digest = 227 ∷ 176 ∷ 196 ∷ 66 ∷ 152 ∷ 252 ∷ 28 ∷ 20 ∷ 154 ∷ 251 ∷ 244 ∷ 200 ∷ 153 ∷ 111 ∷ 185 ∷ 36 ∷ 39 ∷ 174 ∷ 65 ∷ 228 ∷ 100 ∷ 155 ∷ 147 ∷ 76 ∷ 164 ∷ 149 ∷ 153 ∷ 27 ∷ 120 ∷ 82 ∷ 184 ∷ 85 ∷ [] }
     -- "abc", one block
@@ -20,6 +20,6 @@ table =
     ∷ record { message = 97 ∷ 98 ∷ 99 ∷ 100 ∷ 101 ∷ 102 ∷ 103 ∷ 104 ∷ 98 ∷ 99 ∷ 100 ∷ 101 ∷ 102 ∷ 103 ∷ 104 ∷ 105 ∷ 99 ∷ 100 ∷ 101 ∷ 102 ∷ 103 ∷ 104 ∷ 105 ∷ 106 ∷ 100 ∷ 101 ∷ 102 ∷ 103 ∷ 104 ∷ 105 ∷ 106 ∷ 107 ∷ 101 ∷ 102 ∷ 103 ∷ 104 ∷ 105 ∷ 106 ∷ 107 ∷ 108 ∷ 102 ∷ 103 ∷ 104 ∷ 105 ∷ 106 ∷ 107 ∷ 108 ∷ 109 ∷ 103 ∷ 104 ∷ 105 ∷ 106 ∷ 107 ∷ 108 ∷ 109 ∷ 110 ∷ 104 ∷ 105 ∷ 106 ∷ 107 ∷ 108 ∷ 109 ∷ 110 ∷ 111 ∷ 105 ∷ 106 ∷ 107 ∷ 108 ∷ 109 ∷ 110 ∷ 111 ∷ 112 ∷ 106 ∷ 107 ∷ 108 ∷ 109 ∷ 110 ∷ 111 ∷ 112 ∷ 113 ∷ 107 ∷ 108 ∷ 109 ∷ 110 ∷ 111 ∷ 112 ∷ 113 ∷ 114 ∷ 108 ∷ 109 ∷ 110 ∷ 111 ∷ 112 ∷ 113 ∷ 114 ∷ 115 ∷ 109 ∷ 110 ∷ 111 ∷ 112 ∷ 113 ∷ 114 ∷ 115 ∷ 116 ∷ 110 ∷ 111 ∷ 112 ∷ 113 ∷ 114 ∷ 115 ∷ 116 ∷ 117 ∷ []; digest = 207 ∷ 91 ∷ 22 ∷ 167 ∷ 120 ∷ 175 ∷ 131 ∷ 128 ∷ 3 ∷ 108 ∷ 229 ∷ 158 ∷ 123 ∷ 4 ∷ 146 ∷ 55 ∷ 11 ∷ 36 ∷ 155 ∷ 17 ∷ 232 ∷ 240 ∷ 122 ∷ 81 ∷ 175 ∷ 172 ∷ 69 ∷ 3 ∷ 122 ∷ 254 ∷ 233 ∷ 209 ∷ [] }
     ∷ []
 
-pub worked : map (λ (x : Example). SHA-256 (x .message)) table ≡ map (λ (x : Example). x .digest) table
-unfolding table SHA-256 Σ₀ Σ₁ σ₀ σ₁ K bigEndian zeroBytes pad words block H⁰ nextWord extend schedule T₁ T₂ step steps added compress hash bytesOf
+pub worked : map (λ (x : Example). SHA-256 (x .message)) examples ≡ map (λ (x : Example). x .digest) examples
+unfolding examples SHA-256 Σ₀ Σ₁ σ₀ σ₁ K bigEndian zeroBytes pad words block H⁰ nextWord extend schedule T₁ T₂ step steps added compress hash bytesOf
 worked = refl

@@ -16,7 +16,9 @@ use test_script::number;
 use test_script::set;
 use test_script::slot;
 use test_script::word;
-use update_format::part_of;
+use update_format::bounds::ID_LENGTH;
+use update_format::bounds::TAG_LENGTH;
+use update_format::slice_of;
 
 // Offers an update.
 fn offer(l: Ledger, store: &mut [u8], update: &[u8]) -> Ledger {
@@ -46,7 +48,7 @@ pub fn ask(l: Ledger, store: &[u8], update: &[u8]) {
 // Prints the report.
 pub fn report(l: Ledger, store: &[u8], out: &mut [u8]) {
     match ledger::report(l, store, out) {
-        Reported::Written(n) => text(part_of(out, 0, n)),
+        Reported::Written(n) => text(slice_of(out, 0, n)),
         Reported::Refused(r) => answered(Answer::Refused(r)),
     }
 }
@@ -61,10 +63,10 @@ fn kind(b: u8) -> Kind {
 }
 
 // An id from bytes; zeros stand for missing ones.
-fn id(s: &[u8]) -> [u8; 32] {
-    let mut id = [0u8; 32];
+fn id(s: &[u8]) -> [u8; ID_LENGTH] {
+    let mut id = [0u8; ID_LENGTH];
     let mut i: usize = 0;
-    while i < 32 {
+    while i < ID_LENGTH {
         id[i] = byte(s, i);
         i += 1;
     }
@@ -73,15 +75,15 @@ fn id(s: &[u8]) -> [u8; 32] {
 
 // Asks for an update: its author, its kind, the byte of which its tag is 16, its id, and its named ids.
 fn ask_for(l: Ledger, store: &[u8], request: &[u8], out: &mut [u8]) -> Wrote {
-    let tag = [byte(request, 2); 16];
-    let named = part_of(request, 35, request.len());
+    let tag = [byte(request, 2); TAG_LENGTH];
+    let named = slice_of(request, 3 + ID_LENGTH, request.len());
     ledger::write(
         l,
         store,
         byte(request, 0),
         kind(byte(request, 1)),
         tag,
-        id(part_of(request, 3, 32)),
+        id(slice_of(request, 3, ID_LENGTH)),
         named,
         out,
     )
@@ -99,7 +101,7 @@ fn written(slots: &mut [u8], s: usize, update: &[u8]) {
 // Writes what a slot asks for, and puts what was written in its place. Where the write is refused, the slot keeps what it asked for.
 pub fn write(l: Ledger, store: &[u8], slots: &mut [u8], out: &mut [u8], s: usize) {
     match ask_for(l, store, bytes_of(slots, s), out) {
-        Wrote::Written(n) => written(slots, s, part_of(out, 0, n)),
+        Wrote::Written(n) => written(slots, s, slice_of(out, 0, n)),
         Wrote::Refused(r) => answered(Answer::Refused(r)),
     }
 }

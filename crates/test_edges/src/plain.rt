@@ -13,6 +13,7 @@ use crate::commands::WRITE;
 use crate::compare::compare;
 use crate::show;
 use crate::show::text;
+use ledger_state::STORE_LENGTH;
 use test_script::LENGTHS;
 use test_script::build;
 use test_script::bytes_of;
@@ -25,7 +26,7 @@ use test_script::word;
 pub const FILL: u8 = 165;
 
 // A byte more than a store has, and what every report fits.
-pub const STORE_ROOM: usize = 34113;
+pub const STORE_ROOM: usize = STORE_LENGTH + 1;
 
 pub const BUFFER_ROOM: usize = 12000;
 

@@ -5,7 +5,7 @@ use ledger::Refusal;
 use ledger::Standing;
 use libc::STDOUT_FILENO;
 use replicas_check::Compared;
-use update_format::Reading;
+use update_format::ParseResult;
 
 pub fn text(s: &[u8]) {
     io::write_all(STDOUT_FILENO, s);
@@ -91,10 +91,10 @@ pub fn compared(c: Compared) {
 }
 
 // What bytes are read as.
-pub fn read(r: Reading) {
+pub fn read(r: ParseResult) {
     match r {
-        Reading::Update(_) => text(b"(ok)\n"),
-        Reading::Refused(m) => answered(Answer::Refused(Refusal::Malformed(m))),
+        ParseResult::Update(_) => text(b"(ok)\n"),
+        ParseResult::Refused(m) => answered(Answer::Refused(Refusal::Malformed(m))),
     }
 }
 

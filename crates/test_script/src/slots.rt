@@ -9,7 +9,7 @@ use crate::words::number;
 use crate::words::word;
 use bytes_copy::copy;
 use bytes_order::same;
-use update_format::part_of;
+use update_format::slice_of;
 
 // How many bytes a slot takes, and how many of them are for the length.
 const SLOT: usize = 640;
@@ -88,7 +88,7 @@ pub fn set_length(slots: &mut [u8], s: usize, n: usize) {
 
 // The bytes of a slot.
 pub fn bytes_of(slots: &[u8], s: usize) -> &[u8] {
-    part_of(slots, start(s) + HEAD, length_of(slots, s))
+    slice_of(slots, start(s) + HEAD, length_of(slots, s))
 }
 
 // The length of a slot's bytes, at most that of a whole.
@@ -123,7 +123,7 @@ fn repeat(slots: &mut [u8], at: usize, b: u8, n: usize) -> usize {
 
 // Whether a part is the id of a slot's bytes.
 fn is_id(part: &[u8]) -> bool {
-    same(part_of(part, 0, 3), b"id:")
+    same(slice_of(part, 0, 3), b"id:")
 }
 
 // Whether a word is a part: `id:a`, the id of the bytes of a; `77*16`, the byte 77, 16 times; `77`, once.

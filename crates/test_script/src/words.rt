@@ -1,7 +1,7 @@
 // The words of a line, and the numbers that they spell.
 ghost use Prim.Native.Nat.{_≤_};
 ghost use lib.ListN.{length};
-use update_format::part_of;
+use update_format::slice_of;
 
 // The largest number.
 const LARGEST: usize = 0xffffffffffffffff;
@@ -35,12 +35,12 @@ pub fn field(s: &[u8], k: usize, x: u8) -> &[u8] {
         at = past(s, at, x);
         i += 1;
     }
-    part_of(s, at, find(s, at, x) - at)
+    slice_of(s, at, find(s, at, x) - at)
 }
 
 // What comes after the first x.
 pub fn after(s: &[u8], x: u8) -> &[u8] {
-    part_of(s, past(s, 0, x), s.len())
+    slice_of(s, past(s, 0, x), s.len())
 }
 
 // The k-th word of a line.

@@ -3,12 +3,13 @@ ghost use mathlib.Core.Path.{_≡_};
 ghost use Prim.Native.Nat.{_≤_};
 ghost use lib.ListN.{length};
 ghost use Rattle.bytes_order.specs.Member.{member};
+ghost use Rattle.update_format.specs.Update.{maxAuthor, tagLength};
 ghost use Rattle.update_format.specs.Decode.{idsAt, decode};
 ghost use Rattle.rules.specs.Settle.{isAdd, isInsert, names, deletes};
 ghost use Rattle.update_fields.specs.Fields.{testOf, authorIn, isAnyAdd, tagIn, valueIn, anchorIn};
 ghost use Rattle.update_fields.specs.Laid.{Laid};
 use update_format::Operation;
-use update_format::Reading;
+use update_format::ParseResult;
 use update_format::bounds::ADD;
 use update_format::bounds::DELETE;
 use update_format::bounds::ID_LENGTH;
@@ -31,7 +32,7 @@ fn layout_of(b: &[u8]) -> Layout
     ensures { λ r. ⌜ Laid (now (b .entry)) r (decode (now (b .entry))) ⌝ }
 {
     match update_parsing::read(b) {
-        Reading::Update(u) => {
+        ParseResult::Update(u) => {
             let operation = u.operation;
             match operation {
                 Operation::Add { tag } => Layout {
@@ -64,7 +65,7 @@ fn layout_of(b: &[u8]) -> Layout
                 },
             }
         }
-        Reading::Refused(_) => Layout {
+        ParseResult::Refused(_) => Layout {
             kind: 0,
             author: 0,
             text: 0,
@@ -76,7 +77,7 @@ fn layout_of(b: &[u8]) -> Layout
 
 // The author.
 pub fn author_of(b: &[u8]) -> u8
-    ensures { λ r. ⌜ (r ≡ authorIn (decode (now (b .entry)))) × (r ≤ 15) ⌝ }
+    ensures { λ r. ⌜ (r ≡ authorIn (decode (now (b .entry)))) × (r ≤ maxAuthor) ⌝ }
 {
     let f = layout_of(b);
     f.author
@@ -84,11 +85,11 @@ pub fn author_of(b: &[u8]) -> u8
 
 // The tag of an Add.
 pub fn tag_of(b: &[u8]) -> &[u8]
-    ensures { λ r. ⌜ (now r ≡ tagIn (decode (now (b .entry)))) × (length (now r) ≤ 32) ⌝ }
+    ensures { λ r. ⌜ (now r ≡ tagIn (decode (now (b .entry)))) × (length (now r) ≤ tagLength) ⌝ }
 {
     let f = layout_of(b);
     if f.kind == ADD {
-        update_format::part_of(b, f.text, TAG_LENGTH)
+        update_format::slice_of(b, f.text, TAG_LENGTH)
     } else {
         &b[..0]
     }
@@ -96,11 +97,11 @@ pub fn tag_of(b: &[u8]) -> &[u8]
 
 // The value of an Insert.
 pub fn value_of(b: &[u8]) -> &[u8]
-    ensures { λ r. ⌜ (now r ≡ valueIn (decode (now (b .entry)))) × (length (now r) ≤ 32) ⌝ }
+    ensures { λ r. ⌜ (now r ≡ valueIn (decode (now (b .entry)))) × (length (now r) ≤ tagLength) ⌝ }
 {
     let f = layout_of(b);
     if f.kind == INSERT {
-        update_format::part_of(b, f.text, TAG_LENGTH)
+        update_format::slice_of(b, f.text, TAG_LENGTH)
     } else {
         &b[..0]
     }
@@ -112,7 +113,7 @@ pub fn anchor_of(b: &[u8]) -> &[u8]
 {
     let f = layout_of(b);
     if f.kind == INSERT {
-        update_format::part_of(b, f.ids, ID_LENGTH)
+        update_format::slice_of(b, f.ids, ID_LENGTH)
     } else {
         &b[..0]
     }
@@ -140,7 +141,7 @@ pub fn adds(b: &[u8], tag: &[u8]) -> bool
 {
     let f = layout_of(b);
     if f.kind == ADD {
-        bytes_order::same(tag, update_format::part_of(b, f.text, TAG_LENGTH))
+        bytes_order::same(tag, update_format::slice_of(b, f.text, TAG_LENGTH))
     } else {
         false
     }
@@ -178,7 +179,7 @@ pub fn erases(b: &[u8], id: &[u8]) -> bool
 {
     let f = layout_of(b);
     if f.kind == DELETE {
-        bytes_order::same(id, update_format::part_of(b, f.ids, ID_LENGTH))
+        bytes_order::same(id, update_format::slice_of(b, f.ids, ID_LENGTH))
     } else {
         false
     }

@@ -9,7 +9,7 @@ use Rattle.bytes_order.specs.Compare.{orderOf}
 use Rattle.bytes_order.specs.declared.Order.{Order}
 use Rattle.bytes_order.specs.declared.Order.the-variants.{Less, Equal, Greater}
 use Rattle.update_format.specs.Update.{idLength}
-use Rattle.update_format.specs.Decode.{part, idsAt}
+use Rattle.update_format.specs.Decode.{slice, idsAt}
 
 abbrev isLess : Order → Bool
 isLess Less = true
@@ -33,13 +33,13 @@ positive (suc n) h = omega arith
 module _ (b : List ℕ) (at : ℕ) where
   -- the k-th id of the run
   abbrev id : ℕ → List ℕ
-  id k = part b (at + idLength * k) idLength
+  id k = slice b (at + idLength * k) idLength
 
   -- the ids from the k-th on, where the last is that at place last
   abbrev pub from : ℕ → ℕ → Bool
   from last k = ascending (idsAt b (at + idLength * k) (suc (last - k)))
 
-  more : (n r : ℕ) → ascending (idsAt b n (suc (suc r))) ≡ before (part b n idLength) (part b (n + idLength) idLength) && ascending (idsAt b (n + idLength) (suc r))
+  more : (n r : ℕ) → ascending (idsAt b n (suc (suc r))) ≡ before (slice b n idLength) (slice b (n + idLength) idLength) && ascending (idsAt b (n + idLength) (suc r))
   unfolding ascending idsAt
   more n r = refl
 
@@ -49,7 +49,7 @@ module _ (b : List ℕ) (at : ℕ) where
       let e : at + idLength * k + idLength ≡ at + idLength * (k + 1) = omega arith in
       ap (λ (n : ℕ). ascending (idsAt b (at + idLength * k) n)) c
       ∙ more (at + idLength * k) (last - (k + 1))
-      ∙ ap (λ (n : ℕ). before (id k) (part b n idLength) && ascending (idsAt b n (suc (last - (k + 1))))) e
+      ∙ ap (λ (n : ℕ). before (id k) (slice b n idLength) && ascending (idsAt b n (suc (last - (k + 1))))) e
 
   -- a pair that does not rise decides
   pub stop : (last k : ℕ) → k < last → before (id k) (id (k + 1)) ≡ false → false ≡ from last k

@@ -8,13 +8,13 @@ use Rattle.bytes_order.specs.Order.{ascending}
 use Rattle.update_format.specs.Update.{maxAuthor, maxPredecessors, maxNamed, idLength, tagLength, minLength, maxLength, Id, Operation, Add, Remove, Insert, Delete, Update}
 
 -- the k bytes of b from byte at on
-abbrev pub part : List ℕ → ℕ → ℕ → List ℕ
-part b at k = take k (drop at b)
+abbrev pub slice : List ℕ → ℕ → ℕ → List ℕ
+slice b at k = take k (drop at b)
 
 -- the n ids of b from byte at on
 unfoldable pub idsAt : List ℕ → ℕ → ℕ → List Id
 idsAt b at zero = []
-idsAt b at (suc n) = part b at idLength ∷ idsAt b (at + idLength) n
+idsAt b at (suc n) = slice b at idLength ∷ idsAt b (at + idLength) n
 
 -- the fields of a layout, as far as there are bytes (0 stands for a missing one)
 abbrev pub authorOf : List ℕ → ℕ
@@ -89,10 +89,10 @@ row9 b = not (ascending (idsAt b firstPredecessor (countOf b)) && ascending (nam
 -- the operation that the bytes lay out
 unfoldable pub operationOf : List ℕ → Operation
 operationOf b =
-    cond (eqb (kindOf b) 1) (Add (part b (bodyAt b) tagLength))
-    (cond (eqb (kindOf b) 2) (Remove (part b (bodyAt b) tagLength) (namedOf b))
-    (cond (eqb (kindOf b) 3) (Insert (part b (bodyAt b) idLength) (part b (bodyAt b + idLength) tagLength))
-    (Delete (part b (bodyAt b) idLength))))
+    cond (eqb (kindOf b) 1) (Add (slice b (bodyAt b) tagLength))
+    (cond (eqb (kindOf b) 2) (Remove (slice b (bodyAt b) tagLength) (namedOf b))
+    (cond (eqb (kindOf b) 3) (Insert (slice b (bodyAt b) idLength) (slice b (bodyAt b + idLength) tagLength))
+    (Delete (slice b (bodyAt b) idLength))))
 
 unfoldable pub updateOf : List ℕ → Update
 updateOf b = record { author = authorOf b; preds = idsAt b firstPredecessor (countOf b); op = operationOf b }

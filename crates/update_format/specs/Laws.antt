@@ -12,8 +12,8 @@ use lib.Dec.{ltb, leb, eqb}
 use Rattle.bytes_order.specs.Order.{ascending}
 use Rattle.bytes_order.specs.BoolLaws.{or-false→, and-true→}
 use Rattle.update_format.specs.Update.{maxAuthor, maxPredecessors, maxNamed, idLength, tagLength, minLength, maxLength, Id, Operation, Add, Remove, Insert, Delete, Update, encode, encodeOperation, Ids, BoundedOperation, add, remove, insert, delete, Bounded, WellFormed}
-use Rattle.update_format.specs.Decode.{part, idsAt, authorOf, countOf, firstPredecessor, kindAt, kindOf, bodyAt, namedCountAt, namedCountOf, lengthOf, namedOf, row2, row3, row4, row5, row6, row7, row8, row9, operationOf, updateOf, update, decode}
-use Rattle.update_format.specs.Parts.{joined, part-length, part-rest, part-all, byte-rest, part-shift, ids-length, ids-joined, ids-sized, ids-shift, joined-length, ids-back}
+use Rattle.update_format.specs.Decode.{slice, idsAt, authorOf, countOf, firstPredecessor, kindAt, kindOf, bodyAt, namedCountAt, namedCountOf, lengthOf, namedOf, row2, row3, row4, row5, row6, row7, row8, row9, operationOf, updateOf, update, decode}
+use Rattle.update_format.specs.Slices.{joined, slice-length, slice-rest, slice-all, byte-rest, slice-shift, ids-length, ids-joined, ids-sized, ids-shift, joined-length, ids-back}
 use Rattle.update_format.specs.Rows.{rows, applies, update-none}
 
 -- what an accepted update's bytes satisfy
@@ -79,20 +79,20 @@ module _ (b : List ℕ) (none : (k : ℕ) → applies k b ≡ false) where
 
 -- the operation and the length by the kind byte
 module _ (b : List ℕ) where
-  pub add-op : kindOf b ≡ 1 → operationOf b ≡ Add (part b (bodyAt b) tagLength)
+  pub add-op : kindOf b ≡ 1 → operationOf b ≡ Add (slice b (bodyAt b) tagLength)
   unfolding operationOf
   add-op k = rw k
 
   pub remove-op :
-      kindOf b ≡ 2 → operationOf b ≡ Remove (part b (bodyAt b) tagLength) (idsAt b (namedCountAt b + 1) (namedCountOf b))
+      kindOf b ≡ 2 → operationOf b ≡ Remove (slice b (bodyAt b) tagLength) (idsAt b (namedCountAt b + 1) (namedCountOf b))
   unfolding operationOf namedOf
   remove-op k = rw k
 
-  pub insert-op : kindOf b ≡ 3 → operationOf b ≡ Insert (part b (bodyAt b) idLength) (part b (bodyAt b + idLength) tagLength)
+  pub insert-op : kindOf b ≡ 3 → operationOf b ≡ Insert (slice b (bodyAt b) idLength) (slice b (bodyAt b + idLength) tagLength)
   unfolding operationOf
   insert-op k = rw k
 
-  pub delete-op : kindOf b ≡ 4 → operationOf b ≡ Delete (part b (bodyAt b) idLength)
+  pub delete-op : kindOf b ≡ 4 → operationOf b ≡ Delete (slice b (bodyAt b) idLength)
   unfolding operationOf
   delete-op k = rw k
 
@@ -144,8 +144,8 @@ module _ (b : List ℕ) (l : Layout b) where
   back-add k =
       let n : length b ≡ bodyAt b + tagLength = l .whole ∙ add-length b k in
       record {
-        bounded-op = rw (add-op b k) (add (part-length b (bodyAt b) tagLength (omega arith)));
-        laid-op = rw (add-op b k) (ap₂ (λ (x : ℕ) (r : List ℕ). x ∷ r) (sym k) (part-all b (bodyAt b) tagLength n) ∙ byte-rest b (kindAt b) (l .kind-inside));
+        bounded-op = rw (add-op b k) (add (slice-length b (bodyAt b) tagLength (omega arith)));
+        laid-op = rw (add-op b k) (ap₂ (λ (x : ℕ) (r : List ℕ). x ∷ r) (sym k) (slice-all b (bodyAt b) tagLength n) ∙ byte-rest b (kindAt b) (l .kind-inside));
       }
 
   back-delete : kindOf b ≡ 4 → Back
@@ -153,8 +153,8 @@ module _ (b : List ℕ) (l : Layout b) where
   back-delete k =
       let n : length b ≡ bodyAt b + idLength = l .whole ∙ delete-length b k in
       record {
-        bounded-op = rw (delete-op b k) (delete (part-length b (bodyAt b) idLength (omega arith)));
-        laid-op = rw (delete-op b k) (ap₂ (λ (x : ℕ) (r : List ℕ). x ∷ r) (sym k) (part-all b (bodyAt b) idLength n) ∙ byte-rest b (kindAt b) (l .kind-inside));
+        bounded-op = rw (delete-op b k) (delete (slice-length b (bodyAt b) idLength (omega arith)));
+        laid-op = rw (delete-op b k) (ap₂ (λ (x : ℕ) (r : List ℕ). x ∷ r) (sym k) (slice-all b (bodyAt b) idLength n) ∙ byte-rest b (kindAt b) (l .kind-inside));
       }
 
   back-insert : kindOf b ≡ 3 → Back
@@ -162,11 +162,11 @@ module _ (b : List ℕ) (l : Layout b) where
   back-insert k =
       let n : length b ≡ bodyAt b + idLength + tagLength = l .whole ∙ insert-length b k in
       record {
-        bounded-op = rw (insert-op b k) (insert (part-length b (bodyAt b) idLength (omega arith)) (part-length b (bodyAt b + idLength) tagLength (omega arith)));
+        bounded-op = rw (insert-op b k) (insert (slice-length b (bodyAt b) idLength (omega arith)) (slice-length b (bodyAt b + idLength) tagLength (omega arith)));
         laid-op =
             rw (insert-op b k)
-            (ap₂ (λ (x : ℕ) (r : List ℕ). x ∷ (part b (bodyAt b) idLength ++ r)) (sym k) (part-all b (bodyAt b + idLength) tagLength n)
-            ∙ ap (λ (r : List ℕ). kindOf b ∷ r) (part-rest b (bodyAt b) idLength)
+            (ap₂ (λ (x : ℕ) (r : List ℕ). x ∷ (slice b (bodyAt b) idLength ++ r)) (sym k) (slice-all b (bodyAt b + idLength) tagLength n)
+            ∙ ap (λ (r : List ℕ). kindOf b ∷ r) (slice-rest b (bodyAt b) idLength)
             ∙ byte-rest b (kindAt b) (l .kind-inside));
       }
 
@@ -178,9 +178,9 @@ module _ (b : List ℕ) (l : Layout b) where
       let n : length b ≡ at + idLength * m = l .whole ∙ remove-length b k in
       let few = l .named k in
       let e₁ : length (idsAt b at m) ≡ m = ids-length b at m in
-      let e₂ : joined (idsAt b at m) ≡ drop at b = ids-joined b at m ∙ part-all b at (idLength * m) n in
+      let e₂ : joined (idsAt b at m) ≡ drop at b = ids-joined b at m ∙ slice-all b at (idLength * m) n in
       let e₃ : m ∷ drop at b ≡ drop (namedCountAt b) b = byte-rest b (namedCountAt b) (few .0) in
-      let e₄ : part b (bodyAt b) tagLength ++ drop (namedCountAt b) b ≡ drop (bodyAt b) b = part-rest b (bodyAt b) tagLength in
+      let e₄ : slice b (bodyAt b) tagLength ++ drop (namedCountAt b) b ≡ drop (bodyAt b) b = slice-rest b (bodyAt b) tagLength in
       let e₅ : kindOf b ∷ drop (bodyAt b) b ≡ drop (kindAt b) b = byte-rest b (kindAt b) (l .kind-inside) in
       let is : Ids maxNamed (idsAt b at m) =
       record {
@@ -189,7 +189,7 @@ module _ (b : List ℕ) (l : Layout b) where
         ordered = ap ascending (sym (remove-named b k)) ∙ l .named-ascend;
       } in
       record {
-        bounded-op = rw (remove-op b k) (remove (part-length b (bodyAt b) tagLength (omega arith)) is);
+        bounded-op = rw (remove-op b k) (remove (slice-length b (bodyAt b) tagLength (omega arith)) is);
         laid-op = rw (remove-op b k) (cc);
       }
 
@@ -217,8 +217,8 @@ module _ (b : List ℕ) (l : Layout b) where
       let at = firstPredecessor in
       let n = countOf b in
       let e₁ : length (idsAt b at n) ≡ n = ids-length b at n in
-      let e₂ : joined (idsAt b at n) ≡ part b at (idLength * n) = ids-joined b at n in
-      let e₃ : part b at (idLength * n) ++ drop (kindAt b) b ≡ drop at b = part-rest b at (idLength * n) in
+      let e₂ : joined (idsAt b at n) ≡ slice b at (idLength * n) = ids-joined b at n in
+      let e₃ : slice b at (idLength * n) ++ drop (kindAt b) b ≡ drop at b = slice-rest b at (idLength * n) in
       cc (back .laid-op, l .version, header b (omega (arith, l .long)))
 
 -- What was laid out is accepted and read back.
@@ -226,8 +226,8 @@ module _ (p q : List ℕ) (k : ℕ) (e : length p ≡ k) (i : ℕ) where
   byte-after : getD (p ++ q) (k + i) 0 ≡ getD q i 0
   byte-after = rw (← e) (getD-append-add p q i 0)
 
-  part-after : (n : ℕ) → part (p ++ q) (k + i) n ≡ part q i n
-  part-after n = rw (← e) (part-shift p q i n)
+  slice-after : (n : ℕ) → slice (p ++ q) (k + i) n ≡ slice q i n
+  slice-after n = rw (← e) (slice-shift p q i n)
 
   ids-after : (n : ℕ) → idsAt (p ++ q) (k + i) n ≡ idsAt q i n
   ids-after n = rw (← e) (ids-shift p q i n)
@@ -269,7 +269,7 @@ pub encode-within : (u : Update) → Bounded u → (minLength ≤ length (encode
 encode-within u h = rw (encode-length u h) (lengths-within (length (u .preds)) (u .op) (h .preds-bounded .few) (h .op-bounded))
 
 -- the rows that speak of the operation do not apply, and it is read back
-record Fits (b : List ℕ) (op : Operation) : Type 0 where
+record LayoutFits (b : List ℕ) (op : Operation) : Type 0 where
   least : 1 ≤ kindOf b
   most : kindOf b ≤ 4
   laid : row8 b ≡ false
@@ -297,8 +297,8 @@ module _ (b p q : List ℕ) (e : b ≡ p ++ q) (k : length p ≡ kindAt b) where
   byte-at : (i : ℕ) → getD b (kindAt b + i) 0 ≡ getD q i 0
   byte-at i = ap (λ (r : List ℕ). getD r (kindAt b + i) 0) e ∙ byte-after p q (kindAt b) k i
 
-  part-at : (i n : ℕ) → part b (kindAt b + i) n ≡ part q i n
-  part-at i n = ap (λ (r : List ℕ). part r (kindAt b + i) n) e ∙ part-after p q (kindAt b) k i n
+  slice-at : (i n : ℕ) → slice b (kindAt b + i) n ≡ slice q i n
+  slice-at i n = ap (λ (r : List ℕ). slice r (kindAt b + i) n) e ∙ slice-after p q (kindAt b) k i n
 
   ids-at : (i n : ℕ) → idsAt b (kindAt b + i) n ≡ idsAt q i n
   ids-at i n = ap (λ (r : List ℕ). idsAt r (kindAt b + i) n) e ∙ ids-after p q (kindAt b) k i n
@@ -310,7 +310,7 @@ module _ (b p q : List ℕ) (e : b ≡ p ++ q) (k : length p ≡ kindAt b) where
   kind-at = let z : kindAt b ≡ kindAt b + 0 = omega arith in ap (λ (n : ℕ). getD b n 0) z ∙ byte-at 0
 
 module _ (b p : List ℕ) where
-  fits-add : (t : List ℕ) → length t ≡ tagLength → b ≡ p ++ encodeOperation (Add t) → length p ≡ kindAt b → Fits b (Add t)
+  fits-add : (t : List ℕ) → length t ≡ tagLength → b ≡ p ++ encodeOperation (Add t) → length p ≡ kindAt b → LayoutFits b (Add t)
   unfolding encodeOperation
   fits-add t h e k =
       let kind : kindOf b ≡ 1 = kind-at b p (1 ∷ t) e k in
@@ -320,10 +320,10 @@ module _ (b p : List ℕ) where
         most = omega arith;
         laid = row8-other b other ∙ right-length b (omega (arith, all-length b p (1 ∷ t) e k, add-length b kind));
         ordered = none-named b other;
-        back-op = add-op b kind ∙ ap Add (part-at b p (1 ∷ t) e k 1 tagLength ∙ take-all tagLength t (omega arith));
+        back-op = add-op b kind ∙ ap Add (slice-at b p (1 ∷ t) e k 1 tagLength ∙ take-all tagLength t (omega arith));
       }
 
-  fits-insert : (a v : List ℕ) → length a ≡ idLength → length v ≡ tagLength → b ≡ p ++ encodeOperation (Insert a v) → length p ≡ kindAt b → Fits b (Insert a v)
+  fits-insert : (a v : List ℕ) → length a ≡ idLength → length v ≡ tagLength → b ≡ p ++ encodeOperation (Insert a v) → length p ≡ kindAt b → LayoutFits b (Insert a v)
   unfolding encodeOperation
   fits-insert a v h g e k =
       let q : List ℕ = 3 ∷ (a ++ v) in
@@ -338,14 +338,14 @@ module _ (b p : List ℕ) where
         back-op =
             insert-op b kind
             ∙ ap₂ Insert
-            (part-at b p q e k 1 idLength ∙ take-at a v idLength h)
-            (ap (λ (n : ℕ). part b n tagLength) at
-            ∙ part-at b p q e k (suc idLength) tagLength
+            (slice-at b p q e k 1 idLength ∙ take-at a v idLength h)
+            (ap (λ (n : ℕ). slice b n tagLength) at
+            ∙ slice-at b p q e k (suc idLength) tagLength
             ∙ ap (λ (r : List ℕ). take tagLength r) (drop-at a v idLength h)
             ∙ take-all tagLength v (omega arith));
       }
 
-  fits-delete : (i : List ℕ) → length i ≡ idLength → b ≡ p ++ encodeOperation (Delete i) → length p ≡ kindAt b → Fits b (Delete i)
+  fits-delete : (i : List ℕ) → length i ≡ idLength → b ≡ p ++ encodeOperation (Delete i) → length p ≡ kindAt b → LayoutFits b (Delete i)
   unfolding encodeOperation
   fits-delete i h e k =
       let kind : kindOf b ≡ 4 = kind-at b p (4 ∷ i) e k in
@@ -355,10 +355,10 @@ module _ (b p : List ℕ) where
         most = omega arith;
         laid = row8-other b other ∙ right-length b (omega (arith, all-length b p (4 ∷ i) e k, delete-length b kind));
         ordered = none-named b other;
-        back-op = delete-op b kind ∙ ap Delete (part-at b p (4 ∷ i) e k 1 idLength ∙ take-all idLength i (omega arith));
+        back-op = delete-op b kind ∙ ap Delete (slice-at b p (4 ∷ i) e k 1 idLength ∙ take-all idLength i (omega arith));
       }
 
-  fits-remove : (t : List ℕ) (named : List Id) → length t ≡ tagLength → Ids maxNamed named → b ≡ p ++ encodeOperation (Remove t named) → length p ≡ kindAt b → Fits b (Remove t named)
+  fits-remove : (t : List ℕ) (named : List Id) → length t ≡ tagLength → Ids maxNamed named → b ≡ p ++ encodeOperation (Remove t named) → length p ≡ kindAt b → LayoutFits b (Remove t named)
   unfolding encodeOperation
   fits-remove t named h is e k =
       let m = length named in
@@ -385,17 +385,17 @@ module _ (b p : List ℕ) where
         most = omega arith;
         laid = row8-remove b kind (omega arith) (omega (arith, is .few)) ∙ right-length b (omega (arith, remove-length b kind));
         ordered = ap ascending (remove-named b kind ∙ ids) ∙ is .ordered;
-        back-op = remove-op b kind ∙ ap₂ Remove (part-at b p q e k 1 tagLength ∙ take-at t (m ∷ joined named) tagLength h) ids;
+        back-op = remove-op b kind ∙ ap₂ Remove (slice-at b p q e k 1 tagLength ∙ take-at t (m ∷ joined named) tagLength h) ids;
       }
 
-  fits : (op : Operation) → BoundedOperation op → b ≡ p ++ encodeOperation op → length p ≡ kindAt b → Fits b op
+  fits : (op : Operation) → BoundedOperation op → b ≡ p ++ encodeOperation op → length p ≡ kindAt b → LayoutFits b op
   fits (Add t) (add h) e k = fits-add t h e k
   fits (Remove t named) (remove h is) e k = fits-remove t named h is e k
   fits (Insert a v) (insert h g) e k = fits-insert a v h g e k
   fits (Delete i) (delete h) e k = fits-delete i h e k
 
 module _ (u : Update) (h : Bounded u) where
-  fits-whole : Fits (encode u) (u .op)
+  fits-whole : LayoutFits (encode u) (u .op)
   unfolding encode
   fits-whole =
       fits (encode u) (1 ∷ u .author ∷ length (u .preds) ∷ joined (u .preds)) (u .op) (h .op-bounded) refl

@@ -17,7 +17,7 @@ unfoldable pub applies : ℕ → List ℕ → Bool
 applies k b = getD (rows b) k false
 
 -- row k is the first that applies
-pub record First (k : ℕ) (b : List ℕ) : Type 0 where
+pub record FirstRow (k : ℕ) (b : List ℕ) : Type 0 where
   pub hit : applies k b ≡ true
   pub above : (j : ℕ) → 2 ≤ j → j < k → applies j b ≡ false
 
@@ -82,21 +82,21 @@ module _ (b : List ℕ) where
   found k h = from-refused 0 (rows b) (updateOf b) k (sym (decode-from b) ∙ h)
 
   -- a refusal has the number of the first row that applies ..
-  pub refused-first : (k : ℕ) → decode b ≡ refused k → First k b
+  pub refused-first : (k : ℕ) → decode b ≡ refused k → FirstRow k b
   unfolding applies
   refused-first k h =
       let f = found k h in
       let e : k ≡ f .place = omega arith in
       record { hit = rw e (f .passes); above = λ j l m. f .fails j (omega arith) }
 
-  all-above : (k : ℕ) → First k b → (j : ℕ) → j < k → applies j b ≡ false
+  all-above : (k : ℕ) → FirstRow k b → (j : ℕ) → j < k → applies j b ≡ false
   unfolding applies rows
   all-above k h zero l = refl
   all-above k h (suc zero) l = refl
   all-above k h (suc (suc j)) l = h .above (suc (suc j)) (omega arith) l
 
   -- .. and where a row is the first that applies, its number is returned
-  pub first-refused : (k : ℕ) → First k b → decode b ≡ refused k
+  pub first-refused : (k : ℕ) → FirstRow k b → decode b ≡ refused k
   unfolding applies
   first-refused k h =
       let e : 0 + k ≡ k = omega arith in

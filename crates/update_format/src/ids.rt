@@ -2,15 +2,15 @@
 ghost use mathlib.Core.Path.{_≡_};
 ghost use Prim.Native.Nat.{_+_, _*_};
 ghost use Rattle.update_format.specs.Update.{idLength};
-ghost use Rattle.update_format.specs.Decode.{part, idsAt, firstPredecessor};
+ghost use Rattle.update_format.specs.Decode.{slice, idsAt, firstPredecessor};
 ghost use Rattle.bytes_order.specs.Order.{before, ascending};
 use crate::bounds::FIRST_PREDECESSOR;
 use crate::bounds::ID_LENGTH;
 use bytes_order::Order;
 
 // The len bytes of s from byte at on, as far as there are bytes.
-pub fn part_of(s: &[u8], at: usize, len: usize) -> &[u8]
-    ensures { λ r. ⌜ now r ≡ part (now (s .entry)) at len ⌝ }
+pub fn slice_of(s: &[u8], at: usize, len: usize) -> &[u8]
+    ensures { λ r. ⌜ now r ≡ slice (now (s .entry)) at len ⌝ }
 {
     if s.len() <= at {
         return &s[..0];
@@ -23,7 +23,7 @@ pub fn part_of(s: &[u8], at: usize, len: usize) -> &[u8]
 
 // The k-th id of a run that begins at byte at; as far as there are bytes.
 pub fn named(s: &[u8], at: usize, k: usize) -> &[u8]
-    ensures { λ r. ⌜ now r ≡ part (now (s .entry)) (at + idLength * k) idLength ⌝ }
+    ensures { λ r. ⌜ now r ≡ slice (now (s .entry)) (at + idLength * k) idLength ⌝ }
 {
     if s.len() < at {
         return &s[..0];
@@ -31,19 +31,19 @@ pub fn named(s: &[u8], at: usize, k: usize) -> &[u8]
     if s.len() / ID_LENGTH < k {
         return &s[..0];
     }
-    part_of(s, at + ID_LENGTH * k, ID_LENGTH)
+    slice_of(s, at + ID_LENGTH * k, ID_LENGTH)
 }
 
 // The k-th predecessor.
 pub fn predecessor(s: &[u8], k: usize) -> &[u8]
-    ensures { λ r. ⌜ now r ≡ part (now (s .entry)) (firstPredecessor + idLength * k) idLength ⌝ }
+    ensures { λ r. ⌜ now r ≡ slice (now (s .entry)) (firstPredecessor + idLength * k) idLength ⌝ }
 {
     named(s, FIRST_PREDECESSOR, k)
 }
 
 // Whether the id at place k of a run comes before the id at place next.
 fn rises(s: &[u8], at: usize, k: usize, next: usize) -> bool
-    ensures { λ r. ⌜ r ≡ before (part (now (s .entry)) (at + idLength * k) idLength) (part (now (s .entry)) (at + idLength * next) idLength) ⌝ }
+    ensures { λ r. ⌜ r ≡ before (slice (now (s .entry)) (at + idLength * k) idLength) (slice (now (s .entry)) (at + idLength * next) idLength) ⌝ }
 {
     match bytes_order::compare(named(s, at, k), named(s, at, next)) {
         Order::Less => true,

@@ -1,15 +1,23 @@
 // One update: the offsets of its fields in the bytes, or the refusal (rows 2 to 9 of document 01's table), and the parts of the bytes
 // that the offsets name.
 ghost use mathlib.Core.Path.{_≡_};
-ghost use Rattle.update_format.specs.Reading.{numberOf};
+ghost use Rattle.update_format.specs.ParseResult.{malformedNumber};
 
 pub mod bounds;
 mod ids;
 
+use bounds::ID_LENGTH;
+use bounds::TAG_LENGTH;
 pub use ids::ascends;
 pub use ids::named;
-pub use ids::part_of;
 pub use ids::predecessor;
+pub use ids::slice_of;
+
+// An update's id.
+pub type Id = [u8; ID_LENGTH];
+
+// A tag, or the value of an Insert.
+pub type Tag = [u8; TAG_LENGTH];
 
 // The offsets of an operation's fields.
 pub enum Operation {
@@ -52,7 +60,7 @@ pub enum Malformed {
 impl Malformed {
     // Document 01's number.
     pub fn number(self) -> u8
-        ensures { λ r. ⌜ r ≡ numberOf self ⌝ }
+        ensures { λ r. ⌜ r ≡ malformedNumber self ⌝ }
     {
         match self {
             Malformed::Length => 2,
@@ -67,7 +75,7 @@ impl Malformed {
     }
 }
 
-pub enum Reading {
+pub enum ParseResult {
     Update(Parsed),
     Refused(Malformed),
 }

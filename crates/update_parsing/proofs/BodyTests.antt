@@ -10,7 +10,7 @@ use Rattle.bytes_order.specs.Order.{ascending}
 use Rattle.update_format.specs.Update.{maxNamed, idLength, Id}
 use Rattle.update_format.specs.Decode.{idsAt, countOf, firstPredecessor, kindOf, bodyAt, namedCountAt, namedCountOf, lengthOf, namedOf, row8, row9}
 use Rattle.update_format.specs.Laws.{row8-other, row8-remove}
-use Rattle.update_format.specs.Reading.{offsetsOf}
+use Rattle.update_format.specs.ParseResult.{offsetsOf}
 use Rattle.update_format.specs.declared.Operation.{Operation}
 use Rattle.update_format.specs.declared.Operation.the-variants.{Add, Remove, Insert, Delete}
 

@@ -7,81 +7,81 @@ use borrow.Author.Tests.{lt-ltb, le-ltb, le-leb, lt-leb, eq-eqb, ne-eqb}
 use lib.ListN.{length, getD}
 use Rattle.update_format.specs.Update.{minLength, maxLength, maxAuthor, maxPredecessors}
 use Rattle.update_format.specs.Decode.{authorOf, countOf, kindAt, kindOf, row2, row3, row4, row5, row6, row7, row8, row9}
-use Rattle.update_format.specs.Reading.{parsedOf, offsetsOf, operationReading, readingOf}
+use Rattle.update_format.specs.ParseResult.{parsedOf, offsetsOf, operationParse, parseOf}
 use Rattle.update_format.specs.declared.Malformed.the-variants.{Length, Version, Author, Predecessors, Truncated, Kind, Layout, Unordered}
 use Rattle.update_format.specs.declared.Operation.{Operation}
-use Rattle.update_format.specs.declared.Reading.the-variants.{Update as Accepted, Refused}
+use Rattle.update_format.specs.declared.ParseResult.the-variants.{Update as Accepted, Refused}
 
 module _ (b : List ℕ) where
   -- rows 6 to 9
-  pub row6-yes : length b ≤ kindAt b → Refused Truncated ≡ operationReading b
-  unfolding operationReading row6
+  pub row6-yes : length b ≤ kindAt b → Refused Truncated ≡ operationParse b
+  unfolding operationParse row6
   row6-yes h = rw (le-leb _ _ h)
 
   pub row6-no : kindAt b < length b → row6 b ≡ false
   unfolding row6
   row6-no h = lt-leb _ _ h
 
-  pub row7-low : row6 b ≡ false → kindOf b < 1 → Refused Kind ≡ operationReading b
-  unfolding operationReading row7
+  pub row7-low : row6 b ≡ false → kindOf b < 1 → Refused Kind ≡ operationParse b
+  unfolding operationParse row7
   row7-low e h = rw (e, lt-ltb _ _ h)
 
-  pub row7-high : row6 b ≡ false → 1 ≤ kindOf b → 4 < kindOf b → Refused Kind ≡ operationReading b
-  unfolding operationReading row7
+  pub row7-high : row6 b ≡ false → 1 ≤ kindOf b → 4 < kindOf b → Refused Kind ≡ operationParse b
+  unfolding operationParse row7
   row7-high e l h = rw (e, le-ltb _ _ l, lt-ltb _ _ h)
 
   pub row7-no : 1 ≤ kindOf b → kindOf b ≤ 4 → row7 b ≡ false
   unfolding row7
   row7-no l h = rw (le-ltb _ _ l, le-ltb _ _ h)
 
-  pub row8-yes : row6 b ≡ false → row7 b ≡ false → row8 b ≡ true → Refused Layout ≡ operationReading b
-  unfolding operationReading
+  pub row8-yes : row6 b ≡ false → row7 b ≡ false → row8 b ≡ true → Refused Layout ≡ operationParse b
+  unfolding operationParse
   row8-yes e f g = rw (e, f, g)
 
-  pub row9-yes : row6 b ≡ false → row7 b ≡ false → row8 b ≡ false → row9 b ≡ true → Refused Unordered ≡ operationReading b
-  unfolding operationReading
+  pub row9-yes : row6 b ≡ false → row7 b ≡ false → row8 b ≡ false → row9 b ≡ true → Refused Unordered ≡ operationParse b
+  unfolding operationParse
   row9-yes e f g h = rw (e, f, g, h)
 
   pub no-row :
       row6 b ≡ false → row7 b ≡ false → row8 b ≡ false → row9 b ≡ false →
       {a n : ℕ} {o : Operation} → a ≡ authorOf b → n ≡ countOf b → o ≡ offsetsOf b →
-      Accepted (record { author = a; count = n; operation = o }) ≡ operationReading b
-  unfolding operationReading parsedOf
+      Accepted (record { author = a; count = n; operation = o }) ≡ operationParse b
+  unfolding operationParse parsedOf
   no-row e f g h p q r = rw (e, f, g, h) (λ i. Accepted (record { author = p i; count = q i; operation = r i }))
 
   -- rows 2 to 5
-  pub row2-short : length b < minLength → Refused Length ≡ readingOf b
-  unfolding readingOf row2
+  pub row2-short : length b < minLength → Refused Length ≡ parseOf b
+  unfolding parseOf row2
   row2-short h = rw (lt-ltb _ _ h)
 
-  pub row2-long : minLength ≤ length b → maxLength < length b → Refused Length ≡ readingOf b
-  unfolding readingOf row2
+  pub row2-long : minLength ≤ length b → maxLength < length b → Refused Length ≡ parseOf b
+  unfolding parseOf row2
   row2-long l h = rw (le-ltb _ _ l, lt-ltb _ _ h)
 
   pub row2-no : minLength ≤ length b → length b ≤ maxLength → row2 b ≡ false
   unfolding row2
   row2-no l h = rw (le-ltb _ _ l, le-ltb _ _ h)
 
-  pub row3-yes : row2 b ≡ false → (getD b 0 0 ≡ 1 → ⊥) → Refused Version ≡ readingOf b
-  unfolding readingOf row3
+  pub row3-yes : row2 b ≡ false → (getD b 0 0 ≡ 1 → ⊥) → Refused Version ≡ parseOf b
+  unfolding parseOf row3
   row3-yes e h = rw (e, ne-eqb _ _ h)
 
   pub row3-no : getD b 0 0 ≡ 1 → row3 b ≡ false
   unfolding row3
   row3-no h = rw (eq-eqb _ _ h)
 
-  pub row4-yes : row2 b ≡ false → row3 b ≡ false → maxAuthor < authorOf b → Refused Author ≡ readingOf b
-  unfolding readingOf row4
+  pub row4-yes : row2 b ≡ false → row3 b ≡ false → maxAuthor < authorOf b → Refused Author ≡ parseOf b
+  unfolding parseOf row4
   row4-yes e f h = rw (e, f, lt-ltb _ _ h)
 
   pub row4-no : authorOf b ≤ maxAuthor → row4 b ≡ false
   unfolding row4
   row4-no h = le-ltb _ _ h
 
-  pub row5-yes : row2 b ≡ false → row3 b ≡ false → row4 b ≡ false → maxPredecessors < countOf b → Refused Predecessors ≡ readingOf b
-  unfolding readingOf row5
+  pub row5-yes : row2 b ≡ false → row3 b ≡ false → row4 b ≡ false → maxPredecessors < countOf b → Refused Predecessors ≡ parseOf b
+  unfolding parseOf row5
   row5-yes e f g h = rw (e, f, g, lt-ltb _ _ h)
 
-  pub row5-no : row2 b ≡ false → row3 b ≡ false → row4 b ≡ false → countOf b ≤ maxPredecessors → operationReading b ≡ readingOf b
-  unfolding readingOf row5
+  pub row5-no : row2 b ≡ false → row3 b ≡ false → row4 b ≡ false → countOf b ≤ maxPredecessors → operationParse b ≡ parseOf b
+  unfolding parseOf row5
   row5-no e f g h = rw (e, f, g, le-ltb _ _ h)

@@ -1,14 +1,14 @@
 // The operation of an update, from its kind byte on: rows 6 to 9.
 ghost use mathlib.Core.Path.{_≡_};
 ghost use mathlib.Core.Bool.{not};
-ghost use Rattle.update_format.specs.Decode.{countOf, row8, row9};
-ghost use Rattle.update_format.specs.Places.{AtBody, AtCount};
-ghost use Rattle.update_format.specs.Reading.{offsetsOf, operationReading};
+ghost use Rattle.update_format.specs.Decode.{row8, row9};
+ghost use Rattle.update_format.specs.BodyBounds.{AtBody, AtCount, OffsetsRead};
+ghost use Rattle.update_format.specs.ParseResult.{offsetsOf, operationParse};
 ghost use Rattle.update_header.specs.Header.{AtKind};
 use update_format::Malformed;
 use update_format::Operation;
+use update_format::ParseResult;
 use update_format::Parsed;
-use update_format::Reading;
 use update_format::ascends;
 use update_format::bounds::ADD;
 use update_format::bounds::DELETE;
@@ -80,7 +80,7 @@ fn offsets(s: &[u8], header: Header) -> Operation
 
 // Whether the predecessors and a Remove's named ids are strictly ascending.
 fn ordered(s: &[u8], count: usize, operation: Operation) -> bool
-    requires { ⌜ (count ≡ countOf (now s)) × (operation ≡ offsetsOf (now s)) ⌝ }
+    requires { ⌜ OffsetsRead (now s) count operation ⌝ }
     ensures { λ r. ⌜ not r ≡ row9 (now (s .entry)) ⌝ }
 {
     if !ascends(s, FIRST_PREDECESSOR, count) {
@@ -102,28 +102,28 @@ fn ordered(s: &[u8], count: usize, operation: Operation) -> bool
 }
 
 // Rows 6 to 9, then the offsets.
-pub fn read(s: &[u8], header: Header) -> Reading
+pub fn read(s: &[u8], header: Header) -> ParseResult
     requires { ⌜ AtKind (now s) header ⌝ }
-    ensures { λ r. ⌜ r ≡ operationReading (now (s .entry)) ⌝ }
+    ensures { λ r. ⌜ r ≡ operationParse (now (s .entry)) ⌝ }
 {
     if s.len() < header.body {
-        return Reading::Refused(Malformed::Truncated);
+        return ParseResult::Refused(Malformed::Truncated);
     }
     if header.kind < ADD {
-        return Reading::Refused(Malformed::Kind);
+        return ParseResult::Refused(Malformed::Kind);
     }
     if DELETE < header.kind {
-        return Reading::Refused(Malformed::Kind);
+        return ParseResult::Refused(Malformed::Kind);
     }
     if wrong_layout(s, header) {
-        return Reading::Refused(Malformed::Layout);
+        return ParseResult::Refused(Malformed::Layout);
     }
     let count = wide(header.count);
     let operation = offsets(s, header);
     if !ordered(s, count, operation) {
-        return Reading::Refused(Malformed::Unordered);
+        return ParseResult::Refused(Malformed::Unordered);
     }
-    Reading::Update(Parsed {
+    ParseResult::Update(Parsed {
         author: header.author,
         count,
         operation,

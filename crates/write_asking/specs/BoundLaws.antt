@@ -7,7 +7,7 @@ use mathlib.Core.Bool.{false}
 use borrow.Author.Tests.{not-false}
 use lib.ListN.{length}
 use Rattle.update_format.specs.Update.{Id, idLength, tagLength, BoundedOperation, add, remove, insert, delete}
-use Rattle.update_format.specs.Parts.{ids-length, ids-sized}
+use Rattle.update_format.specs.Slices.{ids-length, ids-sized}
 use Rattle.write_operations.specs.declared.Kind.{Kind}
 use Rattle.write_operations.specs.declared.Kind.the-variants.{Add as AnAdd, Remove as ARemove, Insert as AnInsert, Delete as ADelete}
 use Rattle.write_operations.specs.Operations.{namedIds, operationFor, badNamed, unorderedNamed}

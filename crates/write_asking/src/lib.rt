@@ -6,6 +6,8 @@ use ledger_judging::Judgement;
 use ledger_judging::judge_bytes;
 use ledger_refusals::Refusal;
 use ledger_state::Ledger;
+use update_format::Id;
+use update_format::Tag;
 use update_format::bounds::MAX_LENGTH;
 use write_operations::Kind;
 
@@ -21,8 +23,8 @@ pub fn write_asked(
     store: &[u8],
     author: u8,
     kind: Kind,
-    tag: [u8; 16],
-    id: [u8; 32],
+    tag: Tag,
+    id: Id,
     named: &[u8],
     out: &mut [u8],
 ) -> Wrote

@@ -1,13 +1,15 @@
 -- An author's held place of highest rank, on a tie that of larger id, for every ledger. The theorem `top-right` says that for a ledger that stands it is
 -- that of the rules' first ranked row.
-use Prim.Native.Nat.{ℕ, zero, suc}
+use mathlib.Core.Path.{_≡_}
+use Prim.Native.Nat.{ℕ, zero, suc, _≤_, _<_}
 use mathlib.Core.List.{List}
 use mathlib.Core.Option.{Option, none, some}
 use mathlib.Core.Bool.{Bool, true, cond, _&&_, _||_}
 use lib.Dec.{ltb, eqb}
 use Rattle.bytes_order.specs.Order.{before}
-use Rattle.ledger_state.specs.State.{Book}
+use Rattle.ledger_state.specs.State.{Book, places, foundOf}
 use Rattle.ledger_relations.specs.PlaceTests.{idAt, heldAt, authorAt, rankAt}
+use Rattle.ledger_state.specs.declared.Found.{Found}
 
 module _ (l : Book) (s : List ℕ) where
   -- the held place k is the author's
@@ -27,3 +29,9 @@ module _ (l : Book) (s : List ℕ) where
   unfoldable pub topBelow : ℕ → ℕ → Option ℕ
   topBelow a zero = none
   topBelow a (suc n) = cond (ownAt a n && betterThan (topBelow a n) n) (some n) (topBelow a n)
+
+  -- k is a taken place, and t the author's highest below it
+  pub record TopSoFar (a k : ℕ) (t : Found) : Type 0 where
+    pub used-within : l .used ≤ places
+    pub place-taken : k < l .used
+    pub top-right : t ≡ foundOf (topBelow a k)

@@ -2,19 +2,20 @@
 ghost use mathlib.Core.Path.{_≡_};
 ghost use Prim.Native.Nat.{_+_, _≤_, _<_};
 ghost use Rattle.bytes_order.specs.Order.{before};
-ghost use Rattle.ledger_state.specs.State.{placeAt, foundOf};
+ghost use Rattle.ledger_state.specs.State.{places, placeAt, foundOf};
 ghost use Rattle.ledger_state.specs.View.{bookOf};
-ghost use Rattle.write_highest.specs.Top.{ownAt, higher, betterThan, topBelow};
+ghost use Rattle.ledger_state.specs.Bounds.{TwoPlaces};
+ghost use Rattle.write_highest.specs.Top.{ownAt, higher, betterThan, topBelow, TopSoFar};
 use bytes_order::Order;
-use ledger_row1::compare_ids;
 use ledger_state::Found;
 use ledger_state::Ledger;
 use ledger_state::Standing;
+use ledger_state::places::compare_ids;
 use ledger_state::store::stored;
 
 // Whether place k is held and the author's.
 fn is_own(l: Ledger, store: &[u8], author: u8, k: usize) -> bool
-    requires { ⌜ k < 64 ⌝ }
+    requires { ⌜ k < places ⌝ }
     ensures { λ r. ⌜ r ≡ ownAt (bookOf l) (now (store .entry)) author k ⌝ }
 {
     let p = l.places[k];
@@ -28,7 +29,7 @@ fn is_own(l: Ledger, store: &[u8], author: u8, k: usize) -> bool
 
 // Whether the id of place j comes before that of place k.
 fn comes_before(l: Ledger, j: usize, k: usize) -> bool
-    requires { ⌜ (j < 64) × (k < 64) ⌝ }
+    requires { ⌜ TwoPlaces j k ⌝ }
     ensures { λ r. ⌜ r ≡ before (placeAt (bookOf l) j .id) (placeAt (bookOf l) k .id) ⌝ }
 {
     match compare_ids(l.places[j], l.places[k]) {
@@ -40,7 +41,7 @@ fn comes_before(l: Ledger, j: usize, k: usize) -> bool
 
 // Whether place k is of higher rank than place j, or of the same and of larger id.
 fn is_higher(l: Ledger, store: &[u8], k: usize, j: usize) -> bool
-    requires { ⌜ (k < 64) × (j < 64) ⌝ }
+    requires { ⌜ TwoPlaces k j ⌝ }
     ensures { λ r. ⌜ r ≡ higher (bookOf l) (now (store .entry)) k j ⌝ }
 {
     let p = l.places[k];
@@ -59,7 +60,7 @@ fn is_higher(l: Ledger, store: &[u8], k: usize, j: usize) -> bool
 
 // Whether place k is higher than the author's highest below it.
 fn exceeds(l: Ledger, store: &[u8], author: u8, top: Found, k: usize) -> bool
-    requires { ⌜ (bookOf l .used ≤ 64) × (k < bookOf l .used) × (top ≡ foundOf (topBelow (bookOf l) (now store) author k)) ⌝ }
+    requires { ⌜ TopSoFar (bookOf l) (now store) author k top ⌝ }
     ensures { λ r. ⌜ r ≡ betterThan (bookOf l) (now (store .entry)) (topBelow (bookOf l) (now (store .entry)) author k) k ⌝ }
 {
     match top {
@@ -70,7 +71,7 @@ fn exceeds(l: Ledger, store: &[u8], author: u8, top: Found, k: usize) -> bool
 
 // The author's highest with place k.
 fn top_with(l: Ledger, store: &[u8], author: u8, top: Found, k: usize) -> Found
-    requires { ⌜ (bookOf l .used ≤ 64) × (k < bookOf l .used) × (top ≡ foundOf (topBelow (bookOf l) (now store) author k)) ⌝ }
+    requires { ⌜ TopSoFar (bookOf l) (now store) author k top ⌝ }
     ensures { λ r. ⌜ r ≡ foundOf (topBelow (bookOf l) (now (store .entry)) author (k + 1)) ⌝ }
 {
     if !is_own(l, store, author, k) {
@@ -85,7 +86,7 @@ fn top_with(l: Ledger, store: &[u8], author: u8, top: Found, k: usize) -> Found
 
 // The author's held place of highest rank (on a tie, larger id).
 pub fn top(l: Ledger, store: &[u8], author: u8) -> Found
-    requires { ⌜ bookOf l .used ≤ 64 ⌝ }
+    requires { ⌜ bookOf l .used ≤ places ⌝ }
     ensures { λ r. ⌜ r ≡ foundOf (topBelow (bookOf l) (now (store .entry)) author (bookOf l .used)) ⌝ }
 {
     let used = l.used;

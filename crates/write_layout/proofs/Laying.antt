@@ -5,11 +5,11 @@ use mathlib.Core.List.{List, [], _∷_, _++_, map}
 use lib.ListN.{length, drop, length-map}
 use Rattle.bytes_order.specs.Member.{concatMap}
 use Rattle.update_format.specs.Update.{Operation, encodeOperation, encode}
-use Rattle.update_format.specs.Parts.{joined}
+use Rattle.update_format.specs.Slices.{joined}
 use Rattle.ledger_state.specs.State.{Book, placeAt}
 use Rattle.ledger_sorting.specs.declared.Places.{Places}
 use Rattle.ledger_relations.specs.PlaceTests.{idAt}
-use Rattle.ledger_sorting.specs.Pieces.{placesIn, Lists}
+use Rattle.ledger_sorting.specs.PlaceLists.{placesIn, Lists}
 use Rattle.ledger_sorting.proofs.Inserting.{length-is}
 use Rattle.write_predecessors.specs.Choose.{chosenPlaces}
 use Rattle.write_layout.specs.Written.{writtenAt}

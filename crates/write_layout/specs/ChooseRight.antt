@@ -5,7 +5,7 @@ use mathlib.Core.List.{List}
 use mathlib.Core.Bool.{Bool, true, false, cond}
 use Rattle.update_format.specs.Update.{Operation, Update}
 use Rattle.update_format.specs.Decode.{update}
-use Rattle.rules.specs.Writing.{written, writable, writtenOf, writableOf}
+use Rattle.rules.specs.Writing.{writtenIn, writableIn, writtenOf, writableOf}
 use Rattle.rules.specs.WritingLaws.{written-heads}
 use Rattle.ledger_judging.specs.declared.Judgement.the-variants.{Holds, Fails}
 use Rattle.ledger_judging.specs.Judge.{judgeDecoded}
@@ -13,18 +13,18 @@ use Rattle.ledger_state.specs.Stands.{ident, Stands}
 use Rattle.ledger_state.specs.State.{Book}
 use Rattle.write_predecessors.specs.ChosenLaws.{chosen-ids}
 use Rattle.write_layout.specs.Written.{writtenAt}
-use Rattle.write_layout.specs.JudgedLaws.{wordOf, judged}
+use Rattle.write_layout.specs.JudgedLaws.{ancestorWord, judged}
 
 module _ (l : Book) (s : List ℕ) (us : List Update) (stands : Stands l s us) (a : ℕ) (o : Operation) where
   pub chosen-right : writtenAt l s a o ≡ writtenOf ident us a o
-  unfolding writtenAt writtenOf written
+  unfolding writtenAt writtenOf writtenIn
   chosen-right = λ i. record { author = a; preds = chosen-ids stands a i; op = o }
 
   abbrev word : ℕ
-  word = wordOf stands (writtenOf ident us a o) (written-heads ident us (stands .holds .distinct) a o)
+  word = ancestorWord stands (writtenOf ident us a o) (written-heads ident us (stands .holds .distinct) a o)
 
   judged-written : judgeDecoded l s (update (writtenAt l s a o)) ≡ cond (writableOf ident us a o) (Holds word) Fails
-  unfolding writtenOf written writableOf writable
+  unfolding writtenOf writtenIn writableOf writableIn
   judged-written =
       ap (λ (u : Update). judgeDecoded l s (update u)) chosen-right
       ∙ judged stands (writtenOf ident us a o) (written-heads ident us (stands .holds .distinct) a o)

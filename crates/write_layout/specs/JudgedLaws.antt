@@ -16,7 +16,7 @@ use Rattle.update_format.specs.Update.{Id, Operation, Add, Remove, Insert, Dele
 use Rattle.update_format.specs.Decode.{update}
 use Rattle.rules.specs.Standing.{beginning, Held}
 use Rattle.rules.specs.ReadOff.{Head}
-use Rattle.rules.specs.Settle.{Row, Table, isAdd, isInsert, addIn, insertIn, aboveIn, ancestorsOf, validOp, settled}
+use Rattle.rules.specs.Settle.{Row, Table, isAdd, isInsert, addIn, insertIn, aboveIn, ancestorsOf, validOp, settledTable}
 use Rattle.rules.specs.LeastSets.{held-stored, held-not-void}
 use Rattle.rules.specs.TableLaws.{row-eq}
 use Rattle.rules.specs.ChoiceLaws.{rowId}
@@ -27,7 +27,7 @@ use Rattle.ledger_state.specs.declared.Standing.the-variants.{Held as IsHeld, W
 use Rattle.ledger_judging.specs.declared.Gathered.{Gathered}
 use Rattle.ledger_judging.specs.declared.Judgement.the-variants.{Holds, Fails, Waits}
 use Rattle.ledger_state.specs.State.{Book, placeAt, findIn, isHeld}
-use Rattle.ledger_judging.specs.Judge.{nothingGathered, gather, namesAt, names, valid, judgeReady, judgeGathered, judgeDecoded}
+use Rattle.ledger_judging.specs.Judge.{nothingGathered, gather, namesAt, namesAncestor, valid, judgeReady, judgeGathered, judgeDecoded}
 use Rattle.ledger_state.specs.Stands.{ident, updateAt, Stands}
 use Rattle.ledger_state.specs.FindLaws.{find-right, find-none}
 use Rattle.ledger_judging.specs.GatherLaws.{AllHeld, gathered-taken, gathered-void→, gathered-ready←, gathered-direct→, gathered-direct←, gathered-above→, gathered-above←}
@@ -38,7 +38,7 @@ use Rattle.write_highest.specs.TopLaws.{decides, row-at, at-row}
 
 module _ {l : Book} {s : List ℕ} {us : List Update} (stands : Stands l s us) where
   abbrev T : Table
-  T = settled ident us
+  T = settledTable ident us
 
   abbrev row : ℕ → Row
   row = rowAt us
@@ -118,8 +118,8 @@ module _ {l : Book} {s : List ℕ} {us : List Update} (stands : Stands l s us) w
         (stands .truthful .above-right (r .0) j (r .1) (d .0) (r .3) (r .4))))
 
     -- its ancestor word
-    unfoldable pub wordOf : ℕ
-    wordOf = join (gathered .direct) (gathered .above)
+    unfoldable pub ancestorWord : ℕ
+    ancestorWord = join (gathered .direct) (gathered .above)
 
     direct-agrees : {j : ℕ} → j < length us → member (row j .id) (w .preds) ≡ has (gathered .direct) j
     direct-agrees {j} h =
@@ -155,28 +155,28 @@ module _ {l : Book} {s : List ℕ} {us : List Update} (stands : Stands l s us) w
     abbrev reached : Row → Bool
     reached r = member (r .id) (w .preds) || any (λ (p : Id). aboveIn T (r .id) p) (w .preds)
 
-    ancestor-agrees : {j : ℕ} → j < length us → member (row j .id) up ≡ has wordOf j
-    unfolding ancestorsOf wordOf
+    ancestor-agrees : {j : ℕ} → j < length us → member (row j .id) up ≡ has ancestorWord j
+    unfolding ancestorsOf ancestorWord
     ancestor-agrees {j} h =
-        test-ext (member (row j .id) up) (has wordOf j)
+        test-ext (member (row j .id) up) (has ancestorWord j)
         (λ e.
         let f = map-∈ rowId (keep reached T) (member→∈ (row j .id) up e) in
         let g = keep-∈ reached T (f .1) in
         sym agrees ∙ ap reached (sym (is-row (g .0) h (f .2))) ∙ g .1)
         (λ e. ∈→member (∈-map rowId (∈-keep reached (row-at stands h) (agrees ∙ e))))
       where
-        agrees : reached (row j) ≡ has wordOf j
+        agrees : reached (row j) ≡ has ancestorWord j
         agrees = ap₂ _||_ (direct-agrees h) (further-agrees h) ∙ sym (has-join (gathered .direct) (gathered .above) j)
 
     -- the operation is valid by the word as by the table
-    names-agrees : (p : Operation → Bool) (i : Id) → names l s p wordOf i ≡ (member i up && any (λ (r : Row). same (r .id) i && p (r .update .op)) T)
-    unfolding names namesAt ancestorsOf
+    names-agrees : (p : Operation → Bool) (i : Id) → namesAncestor l s p ancestorWord i ≡ (member i up && any (λ (r : Row). same (r .id) i && p (r .update .op)) T)
+    unfolding namesAncestor namesAt ancestorsOf
     names-agrees p i = step (findIn l i) refl
       where
         listed : Id → Bool
         listed i = member i up && any (λ (r : Row). same (r .id) i && p (r .update .op)) T
 
-        step : (o : Option ℕ) → findIn l i ≡ o → namesAt l s p wordOf o ≡ listed i
+        step : (o : Option ℕ) → findIn l i ≡ o → namesAt l s p ancestorWord o ≡ listed i
         step none e =
             ap (λ (b : Bool). b && any (λ (r : Row). same (r .id) i && p (r .update .op)) T)
             (sym
@@ -189,17 +189,17 @@ module _ {l : Book} {s : List ℕ} {us : List Update} (stands : Stands l s us) w
             let r = find-right l s us (stands .holds) i j e in
             ap₂ _&&_ (sym (ancestor-agrees (r .0))) (place-test stands p (r .0) ∙ sym (test-at p (r .0))) ∙ ap listed (row-ident (r .0) ∙ r .1)
 
-    valid-agrees : (o : Operation) → valid l s wordOf o ≡ validOp T up o
+    valid-agrees : (o : Operation) → valid l s ancestorWord o ≡ validOp T up o
     unfolding valid validOp addIn insertIn
     valid-agrees (Add t) = refl
     valid-agrees (Remove t ids) =
-        all-cong (names l s (isAdd t) wordOf) (λ (i : Id). member i up && addIn T t i) ids (λ i m. names-agrees (isAdd t) i)
+        all-cong (namesAncestor l s (isAdd t) ancestorWord) (λ (i : Id). member i up && addIn T t i) ids (λ i m. names-agrees (isAdd t) i)
     valid-agrees (Insert a v) = ap (λ (b : Bool). same a beginning || b) (names-agrees isInsert a)
     valid-agrees (Delete i) = names-agrees isInsert i
 
-    pub judged : judgeDecoded l s (update w) ≡ cond (validOp (settled ident us) (ancestorsOf (settled ident us) w) (w .op)) (Holds wordOf) Fails
-    unfolding judgeDecoded judgeGathered judgeReady wordOf
+    pub judged : judgeDecoded l s (update w) ≡ cond (validOp (settledTable ident us) (ancestorsOf (settledTable ident us) w) (w .op)) (Holds ancestorWord) Fails
+    unfolding judgeDecoded judgeGathered judgeReady ancestorWord
     judged = λ i.
         cond (not-void i) Fails
         (cond (ready i)
-        (cond (eq-eqb (meet (gathered .direct) (gathered .above)) 0 apart i) (cond (valid-agrees (w .op) i) (Holds wordOf) Fails) Fails) Waits)
+        (cond (eq-eqb (meet (gathered .direct) (gathered .above)) 0 apart i) (cond (valid-agrees (w .op) i) (Holds ancestorWord) Fails) Fails) Waits)

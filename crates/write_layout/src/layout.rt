@@ -1,13 +1,14 @@
 // The bytes of a new update before its operation.
 ghost use mathlib.Core.Path.{_≡_};
 ghost use mathlib.Core.List.{[], _∷_, map};
-ghost use Prim.Native.Nat.{ℕ, _+_, _*_, _≤_, _<_};
-ghost use Rattle.update_format.specs.Update.{maxPredecessors};
-ghost use Rattle.update_format.specs.Parts.{joined};
+ghost use Prim.Native.Nat.{ℕ, _+_, _*_, _≤_};
+ghost use Rattle.update_format.specs.Update.{idLength, maxPredecessors};
+ghost use Rattle.update_format.specs.Slices.{joined};
 ghost use Rattle.ledger_state.specs.State.{placeAt};
 ghost use Rattle.ledger_state.specs.View.{bookOf};
 ghost use Rattle.bytes_print.specs.Page.{Prints};
-ghost use Rattle.ledger_sorting.specs.Pieces.{placesIn, Sound};
+ghost use Rattle.ledger_sorting.specs.PlaceLists.{placesIn};
+ghost use Rattle.write_layout.specs.Written.{IdAt, IdsAt};
 use bytes_print::put;
 use ledger_sorting::Places;
 use ledger_state::Ledger;
@@ -24,9 +25,9 @@ pub fn put_header(author: u8, count: usize, page: &mut [u8]) -> usize
 
 // The id of place k.
 fn put_id(l: Ledger, k: usize, page: &mut [u8], at: usize) -> usize
-    requires { ⌜ (k < 64) × (at ≤ 3000) ⌝ }
+    requires { ⌜ IdAt k at ⌝ }
     ensures prints { λ r. ⌜ Prints (now (page .entry)) at (placeAt (bookOf l) k .id) (now (page .exit)) r ⌝ }
-    ensures small { λ r. ⌜ r ≡ at + 32 ⌝ }
+    ensures small { λ r. ⌜ r ≡ at + idLength ⌝ }
 {
     let p = l.places[k];
     let id = p.id;
@@ -35,9 +36,9 @@ fn put_id(l: Ledger, k: usize, page: &mut [u8], at: usize) -> usize
 
 // The ids of the places.
 pub fn put_ids(l: Ledger, places: Places, page: &mut [u8], at: usize) -> usize
-    requires { ⌜ Sound places × (at ≤ 3) ⌝ }
+    requires { ⌜ IdsAt places at ⌝ }
     ensures prints { λ r. ⌜ Prints (now (page .entry)) at (joined (map (λ (k : ℕ). placeAt (bookOf l) k .id) (placesIn places))) (now (page .exit)) r ⌝ }
-    ensures small { λ r. ⌜ r ≤ at + 32 * places .count ⌝ }
+    ensures small { λ r. ⌜ r ≤ at + idLength * places .count ⌝ }
 {
     let count = places.count;
     let mut end = at;

@@ -1,17 +1,16 @@
 // Writing a new update: its bytes, with the chosen predecessors.
-ghost use mathlib.Core.Path.{_≡_};
-ghost use mathlib.Core.Bool.{false};
 ghost use Prim.Native.Nat.{_≤_};
 ghost use Rattle.update_format.specs.Update.{maxLength, encode};
 ghost use Rattle.bytes_print.specs.Page.{Prints};
-ghost use Rattle.write_operations.specs.Operations.{operationFor, badNamed};
-ghost use Rattle.ledger_state.specs.State.{places};
+ghost use Rattle.write_operations.specs.Operations.{operationFor};
 ghost use Rattle.ledger_state.specs.View.{bookOf};
-ghost use Rattle.write_layout.specs.Written.{writtenAt};
+ghost use Rattle.write_layout.specs.Written.{writtenAt, Composable};
 
 mod layout;
 
 use ledger_state::Ledger;
+use update_format::Id;
+use update_format::Tag;
 use write_operations::Kind;
 use write_operations::put_operation;
 use write_predecessors::chosen;
@@ -22,12 +21,12 @@ pub fn compose(
     store: &[u8],
     author: u8,
     kind: Kind,
-    tag: [u8; 16],
-    id: [u8; 32],
+    tag: Tag,
+    id: Id,
     named: &[u8],
     page: &mut [u8],
 ) -> usize
-    requires { ⌜ (bookOf l .used ≤ places) × (badNamed (now named) ≡ false) ⌝ }
+    requires { ⌜ Composable (bookOf l) (now named) ⌝ }
     ensures prints { λ r. ⌜ Prints (now (page .entry)) 0 (encode (writtenAt (bookOf l) (now (store .entry)) author (operationFor kind tag id (now (named .entry))))) (now (page .exit)) r ⌝ }
     ensures small { λ r. ⌜ r ≤ maxLength ⌝ }
 {

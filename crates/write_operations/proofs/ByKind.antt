@@ -6,7 +6,7 @@ use native.Mathlib.Omega.{arith}
 use lib.ListN.{length}
 use lib.Seq.{take-all}
 use Rattle.update_format.specs.Update.{Id, idLength, Remove, encodeOperation}
-use Rattle.update_format.specs.Parts.{ids-length, ids-joined}
+use Rattle.update_format.specs.Slices.{ids-length, ids-joined}
 use Rattle.bytes_print.specs.Page.{Prints}
 use Rattle.bytes_print.proofs.Printing.{same-text}
 use Rattle.write_operations.specs.declared.Kind.{Kind}

@@ -1,7 +1,8 @@
 -- The operation that is asked for, and what rows 8 and 9 say of the named ids' bytes.
-use Prim.Native.Nat.{ℕ, _+_, _*_, _/_, _%_}
+use mathlib.Core.Path.{_≡_}
+use Prim.Native.Nat.{ℕ, _+_, _*_, _/_, _%_, _≤_}
 use mathlib.Core.List.{List}
-use mathlib.Core.Bool.{Bool, not, _||_}
+use mathlib.Core.Bool.{Bool, false, not, _||_}
 use lib.ListN.{length}
 use lib.Dec.{eqb, ltb}
 use Rattle.bytes_order.specs.Order.{ascending}
@@ -22,6 +23,10 @@ maxNamedLength = idLength * maxNamed
 abbrev pub maxOperationLength : ℕ
 maxOperationLength = 1 + tagLength + 1 + maxNamedLength
 
+-- No field of a written update begins beyond this byte, so that no sum wraps: before an operation there are at most the header and an id for each place.
+abbrev pub farthestField : ℕ
+farthestField = 3000
+
 -- the operation of a kind: a tag or value of 16 bytes, an anchor or deleted id of 32, and the named ids as bytes; of these a kind has only its own
 unfoldable pub operationFor : Kind → List ℕ → Id → List ℕ → Operation
 operationFor AnAdd t i named = Add t
@@ -36,3 +41,8 @@ badNamed named = not (eqb (length named % idLength) 0) || ltb maxNamedLength (le
 -- row 9 of the writer, whatever the kind: "ids not strictly ascending"
 unfoldable pub unorderedNamed : List ℕ → Bool
 unorderedNamed named = not (ascending (namedIds named))
+
+-- what is asked to print an operation at byte `at`: row 8 does not apply to the named ids
+pub record OperationAt (at : ℕ) (named : List ℕ) : Type 0 where
+  pub at-within : at ≤ farthestField
+  pub named-good : badNamed named ≡ false

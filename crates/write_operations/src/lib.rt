@@ -1,12 +1,13 @@
 // What a written update is to do: what is asked of the named ids, the kinds of operation, and their bytes.
 ghost use mathlib.Core.Path.{_≡_};
-ghost use mathlib.Core.Bool.{false};
 ghost use mathlib.Core.List.{_∷_};
 ghost use Prim.Native.Nat.{_+_, _≤_};
-ghost use Rattle.update_format.specs.Update.{Add, Remove, Insert, Delete, encodeOperation};
+ghost use Rattle.update_format.specs.Update.{idLength, tagLength, Add, Remove, Insert, Delete, encodeOperation};
 ghost use Rattle.bytes_print.specs.Page.{Prints};
-ghost use Rattle.write_operations.specs.Operations.{operationFor, namedIds, maxOperationLength, badNamed, unorderedNamed};
+ghost use Rattle.write_operations.specs.Operations.{farthestField, operationFor, namedIds, maxOperationLength, badNamed, unorderedNamed, OperationAt};
 use bytes_print::put;
+use update_format::Id;
+use update_format::Tag;
 use update_format::bounds::ADD;
 use update_format::bounds::DELETE;
 use update_format::bounds::ID_LENGTH;
@@ -45,7 +46,7 @@ pub fn unordered_named(named: &[u8]) -> bool
 
 // The byte of a kind and the bytes after it.
 fn put_part(kind: u8, part: &[u8], page: &mut [u8], at: usize) -> usize
-    requires { ⌜ at ≤ 3000 ⌝ }
+    requires { ⌜ at ≤ farthestField ⌝ }
     ensures { λ r. ⌜ Prints (now (page .entry)) at (kind ∷ now (part .entry)) (now (page .exit)) r ⌝ }
 {
     let byte = [kind];
@@ -54,17 +55,17 @@ fn put_part(kind: u8, part: &[u8], page: &mut [u8], at: usize) -> usize
 }
 
 // The bytes of an Add.
-fn put_add(tag: [u8; 16], page: &mut [u8], at: usize) -> usize
-    requires { ⌜ at ≤ 3000 ⌝ }
+fn put_add(tag: Tag, page: &mut [u8], at: usize) -> usize
+    requires { ⌜ at ≤ farthestField ⌝ }
     ensures prints { λ r. ⌜ Prints (now (page .entry)) at (encodeOperation (Add tag)) (now (page .exit)) r ⌝ }
-    ensures small { λ r. ⌜ r ≡ at + 17 ⌝ }
+    ensures small { λ r. ⌜ r ≡ at + (1 + tagLength) ⌝ }
 {
     put_part(ADD, &tag, page, at)
 }
 
 // The bytes of a Remove.
-fn put_remove(tag: [u8; 16], named: &[u8], page: &mut [u8], at: usize) -> usize
-    requires { ⌜ (at ≤ 3000) × (badNamed (now named) ≡ false) ⌝ }
+fn put_remove(tag: Tag, named: &[u8], page: &mut [u8], at: usize) -> usize
+    requires { ⌜ OperationAt at (now named) ⌝ }
     ensures prints { λ r. ⌜ Prints (now (page .entry)) at (encodeOperation (Remove tag (namedIds (now (named .entry))))) (now (page .exit)) r ⌝ }
     ensures small { λ r. ⌜ r ≤ at + maxOperationLength ⌝ }
 {
@@ -75,20 +76,20 @@ fn put_remove(tag: [u8; 16], named: &[u8], page: &mut [u8], at: usize) -> usize
 }
 
 // The bytes of an Insert.
-fn put_insert(anchor: [u8; 32], value: [u8; 16], page: &mut [u8], at: usize) -> usize
-    requires { ⌜ at ≤ 3000 ⌝ }
+fn put_insert(anchor: Id, value: Tag, page: &mut [u8], at: usize) -> usize
+    requires { ⌜ at ≤ farthestField ⌝ }
     ensures prints { λ r. ⌜ Prints (now (page .entry)) at (encodeOperation (Insert anchor value)) (now (page .exit)) r ⌝ }
-    ensures small { λ r. ⌜ r ≡ at + 49 ⌝ }
+    ensures small { λ r. ⌜ r ≡ at + (1 + idLength + tagLength) ⌝ }
 {
     let anchored = put_part(INSERT, &anchor, page, at);
     put(page, anchored, &value)
 }
 
 // The bytes of a Delete.
-fn put_delete(deleted: [u8; 32], page: &mut [u8], at: usize) -> usize
-    requires { ⌜ at ≤ 3000 ⌝ }
+fn put_delete(deleted: Id, page: &mut [u8], at: usize) -> usize
+    requires { ⌜ at ≤ farthestField ⌝ }
     ensures prints { λ r. ⌜ Prints (now (page .entry)) at (encodeOperation (Delete deleted)) (now (page .exit)) r ⌝ }
-    ensures small { λ r. ⌜ r ≡ at + 33 ⌝ }
+    ensures small { λ r. ⌜ r ≡ at + (1 + idLength) ⌝ }
 {
     put_part(DELETE, &deleted, page, at)
 }
@@ -96,13 +97,13 @@ fn put_delete(deleted: [u8; 32], page: &mut [u8], at: usize) -> usize
 // The kind byte and the bytes of an operation.
 pub fn put_operation(
     kind: Kind,
-    tag: [u8; 16],
-    id: [u8; 32],
+    tag: Tag,
+    id: Id,
     named: &[u8],
     page: &mut [u8],
     at: usize,
 ) -> usize
-    requires { ⌜ (at ≤ 3000) × (badNamed (now named) ≡ false) ⌝ }
+    requires { ⌜ OperationAt at (now named) ⌝ }
     ensures prints { λ r. ⌜ Prints (now (page .entry)) at (encodeOperation (operationFor kind tag id (now (named .entry)))) (now (page .exit)) r ⌝ }
     ensures small { λ r. ⌜ r ≤ at + maxOperationLength ⌝ }
 {

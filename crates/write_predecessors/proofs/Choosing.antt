@@ -1,5 +1,5 @@
 -- The choice of the predecessors, one place after the other.
-use Prim.Native.Nat.{ℕ, _+_, _≤_, _<_}
+use Prim.Native.Nat.{ℕ, _+_, _-_, _≤_, _<_}
 use mathlib.Core.Path.{_≡_, refl, sym, ap, ap₂, _∙_}
 use mathlib.Core.List.{List, [], _∷_, _++_}
 use mathlib.Core.Option.{Option, none, some}
@@ -12,22 +12,23 @@ use lib.Seq.{getD-take, take-take, take-all}
 use Rattle.bytes_order.specs.Member.{keep}
 use Rattle.bytes_order.specs.MemberLaws.{keep-append, all→∈, ∈→all}
 use Rattle.bytes_order.specs.ListLaws.{take-∈}
+use Rattle.update_format.specs.Update.{maxPredecessors}
 use Rattle.bitset.specs.Below.{firstBelow, orElse}
 use Rattle.bitset.specs.BelowLaws.{firstBelow-more, firstBelow-some→, firstBelow-some←, firstBelow-none→}
 use Rattle.bitset.specs.Bits.{has}
 use Rattle.ledger_state.specs.declared.Found.the-variants.{At, Nowhere}
-use Rattle.ledger_state.specs.State.{Book, placeAt, foundOf}
+use Rattle.ledger_state.specs.State.{places, Book, placeAt, foundOf}
 use Rattle.ledger_state.proofs.FindLaws.{found-at}
 use Rattle.ledger_sorting.specs.declared.Places.{Places}
-use Rattle.ledger_relations.specs.PlaceTests.{headAt, order}
-use Rattle.ledger_sorting.specs.Pieces.{placesIn, ins, small, Sound, Lists}
+use Rattle.ledger_relations.specs.PlaceTests.{headAt, idOrder}
+use Rattle.ledger_sorting.specs.PlaceLists.{placesIn, ins, small, PlaceList, Lists}
 use Rattle.ledger_sorting.proofs.Inserting.{length-is, passed, ins-end}
 use Rattle.write_highest.specs.Top.{topBelow}
 use Rattle.write_predecessors.specs.Choose.{headsOf, aboveAt, eightWith, eightFor, chosenPlaces}
 
 -- heads
 
-module _ (l : Book) (s : List ℕ) (o : Places) (sound : Sound o) where
+module _ (l : Book) (s : List ℕ) (o : Places) (sound : PlaceList o) where
   pub heads-start : [] ≡ keep (headAt l s) (take 0 (placesIn o))
   unfolding keep
   heads-start = refl
@@ -39,7 +40,7 @@ module _ (l : Book) (s : List ℕ) (o : Places) (sound : Sound o) where
       ∙ sym (keep-append (headAt l s) (take i (placesIn o)) (getD (o .items) i 0 ∷ []))
       ∙ ap (keep (headAt l s)) (sym (passed o sound i h))
 
-  pub heads-end : (i : ℕ) → o .count ≤ i → placesIn o ≡ order l s → keep (headAt l s) (take i (placesIn o)) ≡ headsOf l s
+  pub heads-end : (i : ℕ) → o .count ≤ i → placesIn o ≡ idOrder l s → keep (headAt l s) (take i (placesIn o)) ≡ headsOf l s
   unfolding headsOf
   heads-end i h e = ap (keep (headAt l s)) (take-all i (placesIn o) (omega (arith, length-is o sound)) ∙ e)
 
@@ -97,7 +98,7 @@ module _ (l : Book) (s : List ℕ) (o : Places) (lists : Lists o (headsOf l s)) 
 
 -- the first n
 
-pub first-lists : (o : Places) (n : ℕ) → Sound o → n ≤ o .count → Lists (record { count = n; items = o .items }) (take n (placesIn o))
+pub first-lists : (o : Places) (n : ℕ) → PlaceList o → n ≤ o .count → Lists (record { count = n; items = o .items }) (take n (placesIn o))
 first-lists o n s h =
     let e : take n (o .items) ≡ take n (placesIn o) = sym (take-take n (o .count) (o .items) h) in
     record {
@@ -110,45 +111,45 @@ first-lists o n s h =
     }
   where
     isPlace : ℕ → Bool
-    isPlace k = ltb k 64
+    isPlace k = ltb k places
 
 -- eight of the heads
 module _ (l : Book) (s : List ℕ) (o : Places) (lists : Lists o (headsOf l s)) where
   module _ (t : ℕ) where
-    pub eight-none : firstBelow (length (headsOf l s)) (aboveAt l s t) ≡ none → take 8 (placesIn o) ≡ eightFor l s (some t)
+    pub eight-none : firstBelow (length (headsOf l s)) (aboveAt l s t) ≡ none → take maxPredecessors (placesIn o) ≡ eightFor l s (some t)
     unfolding eightFor eightWith
-    eight-none e = ap (take 8) (lists .are) ∙ ap (eightWith l s) (sym e)
+    eight-none e = ap (take maxPredecessors) (lists .are) ∙ ap (eightWith l s) (sym e)
 
-    pub eight-low : (j : ℕ) → firstBelow (length (headsOf l s)) (aboveAt l s t) ≡ some j → j < 8 → take 8 (placesIn o) ≡ eightFor l s (some t)
+    pub eight-low : (j : ℕ) → firstBelow (length (headsOf l s)) (aboveAt l s t) ≡ some j → j < maxPredecessors → take maxPredecessors (placesIn o) ≡ eightFor l s (some t)
     unfolding eightFor eightWith
     eight-low j e h =
-        ap (take 8) (lists .are)
+        ap (take maxPredecessors) (lists .are)
         ∙ sym
         (ap (eightWith l s) e
-        ∙ ap (λ (b : Bool). cond b (take 8 (headsOf l s)) (take 7 (headsOf l s) ++ (getD (headsOf l s) j 0 ∷ []))) (lt-ltb j 8 h))
+        ∙ ap (λ (b : Bool). cond b (take maxPredecessors (headsOf l s)) (take (maxPredecessors - 1) (headsOf l s) ++ (getD (headsOf l s) j 0 ∷ []))) (lt-ltb j maxPredecessors h))
 
-    pub eight-high : (j : ℕ) → firstBelow (length (headsOf l s)) (aboveAt l s t) ≡ some j → 8 ≤ j → j < o .count
-        → {x : Places} → Lists x (take 7 (placesIn o)) → x .count ≡ 7 → ins 7 (getD (o .items) j 0) (placesIn x) ≡ eightFor l s (some t)
+    pub eight-high : (j : ℕ) → firstBelow (length (headsOf l s)) (aboveAt l s t) ≡ some j → maxPredecessors ≤ j → j < o .count
+        → {x : Places} → Lists x (take (maxPredecessors - 1) (placesIn o)) → x .count ≡ maxPredecessors - 1 → ins (maxPredecessors - 1) (getD (o .items) j 0) (placesIn x) ≡ eightFor l s (some t)
     unfolding eightFor eightWith
     eight-high j e h g {x} a c =
         ap (λ (n : ℕ). ins n (getD (o .items) j 0) (placesIn x)) (sym c)
         ∙ ins-end x (a .sound) (getD (o .items) j 0)
-        ∙ ap₂ (λ (xs : List ℕ) (k : ℕ). xs ++ (k ∷ [])) (a .are ∙ ap (take 7) (lists .are)) (sym (head-is l s o lists t j g))
+        ∙ ap₂ (λ (xs : List ℕ) (k : ℕ). xs ++ (k ∷ [])) (a .are ∙ ap (take (maxPredecessors - 1)) (lists .are)) (sym (head-is l s o lists t j g))
         ∙ sym
         (ap (eightWith l s) e
-        ∙ ap (λ (b : Bool). cond b (take 8 (headsOf l s)) (take 7 (headsOf l s) ++ (getD (headsOf l s) j 0 ∷ []))) (le-ltb j 8 h))
+        ∙ ap (λ (b : Bool). cond b (take maxPredecessors (headsOf l s)) (take (maxPredecessors - 1) (headsOf l s) ++ (getD (headsOf l s) j 0 ∷ []))) (le-ltb j maxPredecessors h))
 
-  chosen-by : (a : ℕ) {b : Bool} → leb (length (headsOf l s)) 8 ≡ b → chosenPlaces l s a ≡ cond b (headsOf l s) (eightFor l s (topBelow l s a (l .used)))
+  chosen-by : (a : ℕ) {b : Bool} → leb (length (headsOf l s)) maxPredecessors ≡ b → chosenPlaces l s a ≡ cond b (headsOf l s) (eightFor l s (topBelow l s a (l .used)))
   unfolding chosenPlaces
   chosen-by a e = ap (λ (b : Bool). cond b (headsOf l s) (eightFor l s (topBelow l s a (l .used)))) e
 
-  pub chosen-few : (a : ℕ) → o .count ≤ 8 → headsOf l s ≡ chosenPlaces l s a
-  chosen-few a h = sym (chosen-by a (le-leb (length (headsOf l s)) 8 (omega (arith, heads-length l s o lists 0))))
+  pub chosen-few : (a : ℕ) → o .count ≤ maxPredecessors → headsOf l s ≡ chosenPlaces l s a
+  chosen-few a h = sym (chosen-by a (le-leb (length (headsOf l s)) maxPredecessors (omega (arith, heads-length l s o lists 0))))
 
-  pub chosen-many : (a : ℕ) (t : Option ℕ) → 8 < o .count → topBelow l s a (l .used) ≡ t → eightFor l s t ≡ chosenPlaces l s a
+  pub chosen-many : (a : ℕ) (t : Option ℕ) → maxPredecessors < o .count → topBelow l s a (l .used) ≡ t → eightFor l s t ≡ chosenPlaces l s a
   chosen-many a t h e =
-      ap (eightFor l s) (sym e) ∙ sym (chosen-by a (lt-leb (length (headsOf l s)) 8 (omega (arith, heads-length l s o lists 0))))
+      ap (eightFor l s) (sym e) ∙ sym (chosen-by a (lt-leb (length (headsOf l s)) maxPredecessors (omega (arith, heads-length l s o lists 0))))
 
-  pub chosen-lowest : (a : ℕ) → 8 < o .count → topBelow l s a (l .used) ≡ none → take 8 (placesIn o) ≡ chosenPlaces l s a
+  pub chosen-lowest : (a : ℕ) → maxPredecessors < o .count → topBelow l s a (l .used) ≡ none → take maxPredecessors (placesIn o) ≡ chosenPlaces l s a
   unfolding eightFor
-  chosen-lowest a h e = ap (take 8) (lists .are) ∙ chosen-many a none h e
+  chosen-lowest a h e = ap (take maxPredecessors) (lists .are) ∙ chosen-many a none h e

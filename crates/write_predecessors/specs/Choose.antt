@@ -1,6 +1,6 @@
 -- The predecessors that a new update names, found by places, for every ledger. The theorem `chosen-ids` says that for a ledger that stands these are
 -- the rules' choice.
-use Prim.Native.Nat.{ℕ, _-_}
+use Prim.Native.Nat.{ℕ, _-_, _≤_, _<_}
 use mathlib.Core.List.{List, [], _∷_, _++_}
 use mathlib.Core.Option.{Option, none, some}
 use mathlib.Core.Bool.{Bool, cond, _||_}
@@ -11,13 +11,15 @@ use Rattle.update_format.specs.Update.{maxPredecessors}
 use Rattle.bitset.specs.Below.{firstBelow}
 use Rattle.bitset.specs.Bits.{has}
 use Rattle.ledger_state.specs.State.{Book, placeAt}
-use Rattle.ledger_relations.specs.PlaceTests.{headAt, order}
+use Rattle.ledger_relations.specs.PlaceTests.{headAt, idOrder}
 use Rattle.write_highest.specs.Top.{topBelow}
+use Rattle.ledger_sorting.specs.declared.Places.{Places}
+use Rattle.ledger_sorting.specs.PlaceLists.{PlaceList, Lists}
 
 module _ (l : Book) (s : List ℕ) where
   -- the heads, ascending by id
   unfoldable pub headsOf : List ℕ
-  headsOf = keep (headAt l s) (order l s)
+  headsOf = keep (headAt l s) (idOrder l s)
 
   -- the head at index j of the heads is at or above place t
   unfoldable pub aboveAt : ℕ → ℕ → Bool
@@ -35,3 +37,13 @@ module _ (l : Book) (s : List ℕ) where
 
   unfoldable pub chosenPlaces : ℕ → List ℕ
   chosenPlaces a = cond (leb (length headsOf) maxPredecessors) headsOf (eightFor (topBelow l s a (l .used)))
+
+  -- the list has the heads, more than an update names
+  pub record ManyHeads (o : Places) : Type 0 where
+    pub heads-listed : Lists o headsOf
+    pub over-most : maxPredecessors < o .count
+
+-- the list is sound and has n places or more
+pub record FirstOf (o : Places) (n : ℕ) : Type 0 where
+  pub sound : PlaceList o
+  pub count-within : n ≤ o .count

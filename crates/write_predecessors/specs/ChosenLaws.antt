@@ -15,7 +15,7 @@ use Rattle.bytes_order.specs.MemberLaws.{append-∈, keep-∈, keep-map, keep-c
 use Rattle.bytes_order.specs.SortLaws.{sort-∈, sort-sorted, sort-map, sort-cong}
 use Rattle.bytes_order.specs.ListLaws.{take-∈}
 use Rattle.update_format.specs.Update.{Id, maxPredecessors, Update}
-use Rattle.rules.specs.Settle.{Row, Table, heldRow, covered, heads, settled}
+use Rattle.rules.specs.Settle.{Row, Table, heldRow, covered, heads, settledTable}
 use Rattle.rules.specs.ChoiceLaws.{rowId}
 use Rattle.rules.specs.Writing.{heldBy, ranked, atOrAbove, firstHeads, others, chosenFrom, chosen}
 use Rattle.bitset.specs.Below.{firstBelow}
@@ -23,7 +23,7 @@ use Rattle.bitset.specs.BelowLaws.{firstBelow-some→, firstBelow-none→}
 use Rattle.bitset.specs.Bits.{has}
 use Rattle.ledger_state.specs.State.{Book, placeAt}
 use Rattle.ledger_state.specs.Stands.{ident, Stands}
-use Rattle.ledger_relations.specs.PlaceTests.{idAt, heldAt, coveredAt, headAt, order}
+use Rattle.ledger_relations.specs.PlaceTests.{idAt, heldAt, coveredAt, headAt, idOrder}
 use Rattle.ledger_relations.specs.RowLaws.{rowAt, row-id, order-∈, table-rows, above-agrees, head-agrees, same-agrees}
 use Rattle.write_highest.specs.Top.{topBelow}
 use Rattle.write_highest.specs.TopLaws.{RankedBy, top-right}
@@ -33,7 +33,7 @@ use Rattle.write_predecessors.specs.ShapeLaws.{heads-ascending}
 
 module _ {l : Book} {s : List ℕ} {us : List Update} (stands : Stands l s us) where
   abbrev T : Table
-  T = settled ident us
+  T = settledTable ident us
 
   abbrev row : ℕ → Row
   row = rowAt us
@@ -45,13 +45,13 @@ module _ {l : Book} {s : List ℕ} {us : List Update} (stands : Stands l s us) w
   head-at : {k : ℕ} → k ∈ H → (k < length us) × (heldAt l s k ≡ true)
   unfolding headsOf headAt
   head-at {k} m =
-      let f = keep-∈ (headAt l s) (order l s) m in (order-∈ stands (f .0), and-true→ (heldAt l s k) (not (coveredAt l s k)) (f .1) .0)
+      let f = keep-∈ (headAt l s) (idOrder l s) m in (order-∈ stands (f .0), and-true→ (heldAt l s k) (not (coveredAt l s k)) (f .1) .0)
 
   heads-rows : heads T ≡ map row H
   unfolding heads headsOf
   heads-rows =
-      ap (keep isHead) (table-rows stands) ∙ keep-map isHead row (order l s)
-      ∙ ap (map row) (keep-cong (λ (k : ℕ). isHead (row k)) (headAt l s) (order l s) (λ k m. head-agrees stands k (order-∈ stands m)))
+      ap (keep isHead) (table-rows stands) ∙ keep-map isHead row (idOrder l s)
+      ∙ ap (map row) (keep-cong (λ (k : ℕ). isHead (row k)) (headAt l s) (idOrder l s) (λ k m. head-agrees stands k (order-∈ stands m)))
     where
       isHead : Row → Bool
       isHead r = heldRow r && not (covered T r)

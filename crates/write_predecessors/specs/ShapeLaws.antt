@@ -18,7 +18,7 @@ use Rattle.update_format.specs.Update.{maxPredecessors}
 use Rattle.bitset.specs.Below.{upTo, firstBelow}
 use Rattle.bitset.specs.BelowLaws.{upTo-∈, firstBelow-some→}
 use Rattle.ledger_state.specs.State.{Book}
-use Rattle.ledger_relations.specs.PlaceTests.{idAt, headAt, order}
+use Rattle.ledger_relations.specs.PlaceTests.{idAt, headAt, idOrder}
 use Rattle.write_highest.specs.Top.{topBelow}
 use Rattle.write_predecessors.specs.Choose.{headsOf, aboveAt, eightWith, eightFor, chosenPlaces}
 use Rattle.write_predecessors.specs.FrontLaws.{ascending-take, front-ascending}
@@ -28,12 +28,12 @@ module _ (l : Book) (s : List ℕ) where
   H = headsOf l s
 
   pub heads-ascending : Ascending (idAt l s) (headsOf l s)
-  unfolding headsOf order
+  unfolding headsOf idOrder
   heads-ascending = ascending-keep (headAt l s) (sort-ascending (idAt l s) (upTo (l .used)))
 
   pub head-taken : {k : ℕ} → k ∈ headsOf l s → k < l .used
-  unfolding headsOf order
-  head-taken m = upTo-∈ (l .used) (sort-∈ (idAt l s) (upTo (l .used)) (keep-∈ (headAt l s) (order l s) m .0))
+  unfolding headsOf idOrder
+  head-taken m = upTo-∈ (l .used) (sort-∈ (idAt l s) (upTo (l .used)) (keep-∈ (headAt l s) (idOrder l s) m .0))
 
   -- heads that an update may name
   pub record Nameable (ks : List ℕ) : Type 0 where

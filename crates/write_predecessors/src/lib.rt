@@ -7,26 +7,28 @@ ghost use Prim.Native.Nat.{_+_, _≤_, _<_};
 ghost use lib.Dec.{eqb};
 ghost use lib.ListN.{length, take};
 ghost use Rattle.bytes_order.specs.Member.{keep};
+ghost use Rattle.update_format.specs.Update.{maxPredecessors};
 ghost use Rattle.bitset.specs.Below.{firstBelow};
 ghost use Rattle.bitset.specs.Bits.{has};
-ghost use Rattle.ledger_state.specs.State.{placeAt, foundOf};
+ghost use Rattle.ledger_state.specs.State.{places, placeAt, foundOf};
 ghost use Rattle.ledger_state.specs.View.{bookOf};
 ghost use Rattle.ledger_relations.specs.PlaceTests.{headAt};
-ghost use Rattle.ledger_sorting.specs.Pieces.{placesIn, Sound, Lists};
-ghost use Rattle.write_predecessors.specs.Choose.{headsOf, aboveAt, eightFor, chosenPlaces};
+ghost use Rattle.ledger_sorting.specs.PlaceLists.{placesIn, Lists, RoomIn};
+ghost use Rattle.write_predecessors.specs.Choose.{headsOf, aboveAt, eightFor, chosenPlaces, ManyHeads, FirstOf};
 use ledger_sorting::Key;
 use ledger_sorting::Places;
 use ledger_sorting::sorted;
 use ledger_state::Found;
 use ledger_state::Ledger;
+use update_format::bounds::MAX_PREDECESSORS;
 use write_highest::top;
 
-// How many predecessors an update has at most: update_format::bounds::MAX_PREDECESSORS.
-const NAMED_HEADS: usize = 8;
+// How many heads an update names at most.
+const NAMED_HEADS: usize = MAX_PREDECESSORS as usize;
 
 // The list with place k at its end, if it is a head.
 fn with_head(l: Ledger, store: &[u8], places: Places, k: usize) -> Places
-    requires { ⌜ (bookOf l .used ≤ 64) × Sound places × (places .count < 64) × (k < 64) ⌝ }
+    requires { ⌜ RoomIn (bookOf l) places k ⌝ }
     ensures { λ r. ⌜ Lists r (placesIn places ++ keep (headAt (bookOf l) (now (store .entry))) (k ∷ [])) × (r .count ≤ places .count + 1) ⌝ }
 {
     if ledger_relations::is_head(l, store, k) {
@@ -39,7 +41,7 @@ fn with_head(l: Ledger, store: &[u8], places: Places, k: usize) -> Places
 
 // The heads, ascending by id.
 fn heads(l: Ledger, store: &[u8]) -> Places
-    requires { ⌜ bookOf l .used ≤ 64 ⌝ }
+    requires { ⌜ bookOf l .used ≤ places ⌝ }
     ensures { λ r. ⌜ Lists r (headsOf (bookOf l) (now (store .entry))) ⌝ }
 {
     let order = sorted::sorted(l, store, Key::Id);
@@ -56,7 +58,7 @@ fn heads(l: Ledger, store: &[u8]) -> Places
 
 // Whether place h is place t or above it.
 fn is_above(l: Ledger, t: usize, h: usize) -> bool
-    requires { ⌜ h < 64 ⌝ }
+    requires { ⌜ h < places ⌝ }
     ensures { λ r. ⌜ r ≡ eqb h t || has (placeAt (bookOf l) h .ancestors) t ⌝ }
 {
     if h == t {
@@ -85,7 +87,7 @@ fn first_above(l: Ledger, store: &[u8], heads: Places, t: usize) -> Found
 
 // The first n places of the list.
 fn first(places: Places, n: usize) -> Places
-    requires { ⌜ Sound places × (n ≤ places .count) ⌝ }
+    requires { ⌜ FirstOf places n ⌝ }
     ensures { λ r. ⌜ Lists r (take n (placesIn places)) × (r .count ≡ n) ⌝ }
 {
     let items = places.items;
@@ -94,8 +96,8 @@ fn first(places: Places, n: usize) -> Places
 
 // Eight of more than eight heads, with the first at or above place t among them.
 fn eight_above(l: Ledger, store: &[u8], heads: Places, t: usize) -> Places
-    requires { ⌜ Lists heads (headsOf (bookOf l) (now store)) × (8 < heads .count) ⌝ }
-    ensures { λ r. ⌜ Lists r (eightFor (bookOf l) (now (store .entry)) (some t)) × (r .count ≤ 8) ⌝ }
+    requires { ⌜ ManyHeads (bookOf l) (now store) heads ⌝ }
+    ensures { λ r. ⌜ Lists r (eightFor (bookOf l) (now (store .entry)) (some t)) × (r .count ≤ maxPredecessors) ⌝ }
 {
     match first_above(l, store, heads, t) {
         Found::At(j) => {
@@ -112,8 +114,8 @@ fn eight_above(l: Ledger, store: &[u8], heads: Places, t: usize) -> Places
 
 // The heads that a new update of the author names.
 pub fn chosen(l: Ledger, store: &[u8], author: u8) -> Places
-    requires { ⌜ bookOf l .used ≤ 64 ⌝ }
-    ensures { λ r. ⌜ Lists r (chosenPlaces (bookOf l) (now (store .entry)) author) × (r .count ≤ 8) ⌝ }
+    requires { ⌜ bookOf l .used ≤ places ⌝ }
+    ensures { λ r. ⌜ Lists r (chosenPlaces (bookOf l) (now (store .entry)) author) × (r .count ≤ maxPredecessors) ⌝ }
 {
     let all = heads(l, store);
     if all.count <= NAMED_HEADS {

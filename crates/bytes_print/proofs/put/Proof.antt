@@ -6,7 +6,7 @@ use native.Mathlib.Omega.{arith}
 use borrow.Author.Needs.{needs}
 use denote.Ref.{now}
 use lib.ListN.{length}
-use Rattle.ledger_state.proofs.CopyLaws.{put-back}
+use Rattle.bytes_copy.specs.OverwrittenLaws.{put-back}
 use Rattle.bytes_print.proofs.put.Statement.{statement}
 use Rattle.bytes_print.proofs.put.Tie as tie
 

@@ -26,7 +26,7 @@ begin-answer-spec =
     let h = c .before .before .before .before in
     let a = h .before .before .before .before .args in
     let s = offer-spells (now (a .line)) (a .fill) (h .read-line .ensures) _ (c .before .before .read .given .1) in
-    (s .0, omega (arith, s .1, h .before .before .before .before .pre)))
+    record { spells = s .0; room = omega (arith, s .1, h .before .before .before .before .pre) })
     (λ c. search needs)
     (λ c.
     let h = c .before .before .before .before .before .before .before in

@@ -2,6 +2,7 @@
 use mathlib.Core.Path.{sym, subst}
 use Prim.Native.Nat.{ℕ, _<_}
 use native.Mathlib.Omega.{arith}
+use Rattle.bytes_print.specs.Page.{twoDigits}
 use Rattle.bytes_print.proofs.Printing.{both, same-text}
 use Rattle.command_answers.proofs.AnswerLaws.{refused-text, refusal-small}
 use borrow.Author.Needs.{needs}
@@ -15,7 +16,11 @@ print-refused-spec =
     (λ c. search needs)
     (λ c κs. search needs)
     (λ c κs. search needs)
-    (λ c κs. (search needs, subst (λ (n : ℕ). n < 100) (sym (c .number .ensures)) (refusal-small (c .before .before .before .before .before .before .before .before .args .refusal))))
+    (λ c κs.
+    record {
+      at-within = search needs;
+      two-digits = subst (λ (n : ℕ). n < twoDigits) (sym (c .number .ensures)) (refusal-small (c .before .before .before .before .before .before .before .before .args .refusal));
+    })
     (λ c. search needs)
     (λ c κs. search needs)
     (λ c. search needs)

@@ -21,7 +21,7 @@ abbrev μ-loop : tie.MeasureT-loop
 
 skip-blocks-requires : tie.Need-skip-blocks-requires Inv-loop μ-loop
 unfolding broken any
-skip-blocks-requires c κs = (search needs, search needs, refl)
+skip-blocks-requires c κs = record { from-within = search needs; block-positive = search needs; none-passed = refl }
 
 loop-again : tie.Need-loop-again Inv-loop μ-loop
 loop-again c =

@@ -1,13 +1,13 @@
 -- `streams::read_again` meets its contract: whatever the last read came to. The measure is the number of turns that are left.
 use mathlib.Core.Path.{_≡_}
 use lib.ListN.{length}
-use Rattle.command_streams.specs.Streams.{Moves}
+use Rattle.command_streams.specs.Streams.{MovesAtMost}
 use borrow.Author.Needs.{needs}
 use Rattle.command_streams.proofs.read_again.Statement.{statement}
 use Rattle.command_streams.proofs.read_again.Tie as tie
 
 abbrev Inv-loop : tie.InvT-loop
-Inv-loop buffer₀ turns₀ moved₀ buffer turns moved = Moves (length buffer) moved × (length buffer ≡ length buffer₀)
+Inv-loop buffer₀ turns₀ moved₀ buffer turns moved = MovesAtMost (length buffer) moved × (length buffer ≡ length buffer₀)
 
 abbrev μ-loop : tie.MeasureT-loop
 μ-loop buffer₀ turns₀ moved₀ buffer turns moved = turns

@@ -1,12 +1,12 @@
 -- `streams::write_again` meets its contract: whatever the last write came to. The measure is the number of turns that are left.
 use lib.ListN.{length}
-use Rattle.command_streams.specs.Streams.{Takes}
+use Rattle.command_streams.specs.Streams.{TakesSome}
 use borrow.Author.Needs.{needs}
 use Rattle.command_streams.proofs.write_again.Statement.{statement}
 use Rattle.command_streams.proofs.write_again.Tie as tie
 
 abbrev Inv-loop : tie.InvT-loop
-Inv-loop bytes turns₀ moved₀ turns moved = Takes (length bytes) moved
+Inv-loop bytes turns₀ moved₀ turns moved = TakesSome (length bytes) moved
 
 abbrev μ-loop : tie.MeasureT-loop
 μ-loop bytes turns₀ moved₀ turns moved = turns

@@ -7,7 +7,7 @@ use borrow.Author.Needs.{needs}
 use borrow.Author.Tests.{not-true, not-false}
 use lib.ListN.{length}
 use denote.Ref.{now}
-use Rattle.command_syntax.specs.Reading.{framed}
+use Rattle.command_syntax.specs.Syntax.{framed}
 use Rattle.command_syntax.specs.LineLaws.{framed-long}
 use Rattle.command_syntax.proofs.Framing.{unframed, odd, no-digits, offered}
 use Rattle.command_syntax.proofs.read_text.Statement.{statement}

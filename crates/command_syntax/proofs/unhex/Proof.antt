@@ -6,7 +6,7 @@ use native.Mathlib.Omega.{arith}
 use borrow.Author.Needs.{needs}
 use lib.ListN.{length, take, drop, length-set}
 use denote.Ref.{now}
-use Rattle.command_syntax.specs.Reading.{unhex}
+use Rattle.command_syntax.specs.Syntax.{unhex}
 use Rattle.command_syntax.proofs.Digits.{high-small, low-small, spelled-next}
 use Rattle.command_syntax.proofs.unhex.Statement.{statement}
 use Rattle.command_syntax.proofs.unhex.Tie as tie
@@ -28,7 +28,7 @@ mul-update c =
     let start = c .before .before .before .before .before .before in
     omega (
       arith,
-      high-small (now (start .args .line)) (start .args .n) (start .pre .0) (loop .i) (search needs) (c .digit-value .ensures),
+      high-small (now (start .args .line)) (start .args .n) (start .pre .spells) (loop .i) (search needs) (c .digit-value .ensures),
     )
 
 add-update : tie.Need-add-update Inv-loop μ-loop
@@ -37,15 +37,15 @@ add-update c =
     let start = c .before .before .before .before .before .before .before .before in
     omega (
       arith,
-      high-small (now (start .args .line)) (start .args .n) (start .pre .0) (loop .i) (search needs) (c .before .before .digit-value .ensures),
-      low-small (now (start .args .line)) (start .args .n) (start .pre .0) (loop .i) (search needs) (c .digit-value2 .ensures),
+      high-small (now (start .args .line)) (start .args .n) (start .pre .spells) (loop .i) (search needs) (c .before .before .digit-value .ensures),
+      low-small (now (start .args .line)) (start .args .n) (start .pre .spells) (loop .i) (search needs) (c .digit-value2 .ensures),
     )
 
 slice-write-update : tie.Need-slice-write-update Inv-loop μ-loop
 slice-write-update c =
     let loop = c .before .before .before .before .before .loop in
     let start = c .before .before .before .before .before .before .before .before in
-    omega (arith, loop .inv .1, start .pre .1)
+    omega (arith, loop .inv .1, start .pre .room)
 
 loop-again : tie.Need-loop-again Inv-loop μ-loop
 loop-again c =
@@ -53,8 +53,8 @@ loop-again c =
     let start = c .before .before .before .before .before .before .before .before in (
       search needs,
       simp length-set (loop .inv .1),
-      spelled-next (now (start .args .line)) (start .args .n) (start .pre .0) (loop .i) (search needs) (loop .update)
-          (omega (arith, loop .inv .1, start .pre .1)) (c .before .before .digit-value .ensures) (c .digit-value2 .ensures) (loop .inv .2),
+      spelled-next (now (start .args .line)) (start .args .n) (start .pre .spells) (loop .i) (search needs) (loop .update)
+          (omega (arith, loop .inv .1, start .pre .room)) (c .before .before .digit-value .ensures) (c .digit-value2 .ensures) (loop .inv .2),
     )
 
 returns : tie.Need-returns Inv-loop μ-loop

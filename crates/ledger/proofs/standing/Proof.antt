@@ -6,7 +6,7 @@ use borrow.Author.Needs.{needs}
 use borrow.Author.Tests.{not-true, not-false}
 use denote.Ref.{now}
 use Rattle.ledger_state.specs.View.{bookOf}
-use Rattle.ledger_state.specs.State.{findIn}
+use Rattle.ledger_state.specs.State.{places, findIn}
 use Rattle.ledger_state.specs.Row1Laws.{sound→}
 use Rattle.ledger_state.specs.FindLaws.{find-taken}
 use Rattle.ledger_state.proofs.FindLaws.{found-at, found-nowhere}
@@ -15,7 +15,7 @@ use Rattle.ledger.proofs.standing.Statement.{statement}
 use Rattle.ledger.proofs.standing.Tie as tie
 
 -- the place where the id was found is one
-inside : (c : tie.After-known-told) → c .before .k .given .0 .0 < 64
+inside : (c : tie.After-known-told) → c .before .k .given .0 .0 < places
 inside c =
     let f = c .before .before .before in
     let d = f .before .before .before in

@@ -2,7 +2,7 @@
 use mathlib.Core.Path.{ap, _∙_}
 use borrow.Author.Needs.{needs}
 use denote.Ref.{now}
-use Rattle.update_format.specs.Reading.{operationAt}
+use Rattle.update_format.specs.ParseResult.{operationAt}
 use Rattle.ledger_state.specs.View.{bookOf}
 use Rattle.ledger_judging.specs.Judge.{judgeGathered}
 use Rattle.ledger_judging.proofs.Judging.{gathered-void, gathered-ready, gathered-waits}

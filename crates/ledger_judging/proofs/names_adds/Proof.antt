@@ -9,7 +9,7 @@ use Rattle.bytes_order.specs.Member.{all}
 use Rattle.update_format.specs.Decode.{idsAt}
 use Rattle.rules.specs.Settle.{isAdd}
 use Rattle.ledger_state.specs.View.{bookOf}
-use Rattle.ledger_judging.specs.Judge.{names}
+use Rattle.ledger_judging.specs.Judge.{namesAncestor}
 use Rattle.ledger_judging.proofs.Runs.{all-stop, all-go-on, all-ended}
 use Rattle.ledger_judging.proofs.names_adds.Statement.{statement}
 use Rattle.ledger_judging.proofs.names_adds.Tie as tie
@@ -17,7 +17,7 @@ use Rattle.ledger_judging.proofs.names_adds.Tie as tie
 abbrev Inv-loop : tie.InvT-loop
 Inv-loop l store up b at count tag k₀ k =
     (k ≤ count)
-    × (all (names (bookOf l) store (isAdd tag) up) (idsAt b at count) ≡ all (names (bookOf l) store (isAdd tag) up) (drop k (idsAt b at count)))
+    × (all (namesAncestor (bookOf l) store (isAdd tag) up) (idsAt b at count) ≡ all (namesAncestor (bookOf l) store (isAdd tag) up) (drop k (idsAt b at count)))
 
 abbrev μ-loop : tie.MeasureT-loop
 μ-loop l store up b at count tag k₀ k = count - k
@@ -35,7 +35,7 @@ names-adds-spec =
     let n = c .before .before in
     let h = n .before .before in
     let a = h .before .before .before .before .args in
-    let p = names (bookOf (a .l)) (now (a .store)) (isAdd (now (a .tag))) (a .up) in
+    let p = namesAncestor (bookOf (a .l)) (now (a .store)) (isAdd (now (a .tag))) (a .up) in
     sym
     (h .loop .inv .1
     ∙ all-stop (now (a .b)) (a .at) (a .count) (h .loop .k) p (search needs)
@@ -46,7 +46,7 @@ names-adds-spec =
     let n = c .before .before in
     let h = n .before .before in
     let a = h .before .before .before .before .args in
-    let p = names (bookOf (a .l)) (now (a .store)) (isAdd (now (a .tag))) (a .up) in (
+    let p = namesAncestor (bookOf (a .l)) (now (a .store)) (isAdd (now (a .tag))) (a .up) in (
       search needs,
       h .loop .inv .1
           ∙ all-go-on (now (a .b)) (a .at) (a .count) (h .loop .k) p (search needs)
@@ -55,5 +55,5 @@ names-adds-spec =
     (λ c.
     let h = c .before in
     let a = h .before .before .before .before .args in
-    let p = names (bookOf (a .l)) (now (a .store)) (isAdd (now (a .tag))) (a .up) in
+    let p = namesAncestor (bookOf (a .l)) (now (a .store)) (isAdd (now (a .tag))) (a .up) in
     sym (h .loop .inv .1 ∙ all-ended (now (a .b)) (a .at) (a .count) (h .loop .k) p (search needs))))

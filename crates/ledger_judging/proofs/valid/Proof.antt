@@ -30,22 +30,22 @@ valid-spec =
     let d = c .before .before .before in
     let a = d .before .before .before .before .args in
     c .names-adds .ensures
-    ∙ valid-remove (bookOf (a .l)) (now (a .store)) (a .up) (now (a .b)) (a .operation) _ _ _ (d .operation .given .1) _ (c .before .part-of .ensures))
+    ∙ valid-remove (bookOf (a .l)) (now (a .store)) (a .up) (now (a .b)) (a .operation) _ _ _ (d .operation .given .1) _ (c .before .slice-of .ensures))
     (λ c.
     let q = c .before .before .before in
     let d = q .before .before in
     let a = d .before .before .before .before .args in
-    valid-first (bookOf (a .l)) (now (a .store)) (a .up) (now (a .b)) (a .operation) _ _ (d .operation2 .given .1) _ (q .part-of2 .ensures)
+    valid-first (bookOf (a .l)) (now (a .store)) (a .up) (now (a .b)) (a .operation) _ _ (d .operation2 .given .1) _ (q .slice-of2 .ensures)
     (sym (c .before .same .ensures) ∙ c .if1 .taken))
     (λ c.
     let q = c .before .before .before .before in
     let d = q .before .before in
     let a = d .before .before .before .before .args in
     c .names-insert .ensures
-    ∙ valid-insert (bookOf (a .l)) (now (a .store)) (a .up) (now (a .b)) (a .operation) _ _ (d .operation2 .given .1) _ (q .part-of2 .ensures)
+    ∙ valid-insert (bookOf (a .l)) (now (a .store)) (a .up) (now (a .b)) (a .operation) _ _ (d .operation2 .given .1) _ (q .slice-of2 .ensures)
     (sym (c .before .before .same .ensures) ∙ c .before .if1 .left))
     (λ c.
     let d = c .before .before .before in
     let a = d .before .before .before .before .args in
     c .names-insert2 .ensures
-    ∙ valid-delete (bookOf (a .l)) (now (a .store)) (a .up) (now (a .b)) (a .operation) _ (d .operation3 .given .1) _ (c .before .part-of3 .ensures)))
+    ∙ valid-delete (bookOf (a .l)) (now (a .store)) (a .up) (now (a .b)) (a .operation) _ (d .operation3 .given .1) _ (c .before .slice-of3 .ensures)))

@@ -4,7 +4,7 @@ use mathlib.Core.Path.{sym, _∙_}
 use native.Mathlib.Omega.{arith}
 use borrow.Author.Needs.{needs}
 use denote.Ref.{now}
-use Rattle.ledger_state.specs.State.{findIn}
+use Rattle.ledger_state.specs.State.{places, findIn}
 use Rattle.ledger_state.specs.View.{bookOf}
 use Rattle.ledger_state.specs.Row1Laws.{sound→}
 use Rattle.ledger_state.specs.FindLaws.{find-taken}
@@ -14,7 +14,7 @@ use Rattle.ledger_offering.proofs.offer_formed.Statement.{statement}
 use Rattle.ledger_offering.proofs.offer_formed.Tie as tie
 
 -- the place where the id was found is one
-inside : (c : tie.After-known-told) → c .before .k .given .0 .0 < 64
+inside : (c : tie.After-known-told) → c .before .k .given .0 .0 < places
 inside c =
     let f = c .before .before .before in
     let d = f .before .before in
@@ -42,12 +42,13 @@ offer-formed-spec =
     let n = c .before .before in
     let f = n .before .before in
     let d = f .before .before in
-    let z = d .before .before .before in (
-      z .pre,
-      d .digest .ensures,
-      found-nowhere (findIn (bookOf (z .args .t1)) (d .digest .result)) (sym (f .find .ensures) ∙ n .enum-told .given .1),
-      omega (arith, sound→ (bookOf (z .args .t1)) (now (z .args .store)) (z .pre .is-sound) .few, c .before .if1 .left),
-    ))
+    let z = d .before .before .before in
+    record {
+      formed = z .pre;
+      id-right = d .digest .ensures;
+      id-new = found-nowhere (findIn (bookOf (z .args .t1)) (d .digest .result)) (sym (f .find .ensures) ∙ n .enum-told .given .1);
+      place-free = omega (arith, sound→ (bookOf (z .args .t1)) (now (z .args .store)) (z .pre .is-sound) .few, c .before .if1 .left);
+    })
     (λ c.
     let k = c .before .before .before in
     let f = k .before .before in

@@ -5,7 +5,7 @@ use native.Mathlib.Omega.{arith}
 use borrow.Author.Needs.{needs}
 use denote.Ref.{now}
 use Rattle.update_format.specs.Laws.{accepted}
-use Rattle.ledger_state.specs.State.{Book}
+use Rattle.ledger_state.specs.State.{places, Book}
 use Rattle.ledger_state.specs.View.{bookOf}
 use Rattle.ledger_state.specs.Row1Laws.{sound→}
 use Rattle.ledger_offering.specs.Offer.{Took}
@@ -18,22 +18,22 @@ use Rattle.ledger_offering.proofs.take.Tie as tie
 took : (c : tie.After-settle) →
     let w = c .before .before .before .before .before in
     let z = w .before .before .before .before in
-    Took (bookOf (z .args .ledger)) (now (z .args .store)) (now (z .args .update)) (z .pre .0 .value) (bookOf (c .settle .result)) (w .write-at .last .0)
+    Took (bookOf (z .args .ledger)) (now (z .args .store)) (now (z .args .update)) (z .pre .formed .value) (bookOf (c .settle .result)) (w .write-at .last .0)
 took c =
     let t = c .before .before in
     let w = t .before .before .before in
     let z = w .before .before .before .before in
     let a = z .args in
-    let f = z .pre .0 in
-    laws.took (bookOf (a .ledger)) (now (a .store)) (now (a .update)) (f .value) (f .is-sound) (f .decodes) (z .pre .3) (z .pre .1) (z .pre .2)
-    (t .taken .ensures .free (z .pre .3))
+    let f = z .pre .formed in
+    laws.took (bookOf (a .ledger)) (now (a .store)) (now (a .update)) (f .value) (f .is-sound) (f .decodes) (z .pre .place-free) (z .pre .id-right) (z .pre .id-new)
+    (t .taken .ensures .free (z .pre .place-free))
     (w .write-at .ensures)
     (w .write-at .kept .0)
     (c .settle .ensures)
 
-settled-few : (c : tie.After-settle) → c .settle .result .used ≤ 64
+settled-few : (c : tie.After-settle) → c .settle .result .used ≤ places
 settled-few c =
-    let z = c .before .before .before .before .before .before .before .before .before in omega (arith, took c .used-next, z .pre .3)
+    let z = c .before .before .before .before .before .before .before .before .before in omega (arith, took c .used-next, z .pre .place-free)
 
 pub take-spec : {M : Type 1} → statement M
 take-spec =
@@ -41,13 +41,17 @@ take-spec =
     (tie.spec
     (λ c κs.
     let z = c .before .before .before in
-    let f = z .pre .0 in
-    (sound→ (bookOf (z .args .ledger)) (now (z .args .store)) (f .is-sound) .store, z .pre .3, accepted (now (z .args .update)) (f .value) (f .decodes) .short))
+    let f = z .pre .formed in
+    record {
+      store-whole = sound→ (bookOf (z .args .ledger)) (now (z .args .store)) (f .is-sound) .store;
+      place-within = z .pre .place-free;
+      update-within = accepted (now (z .args .update)) (f .value) (f .decodes) .short;
+    })
     (λ c κs. search needs)
     (λ c κs.
     let t = c .before in
     let z = t .before .before .before .before .before .before .before in
-    omega (arith, ap (λ (m : Book). m .used) (t .taken .ensures .free (z .pre .3)), z .pre .3))
+    omega (arith, ap (λ (m : Book). m .used) (t .taken .ensures .free (z .pre .place-free)), z .pre .place-free))
     (λ c. search needs)
     (λ c. search needs)
     (λ c κs. settled-few (c .before))
@@ -65,7 +69,7 @@ take-spec =
     let w = n .before .before .before .before .before in
     let z = w .before .before .before .before in
     let a = z .args in
-    offered-taken (a .ledger) (now (a .store)) (now (a .update)) (z .pre .0) _ (z .pre .1) (z .pre .2) (z .pre .3) (took n) (w .write-at .ensures)
+    offered-taken (a .ledger) (now (a .store)) (now (a .update)) (z .pre .formed) _ (z .pre .id-right) (z .pre .id-new) (z .pre .place-free) (took n) (w .write-at .ensures)
     (c .before .before .before .held-count .ensures)
     (c .before .before .held-count2 .ensures)
     (c .before .void-count .ensures)

@@ -2,26 +2,43 @@
 use mathlib.Core.Path.{sym, _∙_}
 use borrow.Author.Needs.{needs}
 use denote.Ref.{now}
+use Rattle.ledger_state.specs.NumberLaws.{is-waiting}
 use Rattle.ledger_state.specs.View.{bookOf}
 use Rattle.ledger_settling.proofs.Settling.{newest-none, newest-stays, newest-judged}
 use Rattle.ledger_settling.proofs.newest.Statement.{statement}
 use Rattle.ledger_settling.proofs.newest.Tie as tie
 
+returns : tie.Need-returns
+returns c = let a = c .before .before .args in newest-none (bookOf (a .t1)) (now (a .store)) (search needs)
+
+sub-k : tie.Need-sub-k
+sub-k c = search needs
+
+mul-has-standing : tie.Need-mul-has-standing
+mul-has-standing c = search needs
+
+element-copy-out-has-standing : tie.Need-element-copy-out-has-standing
+element-copy-out-has-standing c = search needs
+
+has-standing-requires : tie.Need-has-standing-requires
+has-standing-requires c κs = search needs
+
+settle-waiting-requires : tie.Need-settle-waiting-requires
+settle-waiting-requires c κs = search needs
+
+returns-judged : tie.Need-returns-2
+returns-judged c =
+    let w = c .before .before in
+    let a = w .before .before .before .before .args in
+    newest-judged (bookOf (a .t1)) (now (a .store)) _ (search needs) (sym (w .has-standing .ensures ∙ is-waiting _) ∙ c .before .if2 .taken) (c .settle-waiting .ensures)
+
+returns-stays : tie.Need-returns-3
+returns-stays c =
+    let w = c .before in
+    let a = w .before .before .before .before .args in
+    newest-stays (bookOf (a .t1)) (now (a .store)) _ (search needs) (sym (w .has-standing .ensures ∙ is-waiting _) ∙ c .if2 .left)
+
 pub newest-spec : {M : Type 1} → statement M
 newest-spec =
     tie.close
-    (tie.spec
-    (λ c. let a = c .before .before .args in newest-none (bookOf (a .t1)) (now (a .store)) (search needs))
-    (λ c. search needs)
-    (λ c. search needs)
-    (λ c. search needs)
-    (λ c κs. search needs)
-    (λ c κs. search needs)
-    (λ c.
-    let w = c .before .before in
-    let a = w .before .before .before .before .args in
-    newest-judged (bookOf (a .t1)) (now (a .store)) _ (search needs) (sym (w .waits .ensures) ∙ c .before .if2 .taken) (c .settle-waiting .ensures))
-    (λ c.
-    let w = c .before in
-    let a = w .before .before .before .before .args in
-    newest-stays (bookOf (a .t1)) (now (a .store)) _ (search needs) (sym (w .waits .ensures) ∙ c .if2 .left)))
+    (tie.spec returns sub-k mul-has-standing element-copy-out-has-standing has-standing-requires settle-waiting-requires returns-judged returns-stays)

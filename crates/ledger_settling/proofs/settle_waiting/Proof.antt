@@ -21,11 +21,11 @@ settle-waiting-spec =
     let u = c .before .before in
     let d = u .before .before in
     let a = d .before .before .args in
-    by-holds (bookOf (a .l)) (now (a .store)) (a .k) (c .settled .ensures .inside (d .before .before .pre .1)) (sym (d .judge .ensures) ∙ u .up .given .1))
+    by-holds (bookOf (a .l)) (now (a .store)) (a .k) (c .with-standing .ensures .inside (d .before .before .pre .place-within)) (sym (d .judge .ensures) ∙ u .up .given .1))
     (λ c.
     let d = c .before .before .before in
     let a = d .before .before .args in
-    by-fails (bookOf (a .l)) (now (a .store)) (a .k) (c .settled2 .ensures .inside (d .before .before .pre .1)) (sym (d .judge .ensures) ∙ c .before .enum-told .given .1))
+    by-fails (bookOf (a .l)) (now (a .store)) (a .k) (c .with-standing2 .ensures .inside (d .before .before .pre .place-within)) (sym (d .judge .ensures) ∙ c .before .enum-told .given .1))
     (λ c.
     let d = c .before .before in
     let a = d .before .before .args in

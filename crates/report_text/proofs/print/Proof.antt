@@ -15,18 +15,19 @@ print-spec =
     (tie.spec
     (λ c κs. search needs)
     (λ c κs.
-    let args = c .before .before .before .before .args in (
-      c .before .before .before .before .pre,
-      renamed (sorted-ids (bookOf (args .l)) (now (args .store))) (c .before .sorted .ensures),
-    ))
+    let args = c .before .before .before .before .args in
+    record {
+      used-within = c .before .before .before .before .pre;
+      order-listed = renamed (sorted-ids (bookOf (args .l)) (now (args .store))) (c .before .sorted .ensures);
+    })
     (λ c κs.
     let args = c .before .before .before .before .before .before .before .before .args in
     let pre = c .before .before .before .before .before .before .before .before .pre in
-    let sorted = c .before .before .before .before .before .sorted in (
-      pre,
-      renamed (sorted-ids (bookOf (args .l)) (now (args .store))) (sorted .ensures),
-      c .before .before .before .print-standings .ensures .1,
-    ))
+    let sorted = c .before .before .before .before .before .sorted in
+    record {
+      in-order = record { used-within = pre; order-listed = renamed (sorted-ids (bookOf (args .l)) (now (args .store))) (sorted .ensures) };
+      at-within = c .before .before .before .print-standings .ensures .1;
+    })
     (λ c. search needs)
     (λ c.
     let args = c .before .before .before .before .before .before .before .before .before .before .before .args in

@@ -19,28 +19,30 @@ print-standings-spec =
     (λ c κs. search needs)
     (λ c κs.
     let pre = c .before .before .before .before .before .before .before .before .pre in
-    (pre .0, pre .1 .sound, omega (arith, c .before .before .before .put .ensures .past)))
+    record { used-within = pre .used-within; sound = pre .order-listed .sound; page-within = omega (arith, c .before .before .before .put .ensures .past) })
     (λ c κs.
     let pre = c .before .before .before .before .before .before .before .before .before .before .before .before .pre in
     let put′ = c .before .before .before .before .before .before .before .put in
-    (pre .0, pre .1 .sound, omega (arith, put′ .ensures .past, c .before .before .before .print .ensures .1)))
+    record { used-within = pre .used-within; sound = pre .order-listed .sound; page-within = omega (arith, put′ .ensures .past, c .before .before .before .print .ensures .1) })
     (λ c κs.
     let pre = c .before .before .before .before .before .before .before .before .before .before .before .before .before .before .before .before .pre in
     let put′ = c .before .before .before .before .before .before .before .before .before .before .before .put in
-    let print = c .before .before .before .before .before .before .before .print in (
-      pre .0,
-      pre .1 .sound,
-      omega (arith, put′ .ensures .past, print .ensures .1, c .before .before .before .print2 .ensures .1),
-    ))
+    let print = c .before .before .before .before .before .before .before .print in
+    record {
+      used-within = pre .used-within;
+      sound = pre .order-listed .sound;
+      page-within = omega (arith, put′ .ensures .past, print .ensures .1, c .before .before .before .print2 .ensures .1);
+    })
     (λ c κs.
     let pre = c .before .before .before .before .before .before .before .before .before .before .before .before .before .before .before .before .before .before .before .before .pre in
     let put′ = c .before .before .before .before .before .before .before .before .before .before .before .before .before .before .before .put in
     let print = c .before .before .before .before .before .before .before .before .before .before .before .print in
-    let print2 = c .before .before .before .before .before .before .before .print2 in (
-      pre .0,
-      pre .1 .sound,
-      omega (arith, put′ .ensures .past, print .ensures .1, print2 .ensures .1, c .before .before .before .print3 .ensures .1),
-    ))
+    let print2 = c .before .before .before .before .before .before .before .print2 in
+    record {
+      used-within = pre .used-within;
+      sound = pre .order-listed .sound;
+      page-within = omega (arith, put′ .ensures .past, print .ensures .1, print2 .ensures .1, c .before .before .before .print3 .ensures .1);
+    })
     (λ c. search needs)
     (λ c.
     let args = c .before .before .before .before .before .before .before .before .before .before .before .before .before .before .before .before .before .before .before .before .before .before .before .args in
@@ -50,6 +52,6 @@ print-standings-spec =
     let print2 = c .before .before .before .before .before .before .before .before .before .before .print2 in
     let print3 = c .before .before .before .before .before .before .print3 in
     let print4 = c .before .before .print4 in (
-      same-text (standings-is (bookOf (args .l)) (now (args .store))) (both (put′ .ensures) (both (same-text (ap (partOf (bookOf (args .l)) (now (args .store)) Held) (pre .1 .are)) (print .ensures .0)) (both (same-text (ap (partOf (bookOf (args .l)) (now (args .store)) Heads) (pre .1 .are)) (print2 .ensures .0)) (both (same-text (ap (partOf (bookOf (args .l)) (now (args .store)) Waiting) (pre .1 .are)) (print3 .ensures .0)) (same-text (ap (partOf (bookOf (args .l)) (now (args .store)) Void) (pre .1 .are)) (print4 .ensures .0)))))),
+      same-text (standings-is (bookOf (args .l)) (now (args .store))) (both (put′ .ensures) (both (same-text (ap (partOf (bookOf (args .l)) (now (args .store)) Held) (pre .order-listed .are)) (print .ensures .0)) (both (same-text (ap (partOf (bookOf (args .l)) (now (args .store)) Heads) (pre .order-listed .are)) (print2 .ensures .0)) (both (same-text (ap (partOf (bookOf (args .l)) (now (args .store)) Waiting) (pre .order-listed .are)) (print3 .ensures .0)) (same-text (ap (partOf (bookOf (args .l)) (now (args .store)) Void) (pre .order-listed .are)) (print4 .ensures .0)))))),
       omega (arith, put′ .ensures .past, print .ensures .1, print2 .ensures .1, print3 .ensures .1, print4 .ensures .1),
     )))

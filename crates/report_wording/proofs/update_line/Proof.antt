@@ -21,7 +21,10 @@ update-line-spec =
     let opened = c .before .before .before .before .before .before .before .before in
     let author = opened .before .before in
     let pre = author .before .before .before .before .pre in
-    (omega (arith, put′ .ensures .past, opened .open-id .ensures .1, pre .0), omega (arith, author .author-of .ensures .1)))
+    record {
+      at-within = omega (arith, put′ .ensures .past, opened .open-id .ensures .1, pre .line-within);
+      two-digits = omega (arith, author .author-of .ensures .1);
+    })
     (λ c. search needs)
     (λ c κs. search needs)
     (λ c. search needs)

@@ -29,9 +29,6 @@ word-spec =
     (λ c. search needs)
     (λ c κs. search needs)
     (λ c. search needs)
-    (λ c. search needs)
-    (λ c κs. search needs)
-    (λ c. search needs)
     (λ c.
     let enum-told = c .before .before .before .before .before .enum-told in
     let put′ = c .before .before .put in
@@ -60,9 +57,4 @@ word-spec =
     (λ c.
     let enum-told6 = c .before .before .before .before .before .enum-told6 in
     let put6 = c .before .before .put6 in
-    (same-text (word-is (enum-told6 .given .1)) (put6 .ensures), omega (arith, put6 .ensures .past)))
-    (λ c. search needs)
-    (λ c.
-    let enum-told7 = c .before .before .before .before .before .enum-told7 in
-    let put7 = c .before .before .put7 in
-    (same-text (word-is (enum-told7 .given .1)) (put7 .ensures), omega (arith, put7 .ensures .past))))
+    (same-text (word-is (enum-told6 .given .1)) (put6 .ensures), omega (arith, put6 .ensures .past))))

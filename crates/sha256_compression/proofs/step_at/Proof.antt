@@ -7,7 +7,7 @@ use Rattle.sha256_compression.proofs.step_at.Tie as tie
 returns : tie.Need-returns
 returns c H e =
     let a : tie.Start = c .before .before .before in
-    step-on (a .args .t) (a .args .k .now) (a .args .w .now) H (a .pre .1) e (c .step .ensures)
+    step-on (a .args .t) (a .args .k .now) (a .args .w .now) H (a .pre .constants) e (c .step .ensures)
 
 pub step-at-spec : {M : Type 1} → statement M
 step-at-spec =

@@ -8,11 +8,11 @@ use Rattle.sha256_digest.proofs.digest.Tie as tie
 
 blocks-requires : tie.Need-blocks-requires
 unfolding K
-blocks-requires c κs = (whole _, refl)
+blocks-requires c κs = record { blocks-within = whole _; constants = refl }
 
 finish-requires : tie.Need-finish-requires
 unfolding K
-finish-requires c κs = (c .before .blocks2 .ensures, refl)
+finish-requires c κs = record { hashed = c .before .blocks2 .ensures; constants = refl }
 
 returns : tie.Need-returns
 unfolding SHA-256

@@ -19,7 +19,7 @@ returns c =
     (working (k .compress .result))
     (b .last-blocks .ensures .0)
     (b .last-blocks .ensures .1)
-    (a .pre .0)
+    (a .pre .hashed)
     (k .compress .ensures)
     (sym (l .last-size .ensures .0) ∙ c .if1 .taken)
 
@@ -37,7 +37,7 @@ returns-2 c =
     (working (k .compress .result))
     (b .last-blocks .ensures .0)
     (b .last-blocks .ensures .1)
-    (a .pre .0)
+    (a .pre .hashed)
     (k .compress .ensures)
     (c .compress2 .ensures)
     (λ e. t .if1 .left (l .last-size .ensures .0 ∙ e))

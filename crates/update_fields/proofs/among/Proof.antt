@@ -7,7 +7,7 @@ use denote.Ref.{now}
 use Rattle.bytes_order.specs.Order.{same}
 use Rattle.bytes_order.specs.Member.{member}
 use Rattle.update_format.specs.Decode.{idsAt}
-use Rattle.update_fields.proofs.Reading.{member-here, member-later, member-none}
+use Rattle.update_fields.proofs.FieldsRead.{member-here, member-later, member-none}
 use Rattle.update_fields.proofs.among.Statement.{statement}
 use Rattle.update_fields.proofs.among.Tie as tie
 

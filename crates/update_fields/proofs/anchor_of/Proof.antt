@@ -2,7 +2,7 @@
 use mathlib.Core.Path.{_∙_}
 use borrow.Author.Needs.{needs}
 use denote.Ref.{now}
-use Rattle.update_fields.proofs.Reading.{of-kind, of-other, anchor-laid}
+use Rattle.update_fields.proofs.FieldsRead.{of-kind, of-other, anchor-laid}
 use Rattle.update_fields.proofs.anchor_of.Statement.{statement}
 use Rattle.update_fields.proofs.anchor_of.Tie as tie
 
@@ -15,7 +15,7 @@ anchor-of-spec =
     (λ c. search needs)
     (λ c.
     let laid = c .before .before .before in
-    c .part-of .ensures ∙ of-kind (anchor-laid (now (laid .before .before .args .b)) (laid .layout-of .ensures)) (c .before .if1 .taken))
+    c .slice-of .ensures ∙ of-kind (anchor-laid (now (laid .before .before .args .b)) (laid .layout-of .ensures)) (c .before .if1 .taken))
     (λ c.
     let laid = c .before .before .before in
     of-other (anchor-laid (now (laid .before .before .args .b)) (laid .layout-of .ensures)) (c .before .if1 .left)))

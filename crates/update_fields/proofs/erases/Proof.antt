@@ -1,7 +1,7 @@
 -- `erases` meets its contract, by the kind.
 use borrow.Author.Needs.{needs}
 use denote.Ref.{now}
-use Rattle.update_fields.proofs.Reading.{same-of, of-other, erases-laid}
+use Rattle.update_fields.proofs.FieldsRead.{same-of, of-other, erases-laid}
 use Rattle.update_fields.proofs.erases.Statement.{statement}
 use Rattle.update_fields.proofs.erases.Tie as tie
 
@@ -15,7 +15,7 @@ erases-spec =
     (λ c.
     let laid = c .before .before .before .before in
     let args = laid .before .before .before .args in
-    same-of (now (args .id)) (erases-laid (now (args .b)) (now (args .id)) (laid .layout-of .ensures)) (c .same .ensures) (c .before .part-of .ensures) (c .before .before .if1 .taken))
+    same-of (now (args .id)) (erases-laid (now (args .b)) (now (args .id)) (laid .layout-of .ensures)) (c .same .ensures) (c .before .slice-of .ensures) (c .before .before .if1 .taken))
     (λ c.
     let laid = c .before .before in
     let args = laid .before .before .before .args in

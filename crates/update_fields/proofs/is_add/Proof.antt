@@ -1,7 +1,7 @@
 -- `is_add` meets its contract.
 use borrow.Author.Needs.{needs}
 use denote.Ref.{now}
-use Rattle.update_fields.proofs.Reading.{is-add-laid}
+use Rattle.update_fields.proofs.FieldsRead.{is-add-laid}
 use Rattle.update_fields.proofs.is_add.Statement.{statement}
 use Rattle.update_fields.proofs.is_add.Tie as tie
 

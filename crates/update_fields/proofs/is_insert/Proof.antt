@@ -1,7 +1,7 @@
 -- `is_insert` meets its contract.
 use borrow.Author.Needs.{needs}
 use denote.Ref.{now}
-use Rattle.update_fields.proofs.Reading.{is-insert-laid}
+use Rattle.update_fields.proofs.FieldsRead.{is-insert-laid}
 use Rattle.update_fields.proofs.is_insert.Statement.{statement}
 use Rattle.update_fields.proofs.is_insert.Tie as tie
 

@@ -1,7 +1,7 @@
 -- `layout_of` meets its contract, by the operation.
 use borrow.Author.Needs.{needs}
 use denote.Ref.{now}
-use Rattle.update_fields.proofs.Reading.{laid-update, laid-nothing}
+use Rattle.update_fields.proofs.FieldsRead.{laid-update, laid-nothing}
 use Rattle.update_fields.proofs.layout_of.Statement.{statement}
 use Rattle.update_fields.proofs.layout_of.Tie as tie
 

@@ -2,7 +2,7 @@
 use mathlib.Core.Path.{_∙_}
 use borrow.Author.Needs.{needs}
 use denote.Ref.{now}
-use Rattle.update_fields.proofs.Reading.{of-kind, of-other, removes-laid}
+use Rattle.update_fields.proofs.FieldsRead.{of-kind, of-other, removes-laid}
 use Rattle.update_fields.proofs.removes.Statement.{statement}
 use Rattle.update_fields.proofs.removes.Tie as tie
 

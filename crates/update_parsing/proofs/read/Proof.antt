@@ -9,16 +9,16 @@ use borrow.Author.Needs.{needs}
 use lib.ListN.{getD}
 use denote.Ref.{now}
 use Rattle.update_format.specs.Decode.{authorOf, countOf, row2, row3, row4, decode}
-use Rattle.update_format.specs.Reading.{decodedOf, readingOf, reading-decodes}
-use Rattle.update_format.specs.declared.Reading.{Reading}
+use Rattle.update_format.specs.ParseResult.{decodedOf, parseOf, parse-decodes}
+use Rattle.update_format.specs.declared.ParseResult.{ParseResult}
 use Rattle.update_header.specs.declared.Header.{Header}
 use Rattle.update_parsing.proofs.Chain.{row2-short, row2-long, row2-no, row3-yes, row3-no, row4-yes, row4-no, row5-yes, row5-no}
 use Rattle.update_parsing.proofs.read.Statement.{statement}
 use Rattle.update_parsing.proofs.read.Tie as tie
 
 -- both clauses, from the second
-both : (b : List ℕ) (r : Reading) → r ≡ readingOf b → (decodedOf b r ≡ decode b) × (r ≡ readingOf b)
-both b r e = (ap (decodedOf b) e ∙ reading-decodes b, e)
+both : (b : List ℕ) (r : ParseResult) → r ≡ parseOf b → (decodedOf b r ≡ decode b) × (r ≡ parseOf b)
+both b r e = (ap (decodedOf b) e ∙ parse-decodes b, e)
 
 -- the bytes, as the place behind row 2 has them
 abbrev bytes : tie.Else2 → List ℕ

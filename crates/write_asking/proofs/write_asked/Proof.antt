@@ -42,7 +42,7 @@ slice-aggregate-compose c = search needs
 
 compose-requires : tie.Need-compose-requires
 compose-requires c κs =
-    let z : tie.Start = c .before .before .before .before in (few z, z .pre .named-good)
+    let z : tie.Start = c .before .before .before .before in record { used-within = few z; named-good = z .pre .named-good }
 
 array-share-prefix-bytes : tie.Need-array-share-prefix-bytes
 array-share-prefix-bytes c = search needs

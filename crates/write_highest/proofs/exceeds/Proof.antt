@@ -18,15 +18,18 @@ exceeds-spec =
     (λ c κs.
     let args = c .before .before .before .before .args in
     let pre = c .before .before .before .before .pre in
-    let e = found-at (topBelow (bookOf (args .l)) (now (args .store)) (args .author) (args .k)) _ (sym (pre .2) ∙ c .before .top .given .1) in
-    (omega (arith, pre .0, pre .1), omega (arith, top-inside (bookOf (args .l)) (now (args .store)) (args .author) (args .k) _ e, pre .0, pre .1)))
+    let e = found-at (topBelow (bookOf (args .l)) (now (args .store)) (args .author) (args .k)) _ (sym (pre .top-right) ∙ c .before .top .given .1) in
+    record {
+      first-within = omega (arith, pre .used-within, pre .place-taken);
+      second-within = omega (arith, top-inside (bookOf (args .l)) (now (args .store)) (args .author) (args .k) _ e, pre .used-within, pre .place-taken);
+    })
     (λ c. search needs)
     (λ c.
     let args = c .before .before .before .before .before .args in
     let pre = c .before .before .before .before .before .pre in
     let top = c .before .before .top in
-    better-top (bookOf (args .l)) (now (args .store)) (args .author) (args .k) _ (found-at (topBelow (bookOf (args .l)) (now (args .store)) (args .author) (args .k)) _ (sym (pre .2) ∙ top .given .1)) (c .is-higher .ensures))
+    better-top (bookOf (args .l)) (now (args .store)) (args .author) (args .k) _ (found-at (topBelow (bookOf (args .l)) (now (args .store)) (args .author) (args .k)) _ (sym (pre .top-right) ∙ top .given .1)) (c .is-higher .ensures))
     (λ c.
     let args = c .before .before .before .args in
     let pre = c .before .before .before .pre in
-    better-none (bookOf (args .l)) (now (args .store)) (args .author) (args .k) (found-nowhere (topBelow (bookOf (args .l)) (now (args .store)) (args .author) (args .k)) (sym (pre .2) ∙ c .enum-told .given .1))))
+    better-none (bookOf (args .l)) (now (args .store)) (args .author) (args .k) (found-nowhere (topBelow (bookOf (args .l)) (now (args .store)) (args .author) (args .k)) (sym (pre .top-right) ∙ c .enum-told .given .1))))

@@ -27,7 +27,7 @@ top-spec =
     (search needs, top-start (bookOf (args .l)) (now (args .store)) (args .author)))
     (λ c κs.
     let pre = c .before .before .before .pre in
-    (pre, search needs, c .before .loop .inv .1))
+    record { used-within = pre; place-taken = search needs; top-right = c .before .loop .inv .1 })
     (λ c. search needs)
     (λ c. search needs)
     (λ c. (search needs, c .top-with .ensures))

@@ -14,11 +14,11 @@ top-with-spec =
     (tie.spec
     (λ c κs.
     let pre = c .before .pre in
-    omega (arith, pre .0, pre .1))
+    omega (arith, pre .used-within, pre .place-taken))
     (λ c.
     let args = c .before .before .before .args in
     let pre = c .before .before .before .pre in
-    top-other (bookOf (args .l)) (now (args .store)) (args .author) (args .k) (pre .2) (sym (c .before .is-own .ensures) ∙ not-true _ (c .if1 .taken)))
+    top-other (bookOf (args .l)) (now (args .store)) (args .author) (args .k) (pre .top-right) (sym (c .before .is-own .ensures) ∙ not-true _ (c .if1 .taken)))
     (λ c κs.
     let pre = c .before .before .before .pre in
     pre)
@@ -32,4 +32,4 @@ top-with-spec =
     let pre = c .before .before .before .before .before .pre in
     let is-own = c .before .before .before .is-own in
     let if1 = c .before .before .if1 in
-    top-lower (bookOf (args .l)) (now (args .store)) (args .author) (args .k) (pre .2) (sym (is-own .ensures) ∙ not-false _ (if1 .left)) (sym (c .before .exceeds .ensures) ∙ c .if2 .left)))
+    top-lower (bookOf (args .l)) (now (args .store)) (args .author) (args .k) (pre .top-right) (sym (is-own .ensures) ∙ not-false _ (if1 .left)) (sym (c .before .exceeds .ensures) ∙ c .if2 .left)))

@@ -15,18 +15,18 @@ compose-spec =
     (tie.spec
     (λ c κs.
     let pre = c .before .before .before .pre in
-    pre .0)
+    pre .used-within)
     (λ c κs. c .before .chosen .ensures .1)
     (λ c κs.
     let chosen = c .before .before .before .before .before .chosen in
     let put-header = c .before .before .before .put-header in
-    (chosen .ensures .0 .sound, omega (arith, put-header .ensures .past)))
+    record { sound = chosen .ensures .0 .sound; at-within = omega (arith, put-header .ensures .past) })
     (λ c κs.
     let put-ids = c .before .before .before .put-ids in
     let put-header = c .before .before .before .before .before .before .before .put-header in
     let chosen = c .before .before .before .before .before .before .before .before .before .chosen in
     let pre = c .before .before .before .before .before .before .before .before .before .before .before .before .before .pre in
-    (omega (arith, put-ids .ensures .1, put-header .ensures .past, chosen .ensures .1), pre .1))
+    record { at-within = omega (arith, put-ids .ensures .1, put-header .ensures .past, chosen .ensures .1); named-good = pre .named-good })
     (λ c. search needs)
     (λ c.
     let args = c .before .before .before .before .before .before .before .before .before .before .before .before .before .before .before .before .args in

@@ -10,7 +10,7 @@ use Rattle.write_operations.proofs.put_remove.Tie as tie
 
 -- row 8 lets the named ids through
 good : (z : tie.Start) → WholeIds (now (z .args .named))
-good z = good-named (now (z .args .named)) (z .pre .1)
+good z = good-named (now (z .args .named)) (z .pre .named-good)
 
 slice-aggregate-put-part : tie.Need-slice-aggregate-put-part
 slice-aggregate-put-part c = search needs

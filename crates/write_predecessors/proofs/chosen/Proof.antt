@@ -26,12 +26,12 @@ chosen-spec =
     (λ c κs.
     let heads = c .before .before .before .before .before .before .heads in
     let if1 = c .before .before .before .before .if1 in
-    (heads .ensures, if1 .left))
+    record { heads-listed = heads .ensures; over-most = if1 .left })
     (λ c. search needs)
     (λ c κs.
     let heads = c .before .before .before .before .before .heads in
     let if1 = c .before .before .before .if1 in
-    (heads .ensures .sound, omega (arith, if1 .left)))
+    record { sound = heads .ensures .sound; count-within = omega (arith, if1 .left) })
     (λ c.
     let args = c .before .before .before .before .before .before .before .before .before .args in
     let heads = c .before .before .before .before .before .before .before .heads in

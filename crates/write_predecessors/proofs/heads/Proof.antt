@@ -7,7 +7,7 @@ use borrow.Author.Needs.{needs}
 use denote.Ref.{now}
 use Rattle.bytes_order.specs.Member.{keep}
 use Rattle.ledger_relations.specs.PlaceTests.{headAt}
-use Rattle.ledger_sorting.specs.Pieces.{placesIn, Lists}
+use Rattle.ledger_sorting.specs.PlaceLists.{placesIn, Lists}
 use Rattle.ledger_sorting.proofs.Inserting.{renamed, below}
 use Rattle.ledger_sorting.proofs.Sorting.{sorted-ids}
 use Rattle.ledger_state.specs.View.{bookOf}
@@ -44,7 +44,14 @@ heads-spec =
     let pre = c .before .before .before .before .before .before .pre in
     let loop = c .before .before .loop in
     let sorted = c .before .before .before .before .sorted in
-    (pre, loop .inv .2 .sound, omega (arith, sorted .ensures .sound .room, loop .inv .1), below (sorted .result) (sorted .ensures .sound) (loop .i) (search needs)))
+    record {
+      used-within = pre;
+      room-for = record {
+        sound = loop .inv .2 .sound;
+        room = omega (arith, sorted .ensures .sound .room, loop .inv .1);
+        place-within = below (sorted .result) (sorted .ensures .sound) (loop .i) (search needs);
+      };
+    })
     (λ c.
     let sorted = c .before .before .before .before .before .sorted in
     omega (arith, sorted .ensures .sound .room))

@@ -4,7 +4,7 @@ use native.Mathlib.Omega.{arith}
 use borrow.Author.Needs.{needs}
 use denote.Ref.{now}
 use Rattle.ledger_relations.specs.PlaceTests.{headAt}
-use Rattle.ledger_sorting.specs.Pieces.{placesIn}
+use Rattle.ledger_sorting.specs.PlaceLists.{placesIn}
 use Rattle.ledger_sorting.proofs.Inserting.{renamed, ins-end}
 use Rattle.ledger_sorting.proofs.Keeping.{keep-yes, keep-nothing}
 use Rattle.ledger_state.specs.View.{bookOf}
@@ -17,17 +17,17 @@ with-head-spec =
     (tie.spec
     (λ c κs.
     let pre = c .before .pre in
-    (pre .0, pre .3))
+    record { used-within = pre .used-within; place-within = pre .room-for .place-within })
     (λ c κs.
     let pre = c .before .before .before .pre in
-    (pre .1, pre .2, search needs, pre .3))
+    record { room-for = pre .room-for; index-within = search needs })
     (λ c.
     let args = c .before .before .before .before .args in
     let pre = c .before .before .before .before .pre in
     let is-head = c .before .before .is-head in
     let insert = c .insert in
-    (renamed (ins-end (args .places) (pre .1) (args .k) ∙ keep-yes (headAt (bookOf (args .l)) (now (args .store))) (placesIn (args .places)) (args .k) (is-head .ensures) (c .before .if1 .taken)) (insert .ensures .0), omega (arith, insert .ensures .1)))
+    (renamed (ins-end (args .places) (pre .room-for .sound) (args .k) ∙ keep-yes (headAt (bookOf (args .l)) (now (args .store))) (placesIn (args .places)) (args .k) (is-head .ensures) (c .before .if1 .taken)) (insert .ensures .0), omega (arith, insert .ensures .1)))
     (λ c.
     let pre = c .before .before .before .pre in
     let args = c .before .before .before .args in
-    (record { sound = pre .1; are = keep-nothing (headAt (bookOf (args .l)) (now (args .store))) (placesIn (args .places)) (args .k) (c .before .is-head .ensures) (c .if1 .left) }, search needs)))
+    (record { sound = pre .room-for .sound; are = keep-nothing (headAt (bookOf (args .l)) (now (args .store))) (placesIn (args .places)) (args .k) (c .before .is-head .ensures) (c .if1 .left) }, search needs)))

@@ -5,7 +5,7 @@ use mathlib.Core.List.{[], _∷_}
 use native.Mathlib.Omega.{arith}
 use borrow.Author.Needs.{needs}
 use Rattle.bytes_print.proofs.Printing.{same-text}
-use Rattle.bytes_print.proofs.DigitLaws.{decimal-one, decimal-two}
+use Rattle.bytes_ascii.specs.AsciiLaws.{decimal-one, decimal-two}
 use Rattle.bytes_print.proofs.digits.decimal.Statement.{statement}
 use Rattle.bytes_print.proofs.digits.decimal.Tie as tie
 
@@ -37,6 +37,6 @@ decimal-spec =
     let digit2 = c .before .before .before .before .before .before .digit2 in
     let digit3 = c .before .before .before .before .before .digit3 in
     let put2 = c .before .before .put2 in (
-      same-text (ap₂ (λ (x y : ℕ). x ∷ y ∷ []) (digit2 .ensures) (digit3 .ensures) ∙ decimal-two (args .n) (if1 .left) (pre .1)) (put2 .ensures),
+      same-text (ap₂ (λ (x y : ℕ). x ∷ y ∷ []) (digit2 .ensures) (digit3 .ensures) ∙ decimal-two (args .n) (if1 .left) (pre .two-digits)) (put2 .ensures),
       omega (arith, put2 .ensures .past),
     )))

@@ -4,7 +4,7 @@ use mathlib.Core.Path.{sym, ap}
 use mathlib.Core.Bool.{Bool, cond}
 use borrow.Author.Needs.{needs}
 use borrow.Author.Tests.{lt-ltb, le-ltb}
-use Rattle.rules.specs.Report.{digit}
+use Rattle.bytes_ascii.specs.Ascii.{digit}
 use Rattle.bytes_print.proofs.digits.digit.Statement.{statement}
 use Rattle.bytes_print.proofs.digits.digit.Tie as tie
 

@@ -6,10 +6,10 @@ use native.Mathlib.Omega.{arith}
 use borrow.Author.Needs.{needs}
 use lib.ListN.{length, drop}
 use denote.Ref.{now}
-use Rattle.rules.specs.Report.{hex}
+use Rattle.bytes_ascii.specs.Ascii.{hex}
 use Rattle.bytes_print.specs.Page.{Prints}
 use Rattle.bytes_print.proofs.Printing.{both, nothing, same-text}
-use Rattle.bytes_print.proofs.DigitLaws.{hex-next, hex-end}
+use Rattle.bytes_ascii.specs.AsciiLaws.{hex-next, hex-end}
 use Rattle.bytes_print.proofs.digits.hex.Statement.{statement}
 use Rattle.bytes_print.proofs.digits.hex.Tie as tie
 

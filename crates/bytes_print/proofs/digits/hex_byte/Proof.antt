@@ -3,7 +3,7 @@ use Prim.Native.Nat.{ℕ}
 use mathlib.Core.Path.{ap₂}
 use mathlib.Core.List.{[], _∷_}
 use borrow.Author.Needs.{needs}
-use Rattle.rules.specs.Report.{hexByte}
+use Rattle.bytes_ascii.specs.Ascii.{hexByte}
 use Rattle.bytes_print.proofs.Printing.{same-text}
 use Rattle.bytes_print.proofs.digits.hex_byte.Statement.{statement}
 use Rattle.bytes_print.proofs.digits.hex_byte.Tie as tie

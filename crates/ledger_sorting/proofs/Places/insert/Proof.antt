@@ -4,13 +4,14 @@ use mathlib.Core.Path.{_≡_, refl, _∙_}
 use native.Mathlib.Omega.{arith}
 use borrow.Author.Needs.{needs}
 use lib.ListN.{length, length-set}
-use Rattle.ledger_sorting.specs.Pieces.{ins}
+use Rattle.ledger_state.specs.State.{places}
+use Rattle.ledger_sorting.specs.PlaceLists.{ins}
 use Rattle.ledger_sorting.proofs.Inserting.{carry, inserted}
 use Rattle.ledger_sorting.proofs.Places.insert.Statement.{statement}
 use Rattle.ledger_sorting.proofs.Places.insert.Tie as tie
 
 abbrev Inv-loop : tie.InvT-loop
-Inv-loop at k count items₀ carried₀ i₀ items carried i = (i ≤ count) × (length items ≡ 64) × (ins i carried items ≡ ins at k items₀)
+Inv-loop at k count items₀ carried₀ i₀ items carried i = (i ≤ count) × (length items ≡ places) × (ins i carried items ≡ ins at k items₀)
 
 abbrev μ-loop : tie.MeasureT-loop
 μ-loop at k count items₀ carried₀ i₀ items carried i = count - i
@@ -21,7 +22,7 @@ insert-spec =
     (tie.spec
     Inv-loop
     μ-loop
-    (λ c. (search needs, c .before .pre .0 .whole, refl))
+    (λ c. (search needs, c .before .pre .room-for .sound .whole, refl))
     (λ c. search needs)
     (λ c. search needs)
     (λ c. search needs)
@@ -41,6 +42,6 @@ insert-spec =
     let args = c .before .before .before .args in
     let loop = c .before .loop in
     let pre = c .before .before .before .pre in (
-      inserted (args .self) (args .at) (args .k) (pre .0) (pre .1) (pre .2) (pre .3) (loop .items) (loop .carried) (loop .i) (search needs) (search needs) (loop .inv .1) (loop .inv .2),
+      inserted (args .self) (args .at) (args .k) pre (loop .items) (loop .carried) (loop .i) (search needs) (search needs) (loop .inv .1) (loop .inv .2),
       refl,
     )))

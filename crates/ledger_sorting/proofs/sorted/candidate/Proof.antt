@@ -4,7 +4,7 @@ use borrow.Author.Needs.{needs}
 use denote.Ref.{now}
 use Rattle.ledger_state.specs.View.{bookOf}
 use Rattle.ledger_sorting.specs.declared.Key.{Key}
-use Rattle.ledger_sorting.specs.Pieces.{candidate}
+use Rattle.ledger_sorting.specs.PlaceLists.{candidate}
 use Rattle.ledger_sorting.proofs.sorted.candidate.Statement.{statement}
 use Rattle.ledger_sorting.proofs.sorted.candidate.Tie as tie
 

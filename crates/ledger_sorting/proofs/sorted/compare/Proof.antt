@@ -5,7 +5,7 @@ use denote.Ref.{now}
 use Rattle.bytes_order.specs.Compare.{orderOf}
 use Rattle.ledger_state.specs.View.{placeOf}
 use Rattle.ledger_sorting.specs.declared.Key.{Key}
-use Rattle.ledger_sorting.specs.Pieces.{keyIn}
+use Rattle.ledger_sorting.specs.PlaceLists.{keyIn}
 use Rattle.ledger_sorting.proofs.sorted.compare.Statement.{statement}
 use Rattle.ledger_sorting.proofs.sorted.compare.Tie as tie
 

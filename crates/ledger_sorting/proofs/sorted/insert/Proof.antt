@@ -8,7 +8,7 @@ use lib.ListN.{getD, take, drop}
 use denote.Ref.{now}
 use Rattle.bytes_order.specs.Sort.{insert}
 use Rattle.ledger_state.specs.View.{bookOf}
-use Rattle.ledger_sorting.specs.Pieces.{placesIn, keyOf}
+use Rattle.ledger_sorting.specs.PlaceLists.{placesIn, keyOf}
 use Rattle.ledger_sorting.proofs.Inserting.{next, passed, ended, below, renamed}
 use Rattle.ledger_sorting.proofs.Sorting.{less, equal, greater, over}
 use Rattle.ledger_sorting.proofs.sorted.insert.Statement.{statement}
@@ -36,19 +36,19 @@ insert-spec =
     (λ c.
     let args = c .before .before .before .before .before .args in
     let pre = c .before .before .before .before .before .pre in
-    omega (arith, below (args .t4) (pre .0) (c .before .before .loop .i) (search needs)))
+    omega (arith, below (args .t4) (pre .sound) (c .before .before .loop .i) (search needs)))
     (λ c.
     let args = c .before .before .before .before .before .args in
     let pre = c .before .before .before .before .before .pre in
-    omega (arith, below (args .t4) (pre .0) (c .before .before .loop .i) (search needs)))
+    omega (arith, below (args .t4) (pre .sound) (c .before .before .loop .i) (search needs)))
     (λ c κs.
     let pre = c .before .before .before .before .before .before .pre in
     let args = c .before .before .before .before .before .before .args in
-    (pre .2, below (args .t4) (pre .0) (c .before .before .before .loop .i) (search needs)))
+    record { first-within = pre .place-within; second-within = below (args .t4) (pre .sound) (c .before .before .before .loop .i) (search needs) })
     (λ c. search needs)
     (λ c κs.
     let pre = c .before .before .before .before .before .before .before .before .before .pre in
-    (pre .0, pre .1, search needs, pre .2))
+    record { room-for = pre; index-within = search needs })
     (λ c.
     let args = c .before .before .before .before .before .before .before .before .before .before .args in
     let loop = c .before .before .before .before .before .before .before .loop in
@@ -57,7 +57,7 @@ insert-spec =
     let key = keyOf (bookOf (args .t1)) (now (args .store)) (args .key) in
     let xs = placesIn (args .t4) in
     let k = getD (args .t4 .items) (loop .i) 0 in
-    let d = next (args .t4) (pre .0) (loop .i) (search needs) in
+    let d = next (args .t4) (pre .sound) (loop .i) (search needs) in
     (renamed (less key (args .j) xs (loop .i) k (loop .inv .1) d (sym (c .before .enum-told .given .1) ∙ c .before .before .before .compare .ensures)) (insert .ensures .0), omega (arith, insert .ensures .1)))
     (λ c. search needs)
     (λ c.
@@ -67,8 +67,8 @@ insert-spec =
     let key = keyOf (bookOf (args .t1)) (now (args .store)) (args .key) in
     let xs = placesIn (args .t4) in
     let k = getD (args .t4 .items) (loop .i) 0 in
-    let d = next (args .t4) (pre .0) (loop .i) (search needs) in
-    (record { sound = pre .0; are = equal key (args .j) xs (loop .i) k (loop .inv .1) d (sym (c .enum-told2 .given .1) ∙ c .before .before .compare .ensures) }, search needs))
+    let d = next (args .t4) (pre .sound) (loop .i) (search needs) in
+    (record { sound = pre .sound; are = equal key (args .j) xs (loop .i) k (loop .inv .1) d (sym (c .enum-told2 .given .1) ∙ c .before .before .compare .ensures) }, search needs))
     (λ c. search needs)
     (λ c. search needs)
     (λ c. search needs)
@@ -79,11 +79,11 @@ insert-spec =
     let key = keyOf (bookOf (args .t1)) (now (args .store)) (args .key) in
     let xs = placesIn (args .t4) in
     let k = getD (args .t4 .items) (loop .i) 0 in
-    let d = next (args .t4) (pre .0) (loop .i) (search needs) in
-    (search needs, greater key (args .j) xs (loop .i) k (loop .inv .1) d (passed (args .t4) (pre .0) (loop .i) (search needs)) (sym (c .enum-told3 .given .1) ∙ c .before .before .compare .ensures)))
+    let d = next (args .t4) (pre .sound) (loop .i) (search needs) in
+    (search needs, greater key (args .j) xs (loop .i) k (loop .inv .1) d (passed (args .t4) (pre .sound) (loop .i) (search needs)) (sym (c .enum-told3 .given .1) ∙ c .before .before .compare .ensures)))
     (λ c κs.
     let pre = c .before .before .before .before .pre in
-    (pre .0, pre .1, search needs, pre .2))
+    record { room-for = pre; index-within = search needs })
     (λ c.
     let args = c .before .before .before .before .before .args in
     let loop = c .before .before .loop in
@@ -92,4 +92,4 @@ insert-spec =
     let key = keyOf (bookOf (args .t1)) (now (args .store)) (args .key) in
     let xs = placesIn (args .t4) in
     let k = getD (args .t4 .items) (loop .i) 0 in
-    (renamed (over key (args .j) xs (loop .i) k (loop .inv .1) (ended (args .t4) (pre .0) (loop .i) (search needs))) (insert2 .ensures .0), omega (arith, insert2 .ensures .1))))
+    (renamed (over key (args .j) xs (loop .i) k (loop .inv .1) (ended (args .t4) (pre .sound) (loop .i) (search needs))) (insert2 .ensures .0), omega (arith, insert2 .ensures .1))))

@@ -5,7 +5,7 @@ use borrow.Author.Needs.{needs}
 use denote.Ref.{now}
 use Rattle.bytes_order.specs.Sort.{insert}
 use Rattle.ledger_state.specs.View.{bookOf}
-use Rattle.ledger_sorting.specs.Pieces.{placesIn, keyOf}
+use Rattle.ledger_sorting.specs.PlaceLists.{placesIn, keyOf}
 use Rattle.ledger_sorting.proofs.Inserting.{renamed}
 use Rattle.ledger_sorting.proofs.sorted.insert_listed.Statement.{statement}
 use Rattle.ledger_sorting.proofs.sorted.insert_listed.Tie as tie
@@ -15,9 +15,7 @@ insert-listed-spec =
     tie.close
     (tie.spec
     (λ c κs. search needs)
-    (λ c κs.
-    let pre = c .before .before .before .pre in
-    (pre .1, pre .2, pre .3))
+    (λ c κs. c .before .before .before .pre .room-for)
     (λ c.
     let args = c .before .before .before .before .args in (
       renamed (ap (λ (b : Bool). cond b (insert (keyOf (bookOf (args .l)) (now (args .store)) (args .key)) (args .k) (placesIn (args .places))) (placesIn (args .places))) (sym (sym (c .before .before .candidate .ensures) ∙ c .before .if1 .taken))) (c .insert .ensures .0),
@@ -25,6 +23,6 @@ insert-listed-spec =
     ))
     (λ c.
     let args = c .before .before .before .args in (
-      record { sound = c .before .before .before .pre .1; are = ap (λ (b : Bool). cond b (insert (keyOf (bookOf (args .l)) (now (args .store)) (args .key)) (args .k) (placesIn (args .places))) (placesIn (args .places))) (sym (sym (c .before .candidate .ensures) ∙ c .if1 .left)) },
+      record { sound = c .before .before .before .pre .room-for .sound; are = ap (λ (b : Bool). cond b (insert (keyOf (bookOf (args .l)) (now (args .store)) (args .key)) (args .k) (placesIn (args .places))) (placesIn (args .places))) (sym (sym (c .before .candidate .ensures) ∙ c .if1 .left)) },
       search needs,
     )))

@@ -5,7 +5,7 @@ use native.Mathlib.Omega.{arith}
 use borrow.Author.Needs.{needs}
 use denote.Ref.{now}
 use Rattle.ledger_state.specs.View.{bookOf}
-use Rattle.ledger_sorting.specs.Pieces.{Lists, keyOf, candidate, sortedBy}
+use Rattle.ledger_sorting.specs.PlaceLists.{Lists, keyOf, candidate, sortedBy}
 use Rattle.ledger_sorting.proofs.Inserting.{renamed}
 use Rattle.ledger_sorting.proofs.Sorting.{from, from-end, from-step, from-all}
 use Rattle.ledger_sorting.proofs.sorted.sorted.Statement.{statement}
@@ -44,7 +44,10 @@ sorted-spec =
     ))
     (λ c. search needs)
     (λ c κs.
-    (c .before .before .before .before .pre, c .before .loop .inv .2 .sound, omega arith, omega arith))
+    record {
+      used-within = c .before .before .before .before .pre;
+      room-for = record { sound = c .before .loop .inv .2 .sound; room = omega arith; place-within = omega arith };
+    })
     (λ c. search needs)
     (λ c.
     let args = c .before .before .before .before .before .args in

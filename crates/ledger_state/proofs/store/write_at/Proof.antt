@@ -5,7 +5,7 @@ use denote.Ref.{now}
 use lib.ListN.{length}
 use Rattle.update_format.specs.Update.{maxLength}
 use borrow.Author.Needs.{needs}
-use Rattle.ledger_state.proofs.CopyLaws.{put-back}
+use Rattle.bytes_copy.specs.OverwrittenLaws.{put-back}
 use Rattle.ledger_state.proofs.store.write_at.Statement.{statement}
 use Rattle.ledger_state.proofs.store.write_at.Tie as tie
 

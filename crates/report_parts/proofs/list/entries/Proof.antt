@@ -7,20 +7,21 @@ use borrow.Author.Needs.{needs}
 use lib.ListN.{length}
 use denote.Ref.{now}
 use Rattle.bytes_order.specs.Member.{keep}
+use Rattle.ledger_state.specs.State.{places}
 use Rattle.ledger_state.specs.View.{bookOf}
-use Rattle.report_parts.specs.Board.{putAll, byRank}
-use Rattle.ledger_sorting.specs.Pieces.{placesIn, Lists}
-use Rattle.report_parts.specs.Ranked.{ranked}
+use Rattle.report_parts.specs.PlaceParts.{putAll, byRank}
+use Rattle.ledger_sorting.specs.PlaceLists.{placesIn, Lists}
+use Rattle.report_parts.specs.Ranked.{rankedAt}
 use Rattle.ledger_sorting.proofs.Inserting.{length-is, renamed}
 use Rattle.report_parts.proofs.Ranking.{rank-room, rank-start, rank-next, rank-end, rank-zero, rank-count}
 use Rattle.report_parts.proofs.list.entries.Statement.{statement}
 use Rattle.report_parts.proofs.list.entries.Tie as tie
 
 abbrev Inv-loop : tie.InvT-loop
-Inv-loop l store os es₀ n₀ es n = (n ≤ 64) × (es .count ≡ length (byRank (bookOf l) store n)) × Lists es (putAll (bookOf l) store [] (byRank (bookOf l) store n))
+Inv-loop l store os es₀ n₀ es n = (n ≤ places) × (es .count ≡ length (byRank (bookOf l) store n)) × Lists es (putAll (bookOf l) store [] (byRank (bookOf l) store n))
 
 abbrev μ-loop : tie.MeasureT-loop
-μ-loop l store os es₀ n₀ es n = 64 - n
+μ-loop l store os es₀ n₀ es n = places - n
 
 pub entries-spec : {M : Type 1} → statement M
 entries-spec =
@@ -38,11 +39,12 @@ entries-spec =
     (λ c κs.
     let args = c .before .before .before .before .args in
     let loop = c .before .loop in
-    let pre = c .before .before .before .before .pre in (
-      pre .1 .sound,
-      loop .inv .2 .sound,
-      omega (arith, loop .inv .1, rank-room (bookOf (args .l)) (now (args .store)) (loop .n) (placesIn (args .order)) (pre .1 .are) (omega (arith, length-is (args .order) (pre .1 .sound), pre .1 .sound .room))),
-    ))
+    let pre = c .before .before .before .before .pre in
+    record {
+      order-sound = pre .order-listed .sound;
+      entries-sound = loop .inv .2 .sound;
+      room = omega (arith, loop .inv .1, rank-room (bookOf (args .l)) (now (args .store)) (loop .n) (placesIn (args .order)) (pre .order-listed .are) (omega (arith, length-is (args .order) (pre .order-listed .sound), pre .order-listed .sound .room)));
+    })
     (λ c. search needs)
     (λ c. search needs)
     (λ c.
@@ -50,9 +52,9 @@ entries-spec =
     let loop = c .before .before .loop in
     let pre = c .before .before .before .before .before .pre in (
       search needs,
-      c .put-rank .ensures .1 ∙ ap (λ (m : ℕ). m + length (keep (ranked (bookOf (args .l)) (now (args .store)) (loop .n)) (placesIn (args .order)))) (loop .inv .1)
-          ∙ rank-count (bookOf (args .l)) (now (args .store)) (loop .n) (placesIn (args .order)) (pre .1 .are),
-      renamed (rank-next (bookOf (args .l)) (now (args .store)) (loop .n) (placesIn (args .order)) (placesIn (loop .all)) (pre .1 .are) (loop .inv .2 .are)) (c .put-rank .ensures .0),
+      c .put-rank .ensures .1 ∙ ap (λ (m : ℕ). m + length (keep (rankedAt (bookOf (args .l)) (now (args .store)) (loop .n)) (placesIn (args .order)))) (loop .inv .1)
+          ∙ rank-count (bookOf (args .l)) (now (args .store)) (loop .n) (placesIn (args .order)) (pre .order-listed .are),
+      renamed (rank-next (bookOf (args .l)) (now (args .store)) (loop .n) (placesIn (args .order)) (placesIn (loop .all)) (pre .order-listed .are) (loop .inv .2 .are)) (c .put-rank .ensures .0),
     ))
     (λ c.
     let args = c .before .before .before .before .args in

@@ -7,8 +7,8 @@ use borrow.Author.Needs.{needs}
 use lib.ListN.{getD, take, drop}
 use denote.Ref.{now}
 use Rattle.ledger_state.specs.View.{bookOf}
-use Rattle.report_parts.specs.Board.{after}
-use Rattle.ledger_sorting.specs.Pieces.{placesIn}
+use Rattle.report_parts.specs.PlaceParts.{after}
+use Rattle.ledger_sorting.specs.PlaceLists.{placesIn}
 use Rattle.ledger_sorting.proofs.Inserting.{next, passed, ended, below}
 use Rattle.report_parts.proofs.Following.{after-here, after-later, after-none}
 use Rattle.report_parts.proofs.list.index_after.Statement.{statement}

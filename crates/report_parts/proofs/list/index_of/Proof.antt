@@ -6,7 +6,7 @@ use borrow.Author.Needs.{needs}
 use denote.Ref.{now}
 use Rattle.update_format.specs.Decode.{decode}
 use Rattle.update_fields.specs.Fields.{anchorIn}
-use Rattle.ledger_sorting.specs.Pieces.{placesIn}
+use Rattle.ledger_sorting.specs.PlaceLists.{placesIn}
 use Rattle.ledger_state.specs.View.{bookOf}
 use Rattle.report_parts.proofs.Ranking.{put-first, put-after}
 use Rattle.report_parts.proofs.list.index_of.Statement.{statement}
@@ -29,7 +29,7 @@ index-of-spec =
     (search needs, put-first (bookOf (args .t1)) (now (args .store)) (args .k) (placesIn (args .entries)) (now (anchor-of .result)) (anchor-of .ensures ∙ ap (λ (b : List ℕ). anchorIn (decode b)) (stored .ensures)) (c .before .same .ensures) (c .if1 .taken)))
     (λ c κs.
     let pre = c .before .before .before .before .before .before .before .pre in
-    pre .0)
+    pre .sound)
     (λ c.
     let index-after = c .index-after in
     let args = c .before .before .before .before .before .before .before .before .args in

@@ -9,9 +9,9 @@ put-spec =
     (tie.spec
     (λ c κs.
     let pre = c .before .pre in
-    (pre .0, pre .2))
+    record { sound = pre .sound; place-within = pre .place-within })
     (λ c κs.
     let pre = c .before .before .pre in
-    (pre .0, pre .1, c .index-of .ensures .0, pre .2))
+    record { room-for = pre; index-within = c .index-of .ensures .0 })
     (λ c.
     (renamed (c .before .index-of .ensures .1) (c .insert .ensures .0), c .insert .ensures .1)))

@@ -8,9 +8,9 @@ use lib.ListN.{length, getD, drop}
 use denote.Ref.{now}
 use Rattle.bytes_order.specs.Member.{keep}
 use Rattle.ledger_state.specs.View.{bookOf}
-use Rattle.report_parts.specs.Board.{putAll}
-use Rattle.ledger_sorting.specs.Pieces.{placesIn, Sound}
-use Rattle.report_parts.specs.Ranked.{ranked}
+use Rattle.report_parts.specs.PlaceParts.{putAll}
+use Rattle.ledger_sorting.specs.PlaceLists.{placesIn, PlaceList}
+use Rattle.report_parts.specs.Ranked.{rankedAt}
 use Rattle.ledger_sorting.proofs.Inserting.{next, ended, below}
 use Rattle.report_parts.proofs.Ranking.{ranked-is, Met, met-put, met-left, put-next, room-next, put-end, room-end}
 use Rattle.ledger_sorting.proofs.Keeping.{keep-one}
@@ -20,9 +20,9 @@ use Rattle.report_parts.proofs.list.put_rank.Tie as tie
 abbrev Inv-loop : tie.InvT-loop
 Inv-loop store n l os count es₀ i₀ es i =
     (i ≤ count)
-    × Sound es
-    × (es .count + length (keep (ranked (bookOf l) store n) (drop i (placesIn os))) ≡ es₀ .count + length (keep (ranked (bookOf l) store n) (placesIn os)))
-    × (putAll (bookOf l) store (placesIn es₀) (keep (ranked (bookOf l) store n) (placesIn os)) ≡ putAll (bookOf l) store (placesIn es) (keep (ranked (bookOf l) store n) (drop i (placesIn os))))
+    × PlaceList es
+    × (es .count + length (keep (rankedAt (bookOf l) store n) (drop i (placesIn os))) ≡ es₀ .count + length (keep (rankedAt (bookOf l) store n) (placesIn os)))
+    × (putAll (bookOf l) store (placesIn es₀) (keep (rankedAt (bookOf l) store n) (placesIn os)) ≡ putAll (bookOf l) store (placesIn es) (keep (rankedAt (bookOf l) store n) (drop i (placesIn os))))
 
 abbrev μ-loop : tie.MeasureT-loop
 μ-loop store n l os count es₀ i₀ es i = count - i
@@ -33,34 +33,35 @@ put-rank-spec =
     (tie.spec
     Inv-loop
     μ-loop
-    (λ c. (search needs, c .before .pre .1, refl, refl))
+    (λ c. (search needs, c .before .pre .entries-sound, refl, refl))
     (λ c. search needs)
     (λ c. search needs)
     (λ c.
     let args = c .before .before .before .before .args in
     let pre = c .before .before .before .before .pre in
-    omega (arith, below (args .t3) (pre .0) (c .before .before .loop .i) (search needs)))
+    omega (arith, below (args .t3) (pre .order-sound) (c .before .before .loop .i) (search needs)))
     (λ c.
     let args = c .before .before .before .before .args in
     let pre = c .before .before .before .before .pre in
-    omega (arith, below (args .t3) (pre .0) (c .before .before .loop .i) (search needs)))
+    omega (arith, below (args .t3) (pre .order-sound) (c .before .before .loop .i) (search needs)))
     (λ c κs.
     let args = c .before .before .before .before .before .args in
     let pre = c .before .before .before .before .before .pre in
-    below (args .t3) (pre .0) (c .before .before .before .loop .i) (search needs))
+    below (args .t3) (pre .order-sound) (c .before .before .before .loop .i) (search needs))
     (λ c κs.
     let args = c .before .before .before .before .before .before .before .args in
     let loop = c .before .before .before .before .before .loop in
     let pre = c .before .before .before .before .before .before .before .pre in
-    let q = ranked (bookOf (args .t1)) (now (args .store)) (args .n) in
+    let q = rankedAt (bookOf (args .t1)) (now (args .store)) (args .n) in
     let xs = placesIn (args .t3) in
     let k = getD (args .t3 .items) (loop .i) 0 in
-    let d = next (args .t3) (pre .0) (loop .i) (search needs) in
-    let e = keep-one q k (ranked-is (bookOf (args .t1)) (now (args .store)) k (args .n) (c .before .is-ranked .ensures)) (c .if1 .taken) in (
-      loop .inv .1,
-      omega (arith, loop .inv .2, room-next (bookOf (args .t1)) (now (args .store)) q xs (loop .i) k d, ap length e, pre .2),
-      below (args .t3) (pre .0) (loop .i) (search needs),
-    ))
+    let d = next (args .t3) (pre .order-sound) (loop .i) (search needs) in
+    let e = keep-one q k (ranked-is (bookOf (args .t1)) (now (args .store)) k (args .n) (c .before .is-ranked .ensures)) (c .if1 .taken) in
+    record {
+      sound = loop .inv .1;
+      room = omega (arith, loop .inv .2, room-next (bookOf (args .t1)) (now (args .store)) q xs (loop .i) k d, ap length e, pre .room);
+      place-within = below (args .t3) (pre .order-sound) (loop .i) (search needs);
+    })
     (λ c. search needs)
     (λ c. search needs)
     (λ c.
@@ -68,10 +69,10 @@ put-rank-spec =
     let loop = c .before .before .before .before .before .loop in
     let pre = c .before .before .before .before .before .before .before .pre in
     let if1 = c .if1 in
-    let q = ranked (bookOf (args .t1)) (now (args .store)) (args .n) in
+    let q = rankedAt (bookOf (args .t1)) (now (args .store)) (args .n) in
     let xs = placesIn (args .t3) in
     let k = getD (args .t3 .items) (loop .i) 0 in
-    let d = next (args .t3) (pre .0) (loop .i) (search needs) in
+    let d = next (args .t3) (pre .order-sound) (loop .i) (search needs) in
     let e = ranked-is (bookOf (args .t1)) (now (args .store)) k (args .n) (c .before .is-ranked .ensures) in
     let m : Met (bookOf (args .t1)) (now (args .store)) q (loop .all) k e (if1 .all) =
     ⊎-elim
@@ -86,9 +87,9 @@ put-rank-spec =
     (λ c.
     let args = c .before .before .before .args in
     let loop = c .before .loop in
-    let q = ranked (bookOf (args .t1)) (now (args .store)) (args .n) in
+    let q = rankedAt (bookOf (args .t1)) (now (args .store)) (args .n) in
     let xs = placesIn (args .t3) in
-    let e = ended (args .t3) (c .before .before .before .pre .0) (loop .i) (search needs) in (
+    let e = ended (args .t3) (c .before .before .before .pre .order-sound) (loop .i) (search needs) in (
       record { sound = loop .inv .1; are = sym (loop .inv .3 ∙ put-end (bookOf (args .t1)) (now (args .store)) q xs (placesIn (loop .all)) (loop .i) e) },
       omega (arith, loop .inv .2, room-end (bookOf (args .t1)) (now (args .store)) q xs (loop .i) e),
     )))

@@ -5,23 +5,32 @@ use mathlib.Core.List.{List}
 use native.Mathlib.Omega.{arith}
 use borrow.Author.Needs.{needs}
 use lib.ListN.{length}
+use Rattle.update_format.specs.Update.{idLength}
 use Rattle.update_format.specs.Decode.{decode}
 use Rattle.report_wording.specs.Lines.{lineBy}
 use Rattle.bytes_print.proofs.Printing.{same-text}
 use Rattle.report_text.proofs.parts.line.Statement.{statement}
 use Rattle.report_text.proofs.parts.line.Tie as tie
 
-pub line-spec : {M : Type 1} → statement M
-line-spec =
-    tie.close
-    (tie.spec
-    (λ c. search needs)
-    (λ c κs. search needs)
-    (λ c κs.
-    let whole : length (c .before .before .before .before .before .before .args .p .id) ≡ 32 = search needs in
-    (search needs, omega arith, search needs))
-    (λ c. search needs)
-    (λ c.
+slice-aggregate-line-by : tie.Need-slice-aggregate-line-by
+slice-aggregate-line-by c = search needs
+
+stored-requires : tie.Need-stored-requires
+stored-requires c κs = search needs
+
+line-by-requires : tie.Need-line-by-requires
+line-by-requires c κs =
+    let whole : length (c .before .before .before .before .before .before .args .p .id) ≡ idLength = search needs in
+    record { line-within = search needs; bytes-within = omega arith }
+
+same-length : tie.Need-same-length
+same-length c = search needs
+
+returns : tie.Need-returns
+returns c =
     let args = c .before .before .before .before .before .before .before .before .before .args in
     let line-by = c .before .before .line-by in
-    (same-text (ap (λ (b : List ℕ). lineBy (args .part) (args .p .id) (decode b) (args .k)) (c .before .before .before .before .stored .ensures)) (line-by .ensures .0), line-by .ensures .1)))
+    (same-text (ap (λ (b : List ℕ). lineBy (args .part) (args .p .id) (decode b)) (c .before .before .before .before .stored .ensures)) (line-by .ensures .0), line-by .ensures .1)
+
+pub line-spec : {M : Type 1} → statement M
+line-spec = tie.close (tie.spec slice-aggregate-line-by stored-requires line-by-requires same-length returns)

@@ -6,11 +6,12 @@ use native.Mathlib.Omega.{arith}
 use borrow.Author.Needs.{needs}
 use lib.ListN.{length, getD, drop}
 use denote.Ref.{now}
-use Rattle.update_format.specs.Decode.{part}
+use Rattle.update_format.specs.Decode.{slice}
 use Rattle.bytes_print.specs.Page.{Prints}
-use Rattle.ledger_sorting.specs.Pieces.{placesIn}
+use Rattle.report_wording.specs.Lines.{maxReportLine}
+use Rattle.ledger_sorting.specs.PlaceLists.{placesIn}
 use Rattle.ledger_state.specs.View.{bookOf}
-use Rattle.report_text.specs.Parts.{linesOf}
+use Rattle.report_text.specs.Parts.{partLines}
 use Rattle.bytes_print.proofs.Printing.{both, nothing, same-text}
 use Rattle.ledger_sorting.proofs.Inserting.{next, ended, below}
 use Rattle.report_text.proofs.TextLaws.{lines-next, lines-end}
@@ -18,14 +19,14 @@ use Rattle.report_text.proofs.parts.lines.Statement.{statement}
 use Rattle.report_text.proofs.parts.lines.Tie as tie
 
 abbrev Inv-loop : tie.InvT-loop
-Inv-loop l store part page₀ at places count end₀ i₀ page end i =
+Inv-loop l store slice page₀ at places count end₀ i₀ page end i =
     (i ≤ count)
     × (length page ≡ length page₀)
-    × (end ≤ at + 100 * i)
-    × ((p : List ℕ) (m : ℕ) → Prints page end (linesOf (bookOf l) store part (drop i (placesIn places))) p m → Prints page₀ at (linesOf (bookOf l) store part (placesIn places)) p m)
+    × (end ≤ at + maxReportLine * i)
+    × ((p : List ℕ) (m : ℕ) → Prints page end (partLines (bookOf l) store slice (drop i (placesIn places))) p m → Prints page₀ at (partLines (bookOf l) store slice (placesIn places)) p m)
 
 abbrev μ-loop : tie.MeasureT-loop
-μ-loop l store part page₀ at places count end₀ i₀ page end i = count - i
+μ-loop l store slice page₀ at places count end₀ i₀ page end i = count - i
 
 pub lines-spec : {M : Type 1} → statement M
 lines-spec =
@@ -39,11 +40,11 @@ lines-spec =
     (λ c κs.
     let loop = c .before .before .before .loop in
     let pre = c .before .before .before .before .before .before .pre in
-    let args = c .before .before .before .before .before .before .args in (
-      pre .0,
-      below (args .t4) (pre .1) (loop .i) (search needs),
-      omega (arith, loop .inv .2, pre .1 .room, pre .2),
-    ))
+    let args = c .before .before .before .before .before .before .args in
+    record {
+      place-in = record { used-within = pre .used-within; place-within = below (args .t4) (pre .sound) (loop .i) (search needs) };
+      line-within = omega (arith, loop .inv .2, pre .sound .room, pre .page-within);
+    })
     (λ c. search needs)
     (λ c. search needs)
     (λ c.
@@ -54,13 +55,13 @@ lines-spec =
       search needs,
       omega (arith, shown-line .kept .1 .1 .1 .1 .0, loop .inv .1),
       omega (arith, shown-line .ensures .1, loop .inv .2),
-      λ p m h. loop .inv .3 p m (same-text (lines-next (bookOf (args .l)) (now (args .store)) (args .part) (placesIn (args .t4)) (loop .i) (getD (args .t4 .items) (loop .i) 0) (next (args .t4) (pre .1) (loop .i) (search needs))) (both (shown-line .ensures .0) h)),
+      λ p m h. loop .inv .3 p m (same-text (lines-next (bookOf (args .l)) (now (args .store)) (args .part) (placesIn (args .t4)) (loop .i) (getD (args .t4 .items) (loop .i) 0) (next (args .t4) (pre .sound) (loop .i) (search needs))) (both (shown-line .ensures .0) h)),
     ))
     (λ c. c .before .loop .inv .1)
     (λ c.
     let args = c .before .before .before .before .args in
     let loop = c .before .loop in
     let pre = c .before .before .before .before .pre in (
-      loop .inv .3 (loop .page) (loop .end) (same-text (lines-end (bookOf (args .l)) (now (args .store)) (args .part) (placesIn (args .t4)) (loop .i) (ended (args .t4) (pre .1) (loop .i) (search needs))) (nothing (loop .page) (loop .end))),
-      omega (arith, loop .inv .2, pre .1 .room),
+      loop .inv .3 (loop .page) (loop .end) (same-text (lines-end (bookOf (args .l)) (now (args .store)) (args .part) (placesIn (args .t4)) (loop .i) (ended (args .t4) (pre .sound) (loop .i) (search needs))) (nothing (loop .page) (loop .end))),
+      omega (arith, loop .inv .2, pre .sound .room),
     )))

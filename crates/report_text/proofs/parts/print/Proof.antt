@@ -2,7 +2,7 @@
 use native.Mathlib.Omega.{arith}
 use borrow.Author.Needs.{needs}
 use denote.Ref.{now}
-use Rattle.ledger_sorting.specs.Pieces.{placesIn}
+use Rattle.ledger_sorting.specs.PlaceLists.{placesIn}
 use Rattle.bytes_print.proofs.Printing.{both, same-text}
 use Rattle.ledger_state.specs.View.{bookOf}
 use Rattle.report_text.proofs.TextLaws.{part-is}
@@ -16,12 +16,16 @@ print-spec =
     (λ c κs. search needs)
     (λ c κs.
     let pre = c .before .before .before .before .before .before .before .pre in
-    (pre .0, pre .1, omega (arith, c .before .before .before .word .ensures .1, pre .2)))
+    record {
+      used-within = pre .used-within;
+      sound = pre .sound;
+      page-within = omega (arith, c .before .before .before .word .ensures .1, pre .page-within);
+    })
     (λ c. search needs)
     (λ c κs.
     let pre = c .before .before .before .before .before .before .before .before .before .before .before .before .pre in
     let word = c .before .before .before .before .before .before .before .before .word in
-    omega (arith, c .before .before .before .before .lines .ensures .1, word .ensures .1, pre .2))
+    omega (arith, c .before .before .before .before .lines .ensures .1, word .ensures .1, pre .page-within))
     (λ c. search needs)
     (λ c.
     let args = c .before .before .before .before .before .before .before .before .before .before .before .before .before .before .before .args in

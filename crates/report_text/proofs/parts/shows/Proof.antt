@@ -4,43 +4,98 @@ use borrow.Author.Needs.{needs}
 use denote.Ref.{now}
 use Rattle.report_wording.specs.declared.Part.{Part}
 use Rattle.ledger_state.specs.View.{bookOf}
-use Rattle.report_text.specs.Parts.{passes}
+use Rattle.report_text.specs.Parts.{listedIn}
 use Rattle.ledger_relations.proofs.Testing.{held-is, waiting-is, void-is}
 use Rattle.report_text.proofs.parts.shows.Statement.{statement}
 use Rattle.report_text.proofs.parts.shows.Tie as tie
+
+mul-p : tie.Need-mul-p
+mul-p c = search needs
+
+element-copy-out-p : tie.Need-element-copy-out-p
+element-copy-out-p c = search needs
+
+enum-told : tie.Need-enum-told
+enum-told c = search needs
+
+has-standing-requires : tie.Need-has-standing-requires
+has-standing-requires c κs = search needs
+
+enum-told-2 : tie.Need-enum-told-2
+enum-told-2 c = search needs
+
+is-head-requires : tie.Need-is-head-requires
+is-head-requires c κs = search needs
+
+enum-told-3 : tie.Need-enum-told-3
+enum-told-3 c = search needs
+
+has-standing-requires-2 : tie.Need-has-standing-requires-2
+has-standing-requires-2 c κs = search needs
+
+enum-told-4 : tie.Need-enum-told-4
+enum-told-4 c = search needs
+
+has-standing-requires-3 : tie.Need-has-standing-requires-3
+has-standing-requires-3 c κs = search needs
+
+enum-told-5 : tie.Need-enum-told-5
+enum-told-5 c = search needs
+
+enum-told-6 : tie.Need-enum-told-6
+enum-told-6 c = search needs
+
+is-shown-requires : tie.Need-is-shown-requires
+is-shown-requires c κs = search needs
+
+returns-held : tie.Need-returns
+returns-held c =
+    let args = c .before .before .before .before .before .args in
+    held-is (bookOf (args .t1)) (now (args .store)) (args .k) (c .has-standing .ensures) ∙ ap (λ (p : Part). listedIn (bookOf (args .t1)) (now (args .store)) p (args .k)) (sym (c .before .enum-told .given .1))
+
+returns-heads : tie.Need-returns-2
+returns-heads c =
+    let args = c .before .before .before .before .before .args in
+    c .is-head .ensures ∙ ap (λ (p : Part). listedIn (bookOf (args .t1)) (now (args .store)) p (args .k)) (sym (c .before .enum-told2 .given .1))
+
+returns-waiting : tie.Need-returns-3
+returns-waiting c =
+    let args = c .before .before .before .before .before .args in
+    waiting-is (bookOf (args .t1)) (now (args .store)) (args .k) (c .has-standing2 .ensures) ∙ ap (λ (p : Part). listedIn (bookOf (args .t1)) (now (args .store)) p (args .k)) (sym (c .before .enum-told3 .given .1))
+
+returns-void : tie.Need-returns-4
+returns-void c =
+    let args = c .before .before .before .before .before .args in
+    void-is (bookOf (args .t1)) (now (args .store)) (args .k) (c .has-standing3 .ensures) ∙ ap (λ (p : Part). listedIn (bookOf (args .t1)) (now (args .store)) p (args .k)) (sym (c .before .enum-told4 .given .1))
+
+returns-set : tie.Need-returns-5
+returns-set c = search needs
+
+returns-list : tie.Need-returns-6
+returns-list c =
+    let args = c .before .before .before .before .before .args in
+    c .is-shown .ensures ∙ ap (λ (p : Part). listedIn (bookOf (args .t1)) (now (args .store)) p (args .k)) (sym (c .before .enum-told6 .given .1))
 
 pub shows-spec : {M : Type 1} → statement M
 shows-spec =
     tie.close
     (tie.spec
-    (λ c. search needs)
-    (λ c. search needs)
-    (λ c. search needs)
-    (λ c κs. search needs)
-    (λ c. search needs)
-    (λ c κs. search needs)
-    (λ c. search needs)
-    (λ c κs. search needs)
-    (λ c. search needs)
-    (λ c κs. search needs)
-    (λ c. search needs)
-    (λ c. search needs)
-    (λ c. search needs)
-    (λ c κs. search needs)
-    (λ c.
-    let args = c .before .before .before .before .before .args in
-    held-is (bookOf (args .t1)) (now (args .store)) (args .k) (c .has-standing .ensures) ∙ ap (λ (p : Part). passes (bookOf (args .t1)) (now (args .store)) p (args .k)) (sym (c .before .enum-told .given .1)))
-    (λ c.
-    let args = c .before .before .before .before .before .args in
-    c .is-head .ensures ∙ ap (λ (p : Part). passes (bookOf (args .t1)) (now (args .store)) p (args .k)) (sym (c .before .enum-told2 .given .1)))
-    (λ c.
-    let args = c .before .before .before .before .before .args in
-    waiting-is (bookOf (args .t1)) (now (args .store)) (args .k) (c .has-standing2 .ensures) ∙ ap (λ (p : Part). passes (bookOf (args .t1)) (now (args .store)) p (args .k)) (sym (c .before .enum-told3 .given .1)))
-    (λ c.
-    let args = c .before .before .before .before .before .args in
-    void-is (bookOf (args .t1)) (now (args .store)) (args .k) (c .has-standing3 .ensures) ∙ ap (λ (p : Part). passes (bookOf (args .t1)) (now (args .store)) p (args .k)) (sym (c .before .enum-told4 .given .1)))
-    (λ c. search needs)
-    (λ c. search needs)
-    (λ c.
-    let args = c .before .before .before .before .before .args in
-    c .is-shown .ensures ∙ ap (λ (p : Part). passes (bookOf (args .t1)) (now (args .store)) p (args .k)) (sym (c .before .enum-told7 .given .1))))
+    mul-p
+    element-copy-out-p
+    enum-told
+    has-standing-requires
+    enum-told-2
+    is-head-requires
+    enum-told-3
+    has-standing-requires-2
+    enum-told-4
+    has-standing-requires-3
+    enum-told-5
+    enum-told-6
+    is-shown-requires
+    returns-held
+    returns-heads
+    returns-waiting
+    returns-void
+    returns-set
+    returns-list)

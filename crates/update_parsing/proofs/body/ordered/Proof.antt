@@ -14,7 +14,7 @@ ordered-spec =
     (λ c κs. search needs)
     (λ c.
     let d = c .before .before .before in
-    preds-unordered (now (d .args .s)) (d .pre .0) (sym (not-true _ (c .if1 .taken)) ∙ c .before .ascends .ensures))
+    preds-unordered (now (d .args .s)) (d .pre .count-right) (sym (not-true _ (c .if1 .taken)) ∙ c .before .ascends .ensures))
     (λ c. search needs)
     (λ c κs. search needs)
     (λ c. search needs)
@@ -23,20 +23,20 @@ ordered-spec =
     (λ c.
     let e = c .before .before .before .before in
     let d = e .before .before .before in
-    named-decide (now (d .args .s)) (d .pre .0) (sym (not-false _ (e .if1 .left)) ∙ e .before .ascends .ensures)
-    (sym (c .before .before .operation .given .1) ∙ d .pre .1) (c .ascends2 .ensures))
+    named-decide (now (d .args .s)) (d .pre .count-right) (sym (not-false _ (e .if1 .left)) ∙ e .before .ascends .ensures)
+    (sym (c .before .before .operation .given .1) ∙ d .pre .offsets-right) (c .ascends2 .ensures))
     (λ c.
     let e = c .before .before in
     let d = e .before .before .before in
-    none-decide (now (d .args .s)) (d .pre .0) (sym (not-false _ (e .if1 .left)) ∙ e .before .ascends .ensures)
-    (sym (c .enum-told .given .1) ∙ d .pre .1) refl)
+    none-decide (now (d .args .s)) (d .pre .count-right) (sym (not-false _ (e .if1 .left)) ∙ e .before .ascends .ensures)
+    (sym (c .enum-told .given .1) ∙ d .pre .offsets-right) refl)
     (λ c.
     let e = c .before .before in
     let d = e .before .before .before in
-    none-decide (now (d .args .s)) (d .pre .0) (sym (not-false _ (e .if1 .left)) ∙ e .before .ascends .ensures)
-    (sym (c .enum-told2 .given .1) ∙ d .pre .1) refl)
+    none-decide (now (d .args .s)) (d .pre .count-right) (sym (not-false _ (e .if1 .left)) ∙ e .before .ascends .ensures)
+    (sym (c .enum-told2 .given .1) ∙ d .pre .offsets-right) refl)
     (λ c.
     let e = c .before .before in
     let d = e .before .before .before in
-    none-decide (now (d .args .s)) (d .pre .0) (sym (not-false _ (e .if1 .left)) ∙ e .before .ascends .ensures)
-    (sym (c .enum-told3 .given .1) ∙ d .pre .1) refl))
+    none-decide (now (d .args .s)) (d .pre .count-right) (sym (not-false _ (e .if1 .left)) ∙ e .before .ascends .ensures)
+    (sym (c .enum-told3 .given .1) ∙ d .pre .offsets-right) refl))

@@ -7,7 +7,7 @@ use native.Mathlib.Omega.{arith}
 use borrow.Author.Needs.{needs}
 use denote.Ref.{now}
 use Rattle.update_format.specs.Decode.{countOf, kindOf, bodyAt, row6, row7, row8}
-use Rattle.update_format.specs.Places.{AtBody}
+use Rattle.update_format.specs.BodyBounds.{AtBody}
 use Rattle.update_header.specs.declared.Header.{Header}
 use Rattle.update_parsing.proofs.Chain.{row6-yes, row6-no, row7-low, row7-high, row7-no, row8-yes, row9-yes, no-row}
 use Rattle.update_parsing.proofs.body.read.Statement.{statement}
@@ -84,7 +84,7 @@ count : (c : tie.After-wide) → c .wide .result ≡ countOf (bytes (laid-out (c
 count c = c .wide .ensures ∙ ap (λ (h : Header). h .count) (laid-out (c .before) .pre .found)
 
 ordered-requires : tie.Need-ordered-requires
-ordered-requires c κs = (count (c .before), c .offsets .ensures)
+ordered-requires c κs = record { count-right = count (c .before); offsets-right = c .offsets .ensures }
 
 returns-5 : tie.Need-returns-5
 returns-5 c =

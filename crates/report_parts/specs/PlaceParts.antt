@@ -13,7 +13,7 @@ use Rattle.rules.specs.Settle.{isInsert}
 use Rattle.bitset.specs.Below.{anyBelow, upTo}
 use Rattle.update_fields.specs.Fields.{testOf, tagIn, valueIn, anchorIn}
 use Rattle.ledger_state.specs.State.{places, Book}
-use Rattle.ledger_relations.specs.PlaceTests.{idAt, decodedAt, heldAt, authorAt, rankAt, order, forkedAt, presentAt}
+use Rattle.ledger_relations.specs.PlaceTests.{idAt, decodedAt, heldAt, authorAt, rankAt, idOrder, forkedAt, presentAt}
 
 module _ (l : Book) (s : List ℕ) where
   -- marks
@@ -39,7 +39,7 @@ module _ (l : Book) (s : List ℕ) where
   -- those of rank below n
   unfoldable pub byRank : ℕ → List ℕ
   byRank zero = []
-  byRank (suc n) = byRank n ++ keep (λ (k : ℕ). insertAt k && eqb (rankAt l s k) n) (order l s)
+  byRank (suc n) = byRank n ++ keep (λ (k : ℕ). insertAt k && eqb (rankAt l s k) n) (idOrder l s)
 
   -- e right after the first entry whose id is a; at the end where there is none
   unfoldable pub after : Id → ℕ → List ℕ → List ℕ
@@ -49,12 +49,12 @@ module _ (l : Book) (s : List ℕ) where
   unfoldable pub putBy : Id → ℕ → List ℕ → List ℕ
   putBy a e xs = cond (same a beginning) (e ∷ xs) (after a e xs)
 
-  unfoldable pub put : ℕ → List ℕ → List ℕ
-  put e xs = putBy (anchorIn (decodedAt l s e)) e xs
+  unfoldable pub putEntry : ℕ → List ℕ → List ℕ
+  putEntry e xs = putBy (anchorIn (decodedAt l s e)) e xs
 
   unfoldable pub putAll : List ℕ → List ℕ → List ℕ
   putAll xs [] = xs
-  putAll xs (e ∷ es) = putAll (put e xs) es
+  putAll xs (e ∷ es) = putAll (putEntry e xs) es
 
   unfoldable pub entriesOf : List ℕ
   entriesOf = putAll [] (byRank places)

@@ -2,7 +2,9 @@
 use Prim.Native.Nat.{ℕ, _≤_, _<_}
 use mathlib.Core.Path.{_≡_}
 use mathlib.Core.List.{List}
-use Rattle.update_format.specs.Decode.{kindOf, bodyAt, namedCountAt, namedCountOf}
+use Rattle.update_format.specs.Decode.{kindOf, bodyAt, namedCountAt, namedCountOf, countOf}
+use Rattle.update_format.specs.ParseResult.{offsetsOf}
+use Rattle.update_format.specs.declared.Operation.{Operation}
 
 pub record AtBody (b : List ℕ) (kind at named : ℕ) : Type 0 where
   pub byte : kind ≡ kindOf b
@@ -18,3 +20,8 @@ pub record AtCount (b : List ℕ) (at named : ℕ) : Type 0 where
   pub place : at ≡ namedCountAt b
   pub count : named ≡ namedCountOf b
   pub small : at < 1024
+
+-- what is known once the count of the predecessors and the offsets of the operation's fields are read
+pub record OffsetsRead (b : List ℕ) (count : ℕ) (operation : Operation) : Type 0 where
+  pub count-right : count ≡ countOf b
+  pub offsets-right : operation ≡ offsetsOf b

@@ -1,4 +1,4 @@
--- `Ledger::settled` meets its contract: there is no place k; or the view of the ledger with a place stored in its array.
+-- `Ledger::with_standing` meets its contract: there is no place k; or the view of the ledger with a place stored in its array.
 use mathlib.Core.Path.{refl}
 use native.Mathlib.Omega.{arith}
 use lib.ListN.{getD}
@@ -6,8 +6,8 @@ use borrow.Author.Needs.{needs}
 use Rattle.ledger_state.specs.View.{noPlace}
 use Rattle.ledger_state.specs.ViewLaws.{stored-view}
 use Rattle.ledger_state.proofs.Owning.{places-length}
-use Rattle.ledger_state.proofs.Ledger.settled.Statement.{statement}
-use Rattle.ledger_state.proofs.Ledger.settled.Tie as tie
+use Rattle.ledger_state.proofs.Ledger.with_standing.Statement.{statement}
+use Rattle.ledger_state.proofs.Ledger.with_standing.Tie as tie
 
 outside : tie.Need-returns
 outside c = record { inside = λ h. absurd (omega (arith, c .if1 .taken)); outside = λ h. refl }
@@ -38,5 +38,5 @@ inside c =
       outside = λ h. absurd (omega (arith, i .if1 .left));
     }
 
-pub settled-spec : {M : Type 1} → statement M
-settled-spec = tie.close (tie.spec outside mul-old element-copy-out-old mul-places element-set inside)
+pub with-standing-spec : {M : Type 1} → statement M
+with-standing-spec = tie.close (tie.spec outside mul-old element-copy-out-old mul-places element-set inside)

@@ -11,17 +11,17 @@ use lib.ListN.{length, drop, drop-of-length-le, length-take}
 use lib.Seq.{drop-cons}
 use Rattle.bytes_order.specs.Order.{same}
 use Rattle.bytes_order.specs.Member.{member, concatMap}
-use Rattle.update_format.specs.Update.{Id, idLength, tagLength}
-use Rattle.update_format.specs.Decode.{part, idsAt, Decoded, refused, update, decode}
+use Rattle.update_format.specs.Update.{maxAuthor, Id, idLength, tagLength}
+use Rattle.update_format.specs.Decode.{slice, idsAt, Decoded, refused, update, decode}
 use Rattle.update_format.specs.Laws.{decode-sound}
-use Rattle.update_format.specs.Parts.{ids-length, ids-get}
-use Rattle.update_format.specs.Reading.{decodedOf}
+use Rattle.update_format.specs.Slices.{ids-length, ids-get}
+use Rattle.update_format.specs.ParseResult.{decodedOf}
 use Rattle.update_format.specs.declared.Malformed.{Malformed}
 use Rattle.update_format.specs.declared.Operation.{Operation}
 use Rattle.update_format.specs.declared.Operation.the-variants.{Add, Remove, Insert, Delete}
 use Rattle.update_format.specs.declared.Parsed.{Parsed}
-use Rattle.update_format.specs.declared.Reading.{Reading}
-use Rattle.update_format.specs.declared.Reading.the-variants.{Update as Accepted, Refused}
+use Rattle.update_format.specs.declared.ParseResult.{ParseResult}
+use Rattle.update_format.specs.declared.ParseResult.the-variants.{Update as Accepted, Refused}
 use Rattle.rules.specs.Settle.{isAdd, isInsert, names, deletes, tagsOf, valuesOf}
 use Rattle.update_fields.specs.declared.Layout.{Layout}
 use Rattle.update_fields.specs.Fields.{testOf, authorIn, isAnyAdd, tagIn, valueIn, anchorOf, anchorIn}
@@ -35,7 +35,7 @@ layoutOf a (Remove t n c) = record { kind = 2; author = a; text = t; ids = n; co
 layoutOf a (Insert i v) = record { kind = 3; author = a; text = v; ids = i; count = 1 }
 layoutOf a (Delete i) = record { kind = 4; author = a; text = 0; ids = i; count = 1 }
 
-module _ (b : List ℕ) {r : Reading} (d : decodedOf b r ≡ decode b) where
+module _ (b : List ℕ) {r : ParseResult} (d : decodedOf b r ≡ decode b) where
   pub laid-update : {u : Parsed} → r ≡ Accepted u → {o : Operation} → u .operation ≡ o → Laid b (layoutOf (u .author) o) (decode b)
   laid-update {u} e {o} g =
       subst (Laid b (layoutOf (u .author) o))
@@ -70,7 +70,7 @@ module _ {k n : ℕ} {q : List ℕ} where
   pub same-of : (x : List ℕ) {p : List ℕ} {y r z : Bool} → ByKind k n (same x p) y z → r ≡ same x q → q ≡ p → k ≡ n → r ≡ z
   same-of x l e f h = e ∙ ap (same x) f ∙ of-kind l h
 
-  pub text-of : (b : List ℕ) (at : ℕ) {y z : List ℕ} → ByKind k n (part b at tagLength) y z → q ≡ part b at tagLength → k ≡ n → (q ≡ z) × (length q ≤ 32)
+  pub text-of : (b : List ℕ) (at : ℕ) {y z : List ℕ} → ByKind k n (slice b at tagLength) y z → q ≡ slice b at tagLength → k ≡ n → (q ≡ z) × (length q ≤ tagLength)
   text-of b at l e h = (e ∙ of-kind l h, omega (arith, ap length e, length-take tagLength (drop at b)))
 
 -- what is read of a layout, by its kind
@@ -84,23 +84,23 @@ module _ (b : List ℕ) where
   author-laid L.insert = refl
   author-laid L.delete = refl
 
-  pub tag-laid : {f : Layout} {d : Decoded} → Laid b f d → ByKind (f .kind) 1 (part b (f .text) tagLength) [] (tagIn d)
+  pub tag-laid : {f : Layout} {d : Decoded} → Laid b f d → ByKind (f .kind) 1 (slice b (f .text) tagLength) [] (tagIn d)
   unfolding tagIn tagsOf concatMap
   tag-laid L.nothing = other refl refl
-  tag-laid (L.add {t = t}) = here refl (sym (append-nil (part b t tagLength)))
+  tag-laid (L.add {t = t}) = here refl (sym (append-nil (slice b t tagLength)))
   tag-laid L.remove = other refl refl
   tag-laid L.insert = other refl refl
   tag-laid L.delete = other refl refl
 
-  pub value-laid : {f : Layout} {d : Decoded} → Laid b f d → ByKind (f .kind) 3 (part b (f .text) tagLength) [] (valueIn d)
+  pub value-laid : {f : Layout} {d : Decoded} → Laid b f d → ByKind (f .kind) 3 (slice b (f .text) tagLength) [] (valueIn d)
   unfolding valueIn valuesOf concatMap
   value-laid L.nothing = other refl refl
   value-laid L.add = other refl refl
   value-laid L.remove = other refl refl
-  value-laid (L.insert {t = t}) = here refl (sym (append-nil (part b t tagLength)))
+  value-laid (L.insert {t = t}) = here refl (sym (append-nil (slice b t tagLength)))
   value-laid L.delete = other refl refl
 
-  pub anchor-laid : {f : Layout} {d : Decoded} → Laid b f d → ByKind (f .kind) 3 (part b (f .ids) idLength) [] (anchorIn d)
+  pub anchor-laid : {f : Layout} {d : Decoded} → Laid b f d → ByKind (f .kind) 3 (slice b (f .ids) idLength) [] (anchorIn d)
   unfolding anchorIn anchorOf
   anchor-laid L.nothing = other refl refl
   anchor-laid L.add = other refl refl
@@ -125,7 +125,7 @@ module _ (b : List ℕ) where
   is-insert-laid L.delete = refl
 
   pub adds-laid : (t : List ℕ) {f : Layout} {d : Decoded} → Laid b f d
-      → ByKind (f .kind) 1 (same t (part b (f .text) tagLength)) false (testOf (isAdd t) d)
+      → ByKind (f .kind) 1 (same t (slice b (f .text) tagLength)) false (testOf (isAdd t) d)
   unfolding testOf isAdd
   adds-laid t L.nothing = other refl refl
   adds-laid t L.add = here refl refl
@@ -143,7 +143,7 @@ module _ (b : List ℕ) where
   removes-laid i L.delete = other refl refl
 
   pub erases-laid : (i : Id) {f : Layout} {d : Decoded} → Laid b f d
-      → ByKind (f .kind) 4 (same i (part b (f .ids) idLength)) false (testOf (deletes i) d)
+      → ByKind (f .kind) 4 (same i (slice b (f .ids) idLength)) false (testOf (deletes i) d)
   unfolding testOf deletes
   erases-laid i L.nothing = other refl refl
   erases-laid i L.add = other refl refl
@@ -151,12 +151,12 @@ module _ (b : List ℕ) where
   erases-laid i L.insert = other refl refl
   erases-laid i L.delete = here refl refl
 
--- an author is at most 15
-pub author-small : (b : List ℕ) → authorIn (decode b) ≤ 15
+-- an author is within the bound
+pub author-small : (b : List ℕ) → authorIn (decode b) ≤ maxAuthor
 unfolding authorIn
 author-small b = go (decode b) refl
   where
-    go : (d : Decoded) → decode b ≡ d → authorIn d ≤ 15
+    go : (d : Decoded) → decode b ≡ d → authorIn d ≤ maxAuthor
     go (refused n) e = omega arith
     go (update u) e = decode-sound b u e .0 .author-small
 
@@ -168,17 +168,17 @@ module _ (b : List ℕ) (at n k : ℕ) (x : Id) where
   abbrev later : Bool
   later = member x (drop (k + 1) (idsAt b at n))
 
-  member-next : k < n → left ≡ same x (part b (at + idLength * k) idLength) || later
+  member-next : k < n → left ≡ same x (slice b (at + idLength * k) idLength) || later
   unfolding member
   member-next h =
       rw add-one
       (ap (member x) (drop-cons (idsAt b at n) k [] (rw (ids-length b at n) h))
       ∙ ap (λ (i : Id). same x i || member x (drop (suc k) (idsAt b at n))) (ids-get b at n k h))
 
-  pub member-here : k < n → same x (part b (at + idLength * k) idLength) ≡ true → true ≡ left
+  pub member-here : k < n → same x (slice b (at + idLength * k) idLength) ≡ true → true ≡ left
   member-here h e = sym (member-next h ∙ ap (λ (t : Bool). t || later) e)
 
-  pub member-later : k < n → same x (part b (at + idLength * k) idLength) ≡ false → left ≡ later
+  pub member-later : k < n → same x (slice b (at + idLength * k) idLength) ≡ false → left ≡ later
   member-later h e = member-next h ∙ ap (λ (t : Bool). t || later) e
 
   pub member-none : n ≤ k → false ≡ left

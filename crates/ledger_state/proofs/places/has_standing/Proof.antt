@@ -2,9 +2,9 @@
 use mathlib.Core.Path.{ap₂}
 use borrow.Author.Needs.{needs}
 use lib.Dec.{eqb}
 use Rattle.ledger_state.specs.Number.{hasStanding}
-use Rattle.ledger_row1.proofs.has_standing.Statement.{statement}
-use Rattle.ledger_row1.proofs.has_standing.Tie as tie
+use Rattle.ledger_state.proofs.places.has_standing.Statement.{statement}
+use Rattle.ledger_state.proofs.places.has_standing.Tie as tie
 
 returns : tie.Need-returns
 unfolding hasStanding

@@ -14,17 +14,17 @@ use Rattle.bytes_order.specs.BoolLaws.{and-true→, and-true, and-agrees}
 use Rattle.bytes_order.specs.MemberLaws.{∈-cast, ∈-map, map-∈, ∈-keep, keep-∈, keep-map, keep-cong, map-cong, ∈-concatMap, concatMap-∈}
 use Rattle.bytes_order.specs.SortLaws.{sort-unique, same-sort, sort-map, ascending-keep}
 use Rattle.update_format.specs.Update.{Id, maxAuthor, Operation, Add, Remove, Insert, Delete, Update}
-use Rattle.rules.specs.Settle.{Row, Table, heldRow, forkedBy, marks, names, removed, tagsOf, tags, settled}
+use Rattle.rules.specs.Settle.{Row, Table, heldRow, forkedBy, marks, names, removed, tagsOf, tags, settledTable}
 use Rattle.rules.specs.TableLaws.{tagsOf-∈, ∈-tagsOf}
 use Rattle.bitset.specs.Below.{upTo}
 use Rattle.bitset.specs.BelowLaws.{anyBelow→, anyBelow←, upTo-∈, ∈-upTo, upTo-ascending}
 use Rattle.update_fields.specs.Fields.{testOf, isAnyAdd, tagIn}
 use Rattle.ledger_state.specs.Stands.{ident, updateAt, Stands}
 use Rattle.ledger_state.specs.State.{Book}
-use Rattle.ledger_relations.specs.PlaceTests.{idAt, decodedAt, authorAt, heldAt, forkedAt, removedAt, presentAt, order}
+use Rattle.ledger_relations.specs.PlaceTests.{idAt, decodedAt, authorAt, heldAt, forkedAt, removedAt, presentAt, idOrder}
 use Rattle.ledger_sorting.specs.declared.Key.the-variants.{Tag}
-use Rattle.ledger_sorting.specs.Pieces.{sortedBy}
-use Rattle.report_parts.specs.Board.{markedAt, marksOf, tagAt, tagOrder}
+use Rattle.ledger_sorting.specs.PlaceLists.{sortedBy}
+use Rattle.report_parts.specs.PlaceParts.{markedAt, marksOf, tagAt, tagOrder}
 use Rattle.report_parts.specs.ListFacts.{concatMap-keep-map}
 use Rattle.ledger_relations.specs.PlaceLaws.{from-used, to-used, place-in, place-decoded, place-author, place-test}
 use Rattle.ledger_relations.specs.RowLaws.{rowAt, row-id, order-∈, ∈-order, table-rows, held-agrees, author-agrees, op-agrees, fork-agrees, op-test-agrees}
@@ -44,19 +44,19 @@ module _ {l : Book} {s : List ℕ} {us : List Update} (stands : Stands l s us) w
   -- what is given for the rows that pass a test
   rows-agree : {B : Type 0} (f : Row → B) (p : Row → Bool) (f′ : ℕ → B) (p′ : ℕ → Bool)
       → ((k : ℕ) → k < length us → f (rowAt us k) ≡ f′ k) → ((k : ℕ) → k < length us → p (rowAt us k) ≡ p′ k)
-      → map f (keep p (settled ident us)) ≡ map f′ (keep p′ (order l s))
+      → map f (keep p (settledTable ident us)) ≡ map f′ (keep p′ (idOrder l s))
   rows-agree f p f′ p′ h g =
       ap (λ (T : Table). map f (keep p T)) (table-rows stands)
-      ∙ ap (map f) (keep-map p (rowAt us) (order l s) ∙ ap (map (rowAt us)) (keep-cong (λ (k : ℕ). p (rowAt us k)) p′ (order l s) (λ k m. g k (order-∈ stands m))))
-      ∙ map-map f (rowAt us) (keep p′ (order l s))
-      ∙ map-cong (λ (k : ℕ). f (rowAt us k)) f′ (keep p′ (order l s)) (λ k m. h k (order-∈ stands (keep-∈ p′ (order l s) m .0)))
+      ∙ ap (map f) (keep-map p (rowAt us) (idOrder l s) ∙ ap (map (rowAt us)) (keep-cong (λ (k : ℕ). p (rowAt us k)) p′ (idOrder l s) (λ k m. g k (order-∈ stands m))))
+      ∙ map-map f (rowAt us) (keep p′ (idOrder l s))
+      ∙ map-cong (λ (k : ℕ). f (rowAt us k)) f′ (keep p′ (idOrder l s)) (λ k m. h k (order-∈ stands (keep-∈ p′ (idOrder l s) m .0)))
 
   -- marks
-  marked→ : {a : ℕ} → a ∈ map (authorAt l s) (keep (forkedAt l s) (order l s)) → a ∈ marksOf l s
+  marked→ : {a : ℕ} → a ∈ map (authorAt l s) (keep (forkedAt l s) (idOrder l s)) → a ∈ marksOf l s
   unfolding marksOf markedAt
   marked→ {a} m =
-      let f = map-∈ (authorAt l s) (keep (forkedAt l s) (order l s)) m in
-      let g = keep-∈ (forkedAt l s) (order l s) (f .1) in
+      let f = map-∈ (authorAt l s) (keep (forkedAt l s) (idOrder l s)) m in
+      let g = keep-∈ (forkedAt l s) (idOrder l s) (f .1) in
       let h = order-∈ stands (g .0) in
       let small = stands .holds .bounded (updateAt us (f .0)) (place-in stands h) .author-small in
       let e : updateAt us (f .0) .author ≡ a = sym (place-author stands h) ∙ f .2 in
@@ -64,7 +64,7 @@ module _ {l : Book} {s : List ℕ} {us : List Update} (stands : Stands l s us) w
       (anyBelow← (l .used) (λ (r : ℕ). eqb (authorAt l s r) a && forkedAt l s r) (f .0) (to-used stands h)
       (and-true (eqb (authorAt l s (f .0)) a) (forkedAt l s (f .0)) (eq-eqb (authorAt l s (f .0)) a (f .2)) (g .1)))
 
-  →marked : {a : ℕ} → a ∈ marksOf l s → a ∈ map (authorAt l s) (keep (forkedAt l s) (order l s))
+  →marked : {a : ℕ} → a ∈ marksOf l s → a ∈ map (authorAt l s) (keep (forkedAt l s) (idOrder l s))
   unfolding marksOf markedAt
   →marked {a} m =
       let f = anyBelow→ (l .used) (λ (r : ℕ). eqb (authorAt l s r) a && forkedAt l s r) (keep-∈ (markedAt l s) (upTo (suc maxAuthor)) m .1) in
@@ -75,17 +75,17 @@ module _ {l : Book} {s : List ℕ} {us : List Update} (stands : Stands l s us) w
   unfolding marksOf
   marks-ascending = ascending-keep (markedAt l s) (upTo-ascending (suc maxAuthor))
 
-  pub marks-part : marksOf l s ≡ marks (settled ident us)
+  pub marks-part : marksOf l s ≡ marks (settledTable ident us)
   unfolding marks
   marks-part =
       sym (ap (sort (λ (a : ℕ). a ∷ []))
-      (rows-agree (λ (r : Row). r .update .author) (λ (r : Row). heldRow r && any (forkedBy r) (settled ident us)) (authorAt l s) (forkedAt l s)
+      (rows-agree (λ (r : Row). r .update .author) (λ (r : Row). heldRow r && any (forkedBy r) (settledTable ident us)) (authorAt l s) (forkedAt l s)
       (λ k h. author-agrees stands h) (fork-agrees stands))
       ∙ sort-unique (λ (a : ℕ). a ∷ []) (λ x y m n e. head-eq-of-cons-eq e) marks-ascending (record { forth = λ a m. marked→ m; back = λ a m. →marked m }))
 
   -- the set
   kept : Row → Bool
-  kept r = heldRow r && not (removed (settled ident us) (r .id))
+  kept r = heldRow r && not (removed (settledTable ident us) (r .id))
 
   keptAt : ℕ → Bool
   keptAt k = heldAt l s k && not (removedAt l s (idAt l s k))
@@ -94,17 +94,17 @@ module _ {l : Book} {s : List ℕ} {us : List Update} (stands : Stands l s us) w
   unfolding kept keptAt removed removedAt
   kept-agrees k h =
       and-agrees (heldRow (rowAt us k)) (held-agrees stands k h)
-      (λ e. ap (λ (i : Id). not (removed (settled ident us) i)) (row-id stands h) ∙ ap not (op-test-agrees stands (names (idAt l s k))))
+      (λ e. ap (λ (i : Id). not (removed (settledTable ident us) i)) (row-id stands h) ∙ ap not (op-test-agrees stands (names (idAt l s k))))
 
   tag-of : {k : ℕ} {t : List ℕ} → k < length us → updateAt us k .op ≡ Add t → tagAt l s k ≡ t
   unfolding tagAt tagIn tagsOf concatMap
   tag-of {t = t} h e = ap tagIn (place-decoded stands h) ∙ ap (λ (o : Operation). concatMap (λ (t : List ℕ). t) (tagsOf o)) e ∙ append-nil t
 
-  tagged→ : {t : List ℕ} → t ∈ concatMap (λ (k : ℕ). tagsOf (updateAt us k .op)) (keep keptAt (order l s)) → t ∈ map (tagAt l s) (keep (presentAt l s) (upTo (l .used)))
+  tagged→ : {t : List ℕ} → t ∈ concatMap (λ (k : ℕ). tagsOf (updateAt us k .op)) (keep keptAt (idOrder l s)) → t ∈ map (tagAt l s) (keep (presentAt l s) (upTo (l .used)))
   unfolding keptAt presentAt
   tagged→ {t} m =
-      let f = concatMap-∈ (λ (k : ℕ). tagsOf (updateAt us k .op)) (keep keptAt (order l s)) m in
-      let g = keep-∈ keptAt (order l s) (f .1) in
+      let f = concatMap-∈ (λ (k : ℕ). tagsOf (updateAt us k .op)) (keep keptAt (idOrder l s)) m in
+      let g = keep-∈ keptAt (idOrder l s) (f .1) in
       let h = order-∈ stands (g .0) in
       let o = tagsOf-∈ (updateAt us (f .0) .op) (f .2) in
       let b = and-true→ (heldAt l s (f .0)) (not (removedAt l s (idAt l s (f .0)))) (g .1) in
@@ -113,7 +113,7 @@ module _ {l : Book} {s : List ℕ} {us : List Update} (stands : Stands l s us) w
       (and-true (heldAt l s (f .0)) (testOf isAnyAdd (decodedAt l s (f .0)) && not (removedAt l s (idAt l s (f .0)))) (b .0)
       (and-true (testOf isAnyAdd (decodedAt l s (f .0))) (not (removedAt l s (idAt l s (f .0)))) (place-test stands isAnyAdd h ∙ any-add o) (b .1)))))
 
-  →tagged : {t : List ℕ} → t ∈ map (tagAt l s) (keep (presentAt l s) (upTo (l .used))) → t ∈ concatMap (λ (k : ℕ). tagsOf (updateAt us k .op)) (keep keptAt (order l s))
+  →tagged : {t : List ℕ} → t ∈ map (tagAt l s) (keep (presentAt l s) (upTo (l .used))) → t ∈ concatMap (λ (k : ℕ). tagsOf (updateAt us k .op)) (keep keptAt (idOrder l s))
   unfolding keptAt presentAt
   →tagged {t} m =
       let f = map-∈ (tagAt l s) (keep (presentAt l s) (upTo (l .used))) m in
@@ -126,14 +126,14 @@ module _ {l : Book} {s : List ℕ} {us : List Update} (stands : Stands l s us) w
       (∈-keep keptAt (∈-order stands h) (and-true (heldAt l s (f .0)) (not (removedAt l s (idAt l s (f .0)))) (b .0) (c .1)))
       (∈-tagsOf (o .1 ∙ ap Add (sym (tag-of h (o .1)) ∙ f .2)))
 
-  pub tags-agree : map (tagAt l s) (tagOrder l s) ≡ tags (settled ident us)
+  pub tags-agree : map (tagAt l s) (tagOrder l s) ≡ tags (settledTable ident us)
   unfolding tagOrder tags kept
   tags-agree =
       sym (sort-map (λ (t : List ℕ). t) (tagAt l s) (keep (presentAt l s) (upTo (l .used))))
       ∙ same-sort (λ (t : List ℕ). t) (λ x y m n e. e) (record { forth = λ t m. →tagged m; back = λ t m. tagged→ m })
       ∙ ap (sort (λ (t : List ℕ). t))
       (sym (ap (λ (T : Table). concatMap (λ (r : Row). tagsOf (r .update .op)) (keep kept T)) (table-rows stands)
-      ∙ concatMap-keep-map (λ (r : Row). tagsOf (r .update .op)) kept (rowAt us) (λ (k : ℕ). tagsOf (updateAt us k .op)) keptAt (order l s)
+      ∙ concatMap-keep-map (λ (r : Row). tagsOf (r .update .op)) kept (rowAt us) (λ (k : ℕ). tagsOf (updateAt us k .op)) keptAt (idOrder l s)
       (λ k m. kept-agrees k (order-∈ stands m)) (λ k m. ap tagsOf (op-agrees stands (order-∈ stands m)))))
 
 -- the places of the set are those listed by tag

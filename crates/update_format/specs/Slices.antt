@@ -9,39 +9,39 @@ use lib.ListN.{length, getD, take, drop, length-append, take-append-drop, length
 use lib.Seq.{length-take-le, take-all, drop-cons, drop-append-add, drop-drop, take-add, take-at}
 use Rattle.bytes_order.specs.Member.{_∈_, concatMap}
 use Rattle.update_format.specs.Update.{idLength, Id}
-use Rattle.update_format.specs.Decode.{part, idsAt}
+use Rattle.update_format.specs.Decode.{slice, idsAt}
 
 -- the ids one after the other
 abbrev pub joined : List Id → List ℕ
 joined is = concatMap (λ (i : Id). i) is
 
 -- every id has 32 bytes
-abbrev pub Sized : List Id → Type 0
-Sized is = (i : Id) → i ∈ is → length i ≡ idLength
+abbrev pub SizedIds : List Id → Type 0
+SizedIds is = (i : Id) → i ∈ is → length i ≡ idLength
 
 module _ (b : List ℕ) (at : ℕ) where
-  pub part-length : (k : ℕ) → at + k ≤ length b → length (part b at k) ≡ k
-  part-length k h = length-take-le k (drop at b) (omega (arith, length-drop at b))
+  pub slice-length : (k : ℕ) → at + k ≤ length b → length (slice b at k) ≡ k
+  slice-length k h = length-take-le k (drop at b) (omega (arith, length-drop at b))
 
   -- two parts, one after the other
-  pub part-part : (k m : ℕ) → part b at k ++ part b (at + k) m ≡ part b at (k + m)
-  part-part k m = sym (take-add k m (drop at b) ∙ ap (λ (r : List ℕ). part b at k ++ take m r) (drop-drop k at b))
+  pub slice-slice : (k m : ℕ) → slice b at k ++ slice b (at + k) m ≡ slice b at (k + m)
+  slice-slice k m = sym (take-add k m (drop at b) ∙ ap (λ (r : List ℕ). slice b at k ++ take m r) (drop-drop k at b))
 
   -- a part and what follows it
-  pub part-rest : (k : ℕ) → part b at k ++ drop (at + k) b ≡ drop at b
-  part-rest k = rw (← drop-drop k at b) (take-append-drop k (drop at b))
+  pub slice-rest : (k : ℕ) → slice b at k ++ drop (at + k) b ≡ drop at b
+  slice-rest k = rw (← drop-drop k at b) (take-append-drop k (drop at b))
 
   -- a part that ends with the string
-  pub part-all : (k : ℕ) → length b ≡ at + k → part b at k ≡ drop at b
-  part-all k h = take-all k (drop at b) (omega (arith, length-drop at b))
+  pub slice-all : (k : ℕ) → length b ≡ at + k → slice b at k ≡ drop at b
+  slice-all k h = take-all k (drop at b) (omega (arith, length-drop at b))
 
   -- a byte and what follows it
   pub byte-rest : at < length b → getD b at 0 ∷ drop (at + 1) b ≡ drop at b
   byte-rest h = rw add-one (sym (drop-cons b at 0 h))
 
 -- a part of what follows p
-pub part-shift : (p q : List ℕ) (at k : ℕ) → part (p ++ q) (length p + at) k ≡ part q at k
-part-shift p q at k = ap (λ (r : List ℕ). take k r) (drop-append-add p q at)
+pub slice-shift : (p q : List ℕ) (at k : ℕ) → slice (p ++ q) (length p + at) k ≡ slice q at k
+slice-shift p q at k = ap (λ (r : List ℕ). take k r) (drop-append-add p q at)
 
 pub ids-length : (b : List ℕ) (at n : ℕ) → length (idsAt b at n) ≡ n
 unfolding idsAt
@@ -49,20 +49,20 @@ ids-length b at zero = refl
 ids-length b at (suc n) = ap suc (ids-length b (at + idLength) n)
 
 -- the ids of a layout one after the other are the bytes that they were read from
-pub ids-joined : (b : List ℕ) (at n : ℕ) → joined (idsAt b at n) ≡ part b at (idLength * n)
+pub ids-joined : (b : List ℕ) (at n : ℕ) → joined (idsAt b at n) ≡ slice b at (idLength * n)
 unfolding idsAt concatMap
 ids-joined b at zero = refl
 ids-joined b at (suc n) =
     let e : idLength * suc n ≡ idLength + idLength * n = omega arith in
-    rw e (ap (λ (r : List ℕ). part b at idLength ++ r) (ids-joined b (at + idLength) n) ∙ part-part b at idLength (idLength * n))
+    rw e (ap (λ (r : List ℕ). slice b at idLength ++ r) (ids-joined b (at + idLength) n) ∙ slice-slice b at idLength (idLength * n))
 
-pub ids-sized : (b : List ℕ) (at n : ℕ) → at + idLength * n ≤ length b → Sized (idsAt b at n)
+pub ids-sized : (b : List ℕ) (at n : ℕ) → at + idLength * n ≤ length b → SizedIds (idsAt b at n)
 unfolding idsAt
 ids-sized b at zero h = λ i m. absurd (List·Memᴰ·not-nil m)
-ids-sized b at (suc n) h = λ i m. ⊎-elim (λ e. ap length e ∙ part-length b at idLength (omega arith)) (λ r. ids-sized b (at + idLength) n (omega arith) i r) (List·Memᴰ·cases-cons m)
+ids-sized b at (suc n) h = λ i m. ⊎-elim (λ e. ap length e ∙ slice-length b at idLength (omega arith)) (λ r. ids-sized b (at + idLength) n (omega arith) i r) (List·Memᴰ·cases-cons m)
 
 -- the k-th id
-pub ids-get : (b : List ℕ) (at n k : ℕ) → k < n → getD (idsAt b at n) k [] ≡ part b (at + idLength * k) idLength
+pub ids-get : (b : List ℕ) (at n k : ℕ) → k < n → getD (idsAt b at n) k [] ≡ slice b (at + idLength * k) idLength
 unfolding idsAt
 ids-get b at zero k h = absurd (omega arith)
 ids-get b at (suc n) zero h =
@@ -78,9 +78,9 @@ unfolding idsAt
 ids-shift p q at zero = refl
 ids-shift p q at (suc n) =
     let e : length p + at + idLength ≡ length p + (at + idLength) = omega arith in
-    rw (part-shift p q at idLength, e) (ap (λ (r : List Id). part q at idLength ∷ r) (ids-shift p q (at + idLength) n))
+    rw (slice-shift p q at idLength, e) (ap (λ (r : List Id). slice q at idLength ∷ r) (ids-shift p q (at + idLength) n))
 
-pub joined-length : (is : List Id) → Sized is → length (joined is) ≡ idLength * length is
+pub joined-length : (is : List Id) → SizedIds is → length (joined is) ≡ idLength * length is
 unfolding concatMap
 joined-length [] h = refl
 joined-length (x ∷ xs) h =
@@ -89,7 +89,7 @@ joined-length (x ∷ xs) h =
     omega (arith, length-append x (joined xs))
 
 -- what was laid out is read back
-pub ids-back : (is : List Id) (q : List ℕ) → Sized is → idsAt (joined is ++ q) 0 (length is) ≡ is
+pub ids-back : (is : List Id) (q : List ℕ) → SizedIds is → idsAt (joined is ++ q) 0 (length is) ≡ is
 unfolding idsAt concatMap
 ids-back [] q h = refl
 ids-back (x ∷ xs) q h =

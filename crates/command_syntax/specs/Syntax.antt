@@ -1,12 +1,12 @@
 -- Document 01, "Command and report": how an input line reads.
-use Prim.Native.Nat.{ℕ, _+_, _-_, _*_}
+use Prim.Native.Nat.{ℕ, _+_, _-_, _*_, _/_}
 use mathlib.Core.List.{List, [], _∷_}
 use mathlib.Core.Option.{Option, none, some}
 use mathlib.Core.Bool.{Bool, cond, _&&_}
 use lib.ListN.{length, take, drop}
 use lib.Dec.{leb}
 use Rattle.bytes_order.specs.Order.{same}
-use Rattle.rules.specs.Report.{ascii}
+use Rattle.bytes_ascii.specs.Ascii.{ascii}
 
 -- "H lowercase hexadecimal digits, even in number, perhaps none": the bytes that they spell
 
@@ -32,6 +32,10 @@ unhex (x ∷ y ∷ zs) = withByte (byteOf (digitOf x) (digitOf y)) (unhex zs)
 -- "A line that does not read so, or is over 2,000 characters". Characters are bytes; "The newline is not counted."
 abbrev pub maxLine : ℕ
 maxLine = 2000
+
+-- the most bytes that a line offers: two digits each, between `(offer ` and `)`
+abbrev pub maxOffered : ℕ
+maxOffered = (maxLine - 8) / 2
 
 -- the line begins with `(offer `, ends with `)`, and is long enough for both
 unfoldable pub framed : List ℕ → Bool

@@ -1,6 +1,6 @@
 -- What the code works with: lists of places by value, and the keys that they go by.
 use mathlib.Core.Path.{_≡_}
-use Prim.Native.Nat.{ℕ, _≤_}
+use Prim.Native.Nat.{ℕ, _≤_, _<_}
 use mathlib.Core.List.{List, _∷_, _++_}
 use mathlib.Core.Bool.{Bool, true}
 use lib.ListN.{length, take, drop}
@@ -10,7 +10,7 @@ use Rattle.bytes_order.specs.Sort.{sort}
 use Rattle.bitset.specs.Below.{upTo}
 use Rattle.update_fields.specs.Fields.{tagIn}
 use Rattle.ledger_state.specs.State.{places, Place, Book, placeAt}
-use Rattle.ledger_relations.specs.PlaceTests.{presentAt}
+use Rattle.ledger_relations.specs.PlaceTests.{presentAt, idOrder}
 use Rattle.ledger_relations.specs.Related.{decodedIn}
 use Rattle.ledger_sorting.specs.declared.Places.{Places}
 use Rattle.ledger_sorting.specs.declared.Key.{Key}
@@ -29,15 +29,36 @@ abbrev pub small : List ℕ → Bool
 small xs = all (λ (k : ℕ). ltb k places) xs
 
 -- a list of places by value: as many items as a ledger has places, no more of them listed, and each listed one a place
-pub record Sound (o : Places) : Type 0 where
+pub record PlaceList (o : Places) : Type 0 where
   pub whole : length (o .items) ≡ places
   pub room : o .count ≤ places
   pub inside : small (placesIn o) ≡ true
 
 -- the list is sound, and its places are xs
 pub record Lists (o : Places) (xs : List ℕ) : Type 0 where
-  pub sound : Sound o
+  pub sound : PlaceList o
   pub are : placesIn o ≡ xs
+
+-- the list is sound and has room for one more, and k is a place
+pub record RoomFor (o : Places) (k : ℕ) : Type 0 where
+  pub sound : PlaceList o
+  pub room : o .count < places
+  pub place-within : k < places
+
+-- .. and `at` is an index of the list or its end
+pub record InsertsAt (o : Places) (at k : ℕ) : Type 0 where
+  pub room-for : RoomFor o k
+  pub index-within : at ≤ o .count
+
+-- .. and the bookkeeping has no more places taken than there are
+pub record RoomIn (l : Book) (o : Places) (k : ℕ) : Type 0 where
+  pub used-within : l .used ≤ places
+  pub room-for : RoomFor o k
+
+-- the bookkeeping has no more places taken than there are, and the list has them, ascending by id
+pub record InOrder (l : Book) (s : List ℕ) (o : Places) : Type 0 where
+  pub used-within : l .used ≤ places
+  pub order-listed : Lists o (idOrder l s)
 
 -- what an ascending list goes by
 abbrev pub keyIn : List ℕ → Key → Place → ℕ → List ℕ

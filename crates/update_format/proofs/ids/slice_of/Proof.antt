@@ -1,12 +1,12 @@
--- `part_of` meets its contract: the three cases of a clipped part.
+-- `slice_of` meets its contract: the three cases of a clipped part.
 use borrow.Author.Needs.{needs}
 use denote.Ref.{now}
 use Rattle.update_format.proofs.Clip.{past-end, tail, whole}
-use Rattle.update_format.proofs.ids.part_of.Statement.{statement}
-use Rattle.update_format.proofs.ids.part_of.Tie as tie
+use Rattle.update_format.proofs.ids.slice_of.Statement.{statement}
+use Rattle.update_format.proofs.ids.slice_of.Tie as tie
 
-pub part-of-spec : {M : Type 1} → statement M
-part-of-spec =
+pub slice-of-spec : {M : Type 1} → statement M
+slice-of-spec =
     tie.close
     (tie.spec
     (λ c. search needs)

@@ -6,40 +6,40 @@ use mathlib.Core.Bool.{Bool, true, false, cond}
 use lib.Dec.{eqb}
 use Rattle.update_format.specs.Update as U
 use Rattle.update_format.specs.Update.{idLength, tagLength, Update}
-use Rattle.update_format.specs.Decode.{part, idsAt, authorOf, countOf, firstPredecessor, kindOf, bodyAt, namedCountAt, namedCountOf, namedOf, row2, row3, row4, row5, row6, row7, row8, row9, operationOf, updateOf, Decoded, refused, update, decode}
+use Rattle.update_format.specs.Decode.{slice, idsAt, authorOf, countOf, firstPredecessor, kindOf, bodyAt, namedCountAt, namedCountOf, namedOf, row2, row3, row4, row5, row6, row7, row8, row9, operationOf, updateOf, Decoded, refused, update, decode}
 use Rattle.update_format.specs.declared.Malformed.{Malformed}
 use Rattle.update_format.specs.declared.Malformed.the-variants.{Length, Version, Author, Predecessors, Truncated, Kind, Layout, Unordered}
 use Rattle.update_format.specs.declared.Operation.{Operation}
 use Rattle.update_format.specs.declared.Operation.the-variants.{Add, Remove, Insert, Delete}
 use Rattle.update_format.specs.declared.Parsed.{Parsed}
-use Rattle.update_format.specs.declared.Reading.{Reading}
-use Rattle.update_format.specs.declared.Reading.the-variants.{Update as Accepted, Refused}
+use Rattle.update_format.specs.declared.ParseResult.{ParseResult}
+use Rattle.update_format.specs.declared.ParseResult.the-variants.{Update as Accepted, Refused}
 
 -- document 01's number of each refusal
-abbrev pub numberOf : Malformed → ℕ
-numberOf Length = 2
-numberOf Version = 3
-numberOf Author = 4
-numberOf Predecessors = 5
-numberOf Truncated = 6
-numberOf Kind = 7
-numberOf Layout = 8
-numberOf Unordered = 9
+abbrev pub malformedNumber : Malformed → ℕ
+malformedNumber Length = 2
+malformedNumber Version = 3
+malformedNumber Author = 4
+malformedNumber Predecessors = 5
+malformedNumber Truncated = 6
+malformedNumber Kind = 7
+malformedNumber Layout = 8
+malformedNumber Unordered = 9
 
 -- the operation whose fields stand at the offsets
 abbrev pub operationAt : List ℕ → Operation → U.Operation
-operationAt b (Add tag) = U.Add (part b tag tagLength)
-operationAt b (Remove tag named count) = U.Remove (part b tag tagLength) (idsAt b named count)
-operationAt b (Insert anchor value) = U.Insert (part b anchor idLength) (part b value tagLength)
-operationAt b (Delete deleted) = U.Delete (part b deleted idLength)
+operationAt b (Add tag) = U.Add (slice b tag tagLength)
+operationAt b (Remove tag named count) = U.Remove (slice b tag tagLength) (idsAt b named count)
+operationAt b (Insert anchor value) = U.Insert (slice b anchor idLength) (slice b value tagLength)
+operationAt b (Delete deleted) = U.Delete (slice b deleted idLength)
 
 -- the update that the offsets lay out in b
 abbrev pub valueOf : List ℕ → Parsed → Update
 valueOf b p = record { author = p .author; preds = idsAt b firstPredecessor (p .count); op = operationAt b (p .operation) }
 
-abbrev pub decodedOf : List ℕ → Reading → Decoded
+abbrev pub decodedOf : List ℕ → ParseResult → Decoded
 decodedOf b (Accepted p) = update (valueOf b p)
-decodedOf b (Refused m) = refused (numberOf m)
+decodedOf b (Refused m) = refused (malformedNumber m)
 
 -- the offsets of the operation's fields, by the kind byte
 unfoldable pub offsetsOf : List ℕ → Operation
@@ -53,8 +53,8 @@ unfoldable pub parsedOf : List ℕ → Parsed
 parsedOf b = record { author = authorOf b; count = countOf b; operation = offsetsOf b }
 
 -- rows 6 to 9, then the offsets
-unfoldable pub operationReading : List ℕ → Reading
-operationReading b =
+unfoldable pub operationParse : List ℕ → ParseResult
+operationParse b =
     cond (row6 b) (Refused Truncated)
     (cond (row7 b) (Refused Kind)
     (cond (row8 b) (Refused Layout)
@@ -62,13 +62,13 @@ operationReading b =
     (Accepted (parsedOf b)))))
 
 -- rows 2 to 9 in their order, then the offsets
-unfoldable pub readingOf : List ℕ → Reading
-readingOf b =
+unfoldable pub parseOf : List ℕ → ParseResult
+parseOf b =
     cond (row2 b) (Refused Length)
     (cond (row3 b) (Refused Version)
     (cond (row4 b) (Refused Author)
     (cond (row5 b) (Refused Predecessors)
-    (operationReading b))))
+    (operationParse b))))
 
 operation-back : (b : List ℕ) → operationAt b (offsetsOf b) ≡ operationOf b
 unfolding offsetsOf operationOf namedOf
@@ -80,9 +80,9 @@ operation-back b = go (eqb (kindOf b) 1) (eqb (kindOf b) 2) (eqb (kindOf b) 3)
         (cond k (Add (bodyAt b))
         (cond l (Remove (bodyAt b) (namedCountAt b + 1) (namedCountOf b))
         (cond m (Insert (bodyAt b) (bodyAt b + idLength)) (Delete (bodyAt b)))))
-        ≡ cond k (U.Add (part b (bodyAt b) tagLength))
-        (cond l (U.Remove (part b (bodyAt b) tagLength) (cond l (idsAt b (namedCountAt b + 1) (namedCountOf b)) []))
-        (cond m (U.Insert (part b (bodyAt b) idLength) (part b (bodyAt b + idLength) tagLength)) (U.Delete (part b (bodyAt b) idLength))))
+        ≡ cond k (U.Add (slice b (bodyAt b) tagLength))
+        (cond l (U.Remove (slice b (bodyAt b) tagLength) (cond l (idsAt b (namedCountAt b + 1) (namedCountOf b)) []))
+        (cond m (U.Insert (slice b (bodyAt b) idLength) (slice b (bodyAt b + idLength) tagLength)) (U.Delete (slice b (bodyAt b) idLength))))
     go true l m = refl
     go false true m = refl
     go false false true = refl
@@ -94,9 +94,9 @@ unfolding parsedOf updateOf
 value-back b = λ i. record { author = authorOf b; preds = idsAt b firstPredecessor (countOf b); op = operation-back b i }
 
 -- the answer means what the bytes decode to
-pub reading-decodes : (b : List ℕ) → decodedOf b (readingOf b) ≡ decode b
-unfolding readingOf operationReading decode
-reading-decodes b = go (row2 b) (row3 b) (row4 b) (row5 b) (row6 b) (row7 b) (row8 b) (row9 b)
+pub parse-decodes : (b : List ℕ) → decodedOf b (parseOf b) ≡ decode b
+unfolding parseOf operationParse decode
+parse-decodes b = go (row2 b) (row3 b) (row4 b) (row5 b) (row6 b) (row7 b) (row8 b) (row9 b)
   where
     go :
         (a c d e f g h i : Bool) →

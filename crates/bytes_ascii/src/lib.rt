@@ -1,0 +1,1 @@
+// Text as bytes, as definitions and laws: all of it is in specs/.

@@ -1,0 +1,69 @@
+-- `lines` meets its contract. The loop's invariant: the lines of the authors below a that are in the set are printed.
+use Prim.Native.Nat.{suc, _+_, _*_, _-_, _≤_}
+use mathlib.Core.Path.{_≡_, refl}
+use native.Mathlib.Omega.{arith}
+use borrow.Author.Needs.{needs}
+use lib.ListN.{length}
+use denote.Ref.{now}
+use Rattle.bytes_print.specs.Page.{Prints}
+use Rattle.bytes_print.proofs.Printing.{both, nothing, same-text}
+use Rattle.update_format.specs.Update.{maxAuthor}
+use Rattle.report_wording.specs.Lines.{maxReportLine}
+use Rattle.report_text.proofs.MarkLaws.{linesBelow, lines-start, lines-more, lines-all}
+use Rattle.report_text.proofs.marks.lines.Statement.{statement}
+use Rattle.report_text.proofs.marks.lines.Tie as tie
+
+abbrev Inv-loop : tie.InvT-loop
+Inv-loop authors page₀ at end₀ a₀ page end a =
+    (a ≤ suc maxAuthor) × (length page ≡ length page₀) × (end ≤ at + maxReportLine * a) × Prints page₀ at (linesBelow authors a) page end
+
+abbrev μ-loop : tie.MeasureT-loop
+μ-loop authors page₀ at end₀ a₀ page end a = suc maxAuthor - a
+
+loop-holds : tie.Need-loop-holds Inv-loop μ-loop
+loop-holds c =
+    let args = c .before .args in
+    (search needs, refl, omega arith, same-text (lines-start (args .authors)) (nothing (now (args .page)) (args .at)))
+
+shown-line-requires : tie.Need-shown-line-requires Inv-loop μ-loop
+shown-line-requires c κs = record { line-within = omega arith; author-within = search needs }
+
+add-a : tie.Need-add-a Inv-loop μ-loop
+add-a c = search needs
+
+loop-less : tie.Need-loop-less Inv-loop μ-loop
+loop-less c = search needs
+
+loop-again : tie.Need-loop-again Inv-loop μ-loop
+loop-again c =
+    let line = c .before .before .shown-line in
+    let turn = c .before .before .before .before .before in
+    let args = turn .before .before .args in (
+      search needs,
+      omega (arith, line .kept .1 .1 .0, turn .loop .inv .1),
+      omega (arith, line .ensures .1, turn .loop .inv .2),
+      same-text (lines-more (args .authors) (turn .loop .a)) (both (turn .loop .inv .3) (line .ensures .0)),
+    )
+
+same-length : tie.Need-same-length Inv-loop μ-loop
+same-length c = c .before .loop .inv .1
+
+returns : tie.Need-returns Inv-loop μ-loop
+returns c =
+    let loop = c .before .loop in
+    let args = c .before .before .before .args in
+    (same-text (lines-all (args .authors) (loop .a) (search needs) (search needs)) (loop .inv .3), omega arith)
+
+pub lines-spec : {M : Type 1} → statement M
+lines-spec =
+    tie.close
+    (tie.spec
+    Inv-loop
+    μ-loop
+    loop-holds
+    shown-line-requires
+    add-a
+    loop-less
+    loop-again
+    same-length
+    returns)
