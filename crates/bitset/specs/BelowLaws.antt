@@ -5,10 +5,10 @@ use native.Mathlib.Nat.{le-of-suc-le-suc, eq-or-lt-of-le, lt-of-not-le, not-suc-
 use native.Mathlib.Numerals.{add-one}
 use mathlib.Core.Path.{_≡_, refl, sym, _∙_, ap, ap₂, subst}
 use mathlib.Core.Logic.{_⊎_, ⊎-elim}
-use mathlib.Core.List.{[], _∷_, List·Memᴰ·head, List·Memᴰ·not-nil}
+use mathlib.Core.List.{[], _∷_, List·Memᴰ·head, List·Memᴰ·not-nil, List}
 use mathlib.Core.Bool.{Bool, true, false, cond, _&&_, _||_, true≢false, false≢true}
 use mathlib.Core.Option.{Option, none, some}
-use lib.ListN.{length, length-append}
+use lib.ListN.{length, length-append, getD}
 use lib.Dec.{eqb}
 use borrow.Author.Tests.{eq-eqb, ne-eqb, eqb-true}
 use Rattle.bytes_order.specs.BoolLaws.{true-false, not-true→false, or-true→, or-left, or-right, and-true→, and-true}
@@ -215,3 +215,27 @@ firstBelow-some← n p k h e f = is (firstBelow n p) (firstBelow-says n p)
 pub firstBelow-one : (n : ℕ) (p : ℕ → Bool) (k : ℕ) → k < n → p k ≡ true → ((j : ℕ) → j < n → p j ≡ true → j ≡ k) → firstBelow n p ≡ some k
 firstBelow-one n p k h e f =
     firstBelow-some← n p k h e (λ j l. not-true→false (p j) (λ g. let q : j ≡ k = f j (omega arith) g in omega arith))
+
+-- a count by its first number
+count-first : (p : ℕ → Bool) (n : ℕ)
+    → countBelow (suc n) p ≡ cond (p 0) (suc (countBelow n (λ (k : ℕ). p (suc k)))) (countBelow n (λ (k : ℕ). p (suc k)))
+unfolding countBelow
+count-first p zero = elim (p 0) as (λ b. cond b (0 + 1) 0 ≡ cond b 1 0) [ true ↦ refl | false ↦ refl ]
+count-first p (suc n) = step (p 0) (p (suc n)) (countBelow n (λ (k : ℕ). p (suc k))) (count-first p n)
+  where
+    step : (a b : Bool) (d : ℕ) {c : ℕ} → c ≡ cond a (suc d) d → cond b (c + 1) c ≡ cond a (suc (cond b (d + 1) d)) (cond b (d + 1) d)
+    step true true d e = omega arith
+    step true false d e = e
+    step false true d e = omega arith
+    step false false d e = e
+
+module _ {A : Type 0} where
+  -- the indices of the elements that pass, and those elements
+  pub count-keep : (p : A → Bool) (xs : List A) (d : A) → countBelow (length xs) (λ (k : ℕ). p (getD xs k d)) ≡ length (keep p xs)
+  unfolding countBelow keep
+  count-keep p [] d = refl
+  count-keep p (x ∷ xs) d = count-first (λ (k : ℕ). p (getD (x ∷ xs) k d)) (length xs) ∙ step (p x) (count-keep p xs d)
+    where
+      step : (b : Bool) {c : ℕ} → c ≡ length (keep p xs) → cond b (suc c) c ≡ length (cond b (x ∷ keep p xs) (keep p xs))
+      step true e = ap suc e
+      step false e = e

@@ -32,3 +32,7 @@ decimalIn (suc k) n = cond (ltb n 10) (digit n ∷ []) (decimalIn k (n / 10) ++ 
 
 unfoldable pub decimal : ℕ → List ℕ
 decimal n = decimalIn 20 n
+
+-- a number below this has at most two decimal digits
+abbrev pub twoDigits : ℕ
+twoDigits = 100

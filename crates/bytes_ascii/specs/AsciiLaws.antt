@@ -12,7 +12,7 @@ use lib.Dec.{ltb}
 use borrow.Author.Tests.{ltb-true, lt-ltb, le-ltb}
 use Rattle.bytes_order.specs.Member.{_∈_, concatMap}
 use Rattle.bytes_order.specs.MemberLaws.{∈-cases, append-∈}
-use Rattle.bytes_ascii.specs.Ascii.{digit, hexByte, hex, decimalIn, decimal}
+use Rattle.bytes_ascii.specs.Ascii.{digit, hexByte, hex, decimalIn, decimal, twoDigits}
 
 -- bytes that are digits or letters: above every bracket, space and newline
 abbrev pub Digits : List ℕ → Type 0
@@ -105,7 +105,7 @@ decimalIn-one : (k n : ℕ) → n < 10 → decimalIn (suc k) n ≡ digit n ∷ [
 unfolding decimalIn
 decimalIn-one k n h = ap (λ (t : Bool). cond t (digit n ∷ []) (decimalIn k (n / 10) ++ (digit (n % 10) ∷ []))) (lt-ltb n 10 h)
 
-pub decimal-length : (n : ℕ) → n < 100 → length (decimal n) ≤ 2
+pub decimal-length : (n : ℕ) → n < twoDigits → length (decimal n) ≤ 2
 unfolding decimal decimalIn
 decimal-length n h = step (ltb n 10) (ap length (decimalIn-one 18 (n / 10) (omega arith))) (length-append (decimalIn 19 (n / 10)) (digit (n % 10) ∷ []))
   where
@@ -128,7 +128,7 @@ pub decimal-one : (n : ℕ) → n < 10 → digit n ∷ [] ≡ decimal n
 unfolding decimal
 decimal-one n h = sym (decimalIn-one 19 n h)
 
-pub decimal-two : (n : ℕ) → 10 ≤ n → n < 100 → digit (n / 10) ∷ digit (n % 10) ∷ [] ≡ decimal n
+pub decimal-two : (n : ℕ) → 10 ≤ n → n < twoDigits → digit (n / 10) ∷ digit (n % 10) ∷ [] ≡ decimal n
 unfolding decimal decimalIn
 decimal-two n h g =
     let q : n / 10 < 10 = omega arith in

@@ -4,7 +4,7 @@ use native.Mathlib.Nat.{le-antisymm, le-of-suc-le-suc, not-suc-le-zero}
 use native.Mathlib.Omega.{arith}
 use mathlib.Core.Path.{_≡_, refl, sym, _∙_, ap, subst}
 use mathlib.Core.Logic.{_⊎_, inl, inr, ⊎-elim}
-use mathlib.Core.List.{List, _∷_, _++_, map, List·Memᴰ·head, List·Memᴰ·tail, List·Memᴰ·not-nil}
+use mathlib.Core.List.{List, _∷_, _++_, map, List·Memᴰ·head, List·Memᴰ·tail, List·Memᴰ·not-nil, reverse, reverseAux}
 use mathlib.Core.Bool.{Bool, true, false, cond}
 use lib.ListN.{length, getD, length-map}
 use Rattle.bytes_order.specs.Member.{_∈_, keep, SameMembers}
@@ -104,3 +104,21 @@ module _ {A B : Type 0} where
 
 pub distinct-keys : {A : Type 0} (key : A → List ℕ) {xs : List A} → Distinct key xs → Distinct (λ (k : List ℕ). k) (map key xs)
 distinct-keys key d = distinct-map (λ k. k) key d (λ x y i j e. e)
+
+-- read backwards, and by another key
+module _ {A : Type 0} {key : A → List ℕ} where
+  distinct-reverseAux : {xs r : List A} → Distinct key xs → Distinct key r → ((x y : A) → x ∈ xs → y ∈ r → key x ≡ key y → ⊥) → Distinct key (reverseAux xs r)
+  distinct-reverseAux distinct-nil d apart = d
+  distinct-reverseAux {r = r} (distinct-cons {x = x} {xs = xs} n e) d apart =
+      distinct-reverseAux e (distinct-cons (λ y m. apart x y (List·Memᴰ·head refl) m) d)
+      (λ a b i j q. ⊎-elim (λ (p : b ≡ x). n a i (sym (q ∙ ap key p))) (λ (k : b ∈ r). apart a b (List·Memᴰ·tail i) k q) (∈-cases j))
+
+  pub distinct-reverse : {xs : List A} → Distinct key xs → Distinct key (reverse xs)
+  distinct-reverse d = distinct-reverseAux d distinct-nil (λ x y i j q. List·Memᴰ·not-nil j)
+
+  -- by another key that tells no fewer apart
+  pub distinct-rekey : (key′ : A → List ℕ) {xs : List A} → Distinct key xs → ((x y : A) → x ∈ xs → y ∈ xs → key′ x ≡ key′ y → key x ≡ key y) → Distinct key′ xs
+  distinct-rekey key′ distinct-nil h = distinct-nil
+  distinct-rekey key′ (distinct-cons {x = x} n d) h =
+      distinct-cons (λ y m e. n y m (h x y (List·Memᴰ·head refl) (List·Memᴰ·tail m) e))
+      (distinct-rekey key′ d (λ a b i j. h a b (List·Memᴰ·tail i) (List·Memᴰ·tail j)))

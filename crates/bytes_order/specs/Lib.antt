@@ -9,4 +9,4 @@ pub mod OrderLaws
 pub mod MemberLaws
 pub mod DistinctLaws
 pub mod SortLaws
-pub mod ListLaws
+pub mod CountLaws

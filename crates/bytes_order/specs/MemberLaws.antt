@@ -6,7 +6,7 @@ use mathlib.Core.Path.{_≡_, refl, sym, _∙_, ap, subst}
 use mathlib.Core.Logic.{_⊎_, inl, inr, ⊎-elim}
 use mathlib.Core.List.{List, [], _∷_, _++_, map, reverse, reverseAux, append-assoc, List·Memᴰ·head, List·Memᴰ·tail, List·Memᴰ·not-nil}
 use mathlib.Core.Bool.{Bool, true, false, cond, _&&_, false≢true}
-use lib.ListN.{length, getD}
+use lib.ListN.{length, getD, take, drop, take-append-drop}
 use Rattle.bytes_order.specs.Order.{same}
 use Rattle.bytes_order.specs.Member.{_∈_, member, keep, any, all, SameMembers, concatMap}
 use Rattle.bytes_order.specs.BoolLaws.{true-false, not-true→false, or-true→, or-left, or-right, and-true→, and-true}
@@ -213,3 +213,46 @@ module _ {A B : Type 0} where
       step : (b : Bool) → keep p (map f xs) ≡ map f (keep (λ y. p (f y)) xs) → cond b (f x ∷ keep p (map f xs)) (keep p (map f xs)) ≡ map f (cond b (x ∷ keep (λ y. p (f y)) xs) (keep (λ y. p (f y)) xs))
       step true e = ap (λ (l : List B). f x ∷ l) e
       step false e = e
+
+-- if each member gives P or Q, then all give P, or Q holds
+pub all-or : {A : Type 0} {P : A → Type 0} {Q : Type 0} (xs : List A) → ((x : A) → x ∈ xs → P x ⊎ Q) → ((x : A) → x ∈ xs → P x) ⊎ Q
+all-or [] f = inl (λ x m. absurd (List·Memᴰ·not-nil m))
+all-or {A} {P} {Q} (y ∷ ys) f = step (f y (List·Memᴰ·head refl)) (all-or ys (λ x m. f x (List·Memᴰ·tail m)))
+  where
+    step : P y ⊎ Q → ((x : A) → x ∈ ys → P x) ⊎ Q → ((x : A) → x ∈ (y ∷ ys) → P x) ⊎ Q
+    step (inl p) (inl g) = inl (λ x m. ⊎-elim (λ (e : x ≡ y). subst P (sym e) p) (λ (n : x ∈ ys). g x n) (∈-cases m))
+    step (inl p) (inr q) = inr q
+    step (inr q) h = inr q
+
+-- the first members
+module _ {A : Type 0} where
+  pub take-∈ : (n : ℕ) (xs : List A) {x : A} → x ∈ take n xs → x ∈ xs
+  take-∈ n xs {x} m = subst (λ (ys : List A). x ∈ ys) (take-append-drop n xs) (∈-append-left (drop n xs) m)
+
+  -- the members of a short front are taken
+  pub front-∈ : (n : ℕ) (xs ys : List A) {x : A} → length xs ≤ n → x ∈ xs → x ∈ take n (xs ++ ys)
+  front-∈ n [] ys h m = absurd (List·Memᴰ·not-nil m)
+  front-∈ zero (y ∷ xs) ys h m = absurd (not-suc-le-zero h)
+  front-∈ (suc n) (y ∷ xs) ys {x} h m =
+      ⊎-elim (λ (e : x ≡ y). List·Memᴰ·head e) (λ (k : x ∈ xs). List·Memᴰ·tail (front-∈ n xs ys (le-of-suc-le-suc h) k)) (∈-cases m)
+
+  -- some are taken of a list with a member
+  pub some-taken : (n : ℕ) {xs : List A} {x : A} → x ∈ xs → (y : A) × (y ∈ take (suc n) xs)
+  some-taken n (List·Memᴰ·head {x = y} e) = (y, List·Memᴰ·head refl)
+  some-taken n (List·Memᴰ·tail {x = y} m) = (y, List·Memᴰ·head refl)
+
+-- lists under a map
+module _ {A B C : Type 0} where
+  pub concatMap-map : (g : B → List C) (f : A → B) (xs : List A) → concatMap g (map f xs) ≡ concatMap (λ (x : A). g (f x)) xs
+  unfolding concatMap
+  concatMap-map g f [] = refl
+  concatMap-map g f (x ∷ xs) = ap (λ (r : List C). g (f x) ++ r) (concatMap-map g f xs)
+
+  -- what is given for the members that pass, before and after a map
+  pub concatMap-keep-map : (g : B → List C) (p : B → Bool) (f : A → B) (g′ : A → List C) (p′ : A → Bool) (xs : List A)
+      → ((x : A) → x ∈ xs → p (f x) ≡ p′ x) → ((x : A) → x ∈ xs → g (f x) ≡ g′ x)
+      → concatMap g (keep p (map f xs)) ≡ concatMap g′ (keep p′ xs)
+  concatMap-keep-map g p f g′ p′ xs h k =
+      ap (concatMap g) (keep-map p f xs ∙ ap (map f) (keep-cong (λ (x : A). p (f x)) p′ xs h))
+      ∙ concatMap-map g f (keep p′ xs)
+      ∙ concatMap-cong (λ (x : A). g (f x)) g′ (keep p′ xs) (λ x m. k x (keep-∈ p′ xs m .0))

@@ -1,10 +1,10 @@
 -- `same` decides equality and `before` is a strict total order on byte strings.
-use Prim.Native.Nat.{ℕ, _<_}
+use Prim.Native.Nat.{ℕ, _<_, _≤_}
 use mathlib.Core.Path.{_≡_, refl, sym, _∙_, subst}
 use mathlib.Core.Logic.{_⊎_, inl, inr, ⊎-elim}
 use mathlib.Core.List.{List, [], _∷_}
 use mathlib.Core.Bool.{Bool, true, false, _&&_, false≢true}
-use native.Mathlib.Nat.{lt-irrefl}
+use native.Mathlib.Nat.{lt-irrefl, le-of-eq, le-of-lt}
 use native.Mathlib.Omega.{arith}
 use lib.Dec.{ltb, eqb}
 use borrow.Author.Tests.{ltb-true, ltb-false, lt-ltb, eqb-true, eqb-false, eq-eqb}
@@ -103,3 +103,11 @@ trichotomy (x ∷ xs) (y ∷ ys) = step (nat-trichotomy x y) (trichotomy xs ys)
 
 pub not-before→after : (a b : List ℕ) → before a b ≡ false → same a b ≡ false → before b a ≡ true
 not-before→after a b p q = ⊎-elim (λ (h : before a b ≡ true). absurd (true-false h p)) (⊎-elim (λ (e : a ≡ b). absurd (same-false→ne a b q e)) (λ (h : before b a ≡ true). h)) (trichotomy a b)
+
+-- of two keys in order the first numbers are in order
+pub before-first : (m n : ℕ) (xs ys : List ℕ) → before (m ∷ xs) (n ∷ ys) ≡ true → m ≤ n
+unfolding before
+before-first m n xs ys e =
+    ⊎-elim (λ (h : ltb m n ≡ true). le-of-lt (ltb-true m n h))
+    (λ (h : (eqb m n && before xs ys) ≡ true). le-of-eq (eqb-true m n (and-true→ (eqb m n) (before xs ys) h .0)))
+    (or-true→ (ltb m n) (eqb m n && before xs ys) e)

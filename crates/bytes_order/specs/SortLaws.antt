@@ -2,9 +2,9 @@
 use Prim.Native.Nat.{ℕ, suc, _≤_, zero-le, suc-le-suc}
 use native.Mathlib.Nat.{le-refl}
 use native.Mathlib.Omega.{arith}
-use mathlib.Core.Path.{_≡_, refl, sym, _∙_, ap, subst}
+use mathlib.Core.Path.{_≡_, refl, sym, _∙_, ap, subst, subst₂}
 use mathlib.Core.Logic.{_⊎_, inl, inr, ⊎-elim}
-use mathlib.Core.List.{List, [], _∷_, _++_, map, List·Memᴰ·head, List·Memᴰ·tail, List·Memᴰ·not-nil}
+use mathlib.Core.List.{List, [], _∷_, _++_, map, List·Memᴰ·head, List·Memᴰ·tail, List·Memᴰ·not-nil, reverse, reverseAux}
 use mathlib.Core.Bool.{Bool, true, false, cond}
 use lib.ListN.{length}
 use Rattle.bytes_order.specs.Order.{before, same, ascending}
@@ -14,7 +14,7 @@ use Rattle.bytes_order.specs.Distinct.{Distinct, distinct-nil, distinct-
 use Rattle.bytes_order.specs.Ascending.{Ascending, ascending-nil, ascending-cons}
 use Rattle.bytes_order.specs.BoolLaws.{true-false, and-true→, and-true}
 use Rattle.bytes_order.specs.OrderLaws.{same→eq, before-trans, before-asym, before→ne, not-before→after}
-use Rattle.bytes_order.specs.MemberLaws.{∈-cases, ∈-singleton, ∈-cast, append-∈, keep-∈, same-members-refl, same-members-sym, same-members-trans}
+use Rattle.bytes_order.specs.MemberLaws.{∈-cases, ∈-singleton, ∈-cast, append-∈, keep-∈, same-members-refl, same-members-sym, same-members-trans, map-∈, reverse-∈}
 use Rattle.bytes_order.specs.DistinctLaws.{distinct-identifies}
 
 -- ascending lists
@@ -229,3 +229,45 @@ module _ {A B : Type 0} (key : B → List ℕ) (f : A → B) where
   unfolding sort
   sort-map [] = refl
   sort-map (x ∷ xs) = ap (insert key (f x)) (sort-map xs) ∙ insert-map x (sort (λ z. key (f z)) xs)
+
+-- the greatest member of an ascending list, and an ascending list under a map
+module _ {A : Type 0} (key : A → List ℕ) where
+  -- t has the greatest key of xs
+  abbrev pub Greatest : A → List A → Type 0
+  Greatest t xs = (x : A) → x ∈ xs → (x ≡ t) ⊎ (before (key x) (key t) ≡ true)
+
+  greatest-cons : {t y : A} {ys : List A} (x : A) → before (key x) (key y) ≡ true → Greatest t (y ∷ ys) → Greatest t (x ∷ y ∷ ys)
+  greatest-cons {t} {y} {ys} x b g z m =
+      ⊎-elim
+      (λ (e : z ≡ x).
+      inr
+      (subst (λ (v : A). before (key v) (key t) ≡ true) (sym e)
+      (⊎-elim (λ (d : y ≡ t). subst (λ (v : A). before (key x) (key v) ≡ true) d b)
+      (λ (c : before (key y) (key t) ≡ true). before-trans (key x) (key y) (key t) b c) (g y (List·Memᴰ·head refl)))))
+      (λ (k : z ∈ y ∷ ys). g z k) (∈-cases m)
+
+  greatest-reverseAux : (x : A) (xs r : List A) → Ascending key (x ∷ xs)
+      → (t : A) × (ts : List A) × (reverseAux xs (x ∷ r) ≡ t ∷ ts) × Greatest t (x ∷ xs)
+  greatest-reverseAux x [] r a = (x, r, refl, λ y m. ⊎-elim inl (λ (k : y ∈ []). absurd (List·Memᴰ·not-nil k)) (∈-cases m))
+  greatest-reverseAux x (y ∷ ys) r (ascending-cons b a) =
+      let f = greatest-reverseAux y ys (x ∷ r) a in
+      (f .0, f .1, f .2, greatest-cons x (b y (List·Memᴰ·head refl)) (f .3))
+
+  -- an ascending list with a member, read backwards, begins with the member of greatest key
+  pub greatest-first : (xs : List A) {x : A} → Ascending key xs → x ∈ xs
+      → (t : A) × (ts : List A) × (reverse xs ≡ t ∷ ts) × (t ∈ xs) × Greatest t xs
+  greatest-first [] a m = absurd (List·Memᴰ·not-nil m)
+  greatest-first (x ∷ xs) a m =
+      let f = greatest-reverseAux x xs [] a in
+      (f .0, f .1, f .2, reverse-∈ (x ∷ xs) (subst (λ (ys : List A). f .0 ∈ ys) (sym (f .2)) (List·Memᴰ·head refl)), f .3)
+
+-- a map that keeps the keys keeps the order
+pub ascending-map : {A B : Type 0} {key : A → List ℕ} (key′ : B → List ℕ) (f : A → B) {xs : List A} → Ascending key xs
+    → ((x : A) → key′ (f x) ≡ key x) → Ascending key′ (map f xs)
+ascending-map key′ f ascending-nil e = ascending-nil
+ascending-map {key = key} key′ f (ascending-cons {x = x} {xs = xs} b a) e =
+    ascending-cons
+    (λ y m.
+    let q = map-∈ f xs m in
+    subst₂ (λ (i j : List ℕ). before i j ≡ true) (sym (e x)) (sym (e (q .0)) ∙ ap key′ (q .2)) (b (q .0) (q .1)))
+    (ascending-map key′ f a e)

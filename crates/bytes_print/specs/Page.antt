@@ -3,15 +3,12 @@ use mathlib.Core.Path.{_≡_}
 use Prim.Native.Nat.{ℕ, _+_, _≤_, _<_}
 use mathlib.Core.List.{List}
 use lib.ListN.{length}
+use Rattle.bytes_ascii.specs.Ascii.{twoDigits}
 use Rattle.bytes_copy.specs.Overwritten.{overwritten}
 
 -- no byte beyond this one is printed at, so that no sum wraps: the whole report is far shorter
 abbrev pub farthest : ℕ
 farthest = 1000000
-
--- a number below this has at most two decimal digits
-abbrev pub twoDigits : ℕ
-twoDigits = 100
 
 -- Printing the text at byte `at` of a page: the next byte is past it, and where it fits the page then holds it there, with no other byte changed. (On a
 -- page where it does not fit, what is written is left free: the length is asked first, of a page that is too short for any report.)

@@ -6,8 +6,7 @@ use mathlib.Core.List.{List, [], _∷_, _++_}
 use Rattle.update_format.specs.declared.Malformed.{Malformed}
 use Rattle.update_format.specs.declared.Malformed.the-variants.{Length, Version, Author, Predecessors, Truncated, Kind, Layout, Unordered}
 use Rattle.update_format.specs.ParseResult.{malformedNumber}
-use Rattle.bytes_ascii.specs.Ascii.{codes, ascii, decimal}
-use Rattle.bytes_print.specs.Page.{Prints, twoDigits}
+use Rattle.bytes_ascii.specs.Ascii.{codes, ascii, decimal, twoDigits}
 use Rattle.ledger_state.specs.declared.Standing.{Standing}
 use Rattle.ledger_state.specs.declared.Standing.the-variants.{Held, Waiting, Void}
 use Rattle.ledger_refusals.specs.declared.Refusal.{Refusal}
@@ -71,7 +70,3 @@ refusal-small Invalid = omega arith
 pub unread-text : 40 ∷ 117 ∷ 110 ∷ 114 ∷ 101 ∷ 97 ∷ 100 ∷ 41 ∷ 10 ∷ [] ≡ ascii "(unread)\n"
 unfolding ascii codes
 unread-text = refl
-
-pub unread-past : {page page′ : List ℕ} {n : ℕ} → Prints page 0 (ascii "(unread)\n") page′ n → n ≡ 9
-unfolding ascii codes
-unread-past p = p .past

@@ -4,12 +4,14 @@ use Prim.Native.Nat.{ℕ, _≤_, _<_}
 use mathlib.Core.List.{List}
 use mathlib.Core.Option.{none, some}
 use lib.ListN.{length, take}
-use Rattle.bytes_ascii.specs.Ascii.{ascii}
-use Rattle.bytes_print.specs.Page.{Prints, twoDigits}
+use Rattle.bytes_ascii.specs.Ascii.{ascii, twoDigits}
+use Rattle.command_syntax.specs.declared.Line.{Line}
+use Rattle.command_syntax.specs.declared.Line.the-variants.{Offered as Offers, Unread as NotRead}
 use Rattle.command_syntax.specs.Line.{lineIn}
-use Rattle.ledger_offering.specs.Values.{OfferValues, takenAs, knownAs, refusedAs}
-use Rattle.command_answers.specs.declared.Begun.{Begun}
-use Rattle.command_answers.specs.declared.Begun.the-variants.{Unread, Offers}
+use Rattle.ledger_offering.specs.Values.{OfferValues, takenAs, knownAs, refusedAs, offerValues}
+use Rattle.ledger_offering.specs.Words.{answerText}
+use Rattle.command_answers.specs.declared.Reply.{Reply}
+use Rattle.command_answers.specs.declared.Reply.the-variants.{Unread, Offered}
 
 -- the longest answer, `(taken waiting 64 64)` and its newline
 abbrev pub maxAnswer : ℕ
@@ -25,8 +27,17 @@ Printable (takenAs v h w) = Counts h w
 Printable (knownAs v) = Unit {0}
 Printable (refusedAs n) = Unit {0}
 
--- a line that is not read has its answer printed; the bytes of an offer are put into the update buffer
-pub data BeginsAnswer (buffer : List ℕ) (fill : ℕ) (out : List ℕ) : Begun → List ℕ → List ℕ → Type 0 where
-  unread : (n : ℕ) (update out′ : List ℕ) → lineIn buffer fill ≡ none → Prints out 0 (ascii "(unread)\n") out′ n → BeginsAnswer buffer fill out (Unread n) update out′
-  offers : (b update′ : List ℕ) → lineIn buffer fill ≡ some b → length b ≤ length update′ → take (length b) update′ ≡ b
-      → BeginsAnswer buffer fill out (Offers (length b)) update′ out
+-- .. of what a line is answered
+abbrev pub ReplyPrintable : Reply → Type 0
+ReplyPrintable Unread = Unit {0}
+ReplyPrintable (Offered a) = Printable (offerValues a)
+
+-- the text of a line's answer
+abbrev pub replyText : Reply → List ℕ
+replyText Unread = ascii "(unread)\n"
+replyText (Offered a) = answerText a
+
+-- how the line in the buffer reads; the bytes that it offers are at the start of the update buffer
+abbrev pub ReadsOffer : List ℕ → ℕ → Line → List ℕ → Type 0
+ReadsOffer buffer fill NotRead update = lineIn buffer fill ≡ none
+ReadsOffer buffer fill (Offers n) update = (lineIn buffer fill ≡ some (take n update)) × (n ≤ length update)

@@ -1,25 +1,24 @@
 // Answers: what is printed for a line.
 ghost use Prim.Native.Nat.{_+_, _≤_};
-ghost use lib.ListN.{length};
 ghost use Rattle.bytes_print.specs.Page.{Prints};
-ghost use Rattle.command_syntax.specs.Syntax.{maxOffered};
 ghost use Rattle.ledger_offering.specs.Values.{offerValues};
 ghost use Rattle.ledger_offering.specs.Words.{standingWord, answerText};
 ghost use Rattle.ledger_offering.specs.declared.Answer.the-variants.{Taken, Known, Refused};
-ghost use Rattle.command_answers.specs.Answers.{maxAnswer, Counts, Printable, BeginsAnswer};
+ghost use Rattle.command_answers.specs.Answers.{maxAnswer, Counts, Printable, ReplyPrintable, replyText, ReadsOffer};
 use bytes_print::digits::decimal;
 use bytes_print::put;
 use command_syntax::Line;
+use command_syntax::MAX_OFFERED;
 use command_syntax::read_line;
 use command_syntax::unhex;
 use ledger_offering::Answer;
 use ledger_refusals::Refusal;
 use ledger_state::Standing;
 
-// What a line comes to before any offer: it is not read, and its answer takes so many bytes; or it offers so many bytes.
-pub enum Begun {
-    Unread(usize),
-    Offers(usize),
+// What a line is answered: that it is not read, or what its offer is answered.
+pub enum Reply {
+    Unread,
+    Offered(Answer),
 }
 
 // The word of a standing.
@@ -87,15 +86,26 @@ pub fn print_answer(page: &mut [u8], answer: Answer) -> usize
     }
 }
 
-// Begins the answer to a line of so many bytes: prints `(unread)`, or gives how many bytes are offered.
-pub fn begin_answer(line: &[u8], fill: usize, update: &mut [u8], out: &mut [u8]) -> Begun
-    requires { ⌜ maxOffered ≤ length (now update) ⌝ }
-    ensures { λ r. ⌜ BeginsAnswer (now (line .entry)) fill (now (out .entry)) r (now (update .exit)) (now (out .exit)) ⌝ }
+// The text of a line's answer.
+pub fn print_reply(page: &mut [u8], reply: Reply) -> usize
+    requires { ⌜ ReplyPrintable reply ⌝ }
+    ensures prints { λ r. ⌜ Prints (now (page .entry)) 0 (replyText reply) (now (page .exit)) r ⌝ }
+    ensures small { λ r. ⌜ r ≤ maxAnswer ⌝ }
+{
+    let Reply::Offered(answer) = reply else {
+        return put(page, 0, b"(unread)\n");
+    };
+    print_answer(page, answer)
+}
+
+// Reads a line of so many bytes. The bytes that it offers are put into the update buffer.
+pub fn read_offer(line: &[u8], fill: usize, update: &mut [u8; MAX_OFFERED]) -> Line
+    ensures { λ r. ⌜ ReadsOffer (now (line .entry)) fill r (now (update .exit)) ⌝ }
 {
     let read = read_line(line, fill);
     let Line::Offered(n) = read else {
-        return Begun::Unread(put(out, 0, b"(unread)\n"));
+        return Line::Unread;
     };
     unhex(line, n, update);
-    Begun::Offers(n)
+    Line::Offered(n)
 }

@@ -4,7 +4,7 @@ use Prim.Native.Nat.{ℕ, _+_, _-_, _≤_}
 use native.Mathlib.Nat.{zero-add}
 use native.Mathlib.Omega.{arith}
 use mathlib.Core.List.{List, [], _++_, append-assoc, append-nil}
-use lib.ListN.{length, take, drop, length-append, length-drop, take-append-drop, drop-of-length-le}
+use lib.ListN.{length, take, drop, length-append, length-drop, drop-of-length-le}
 use lib.Seq.{length-take-le, take-all, take-at, drop-at, drop-drop}
 use Rattle.bytes_print.specs.Page.{Prints}
 use Rattle.bytes_copy.specs.Overwritten.{overwritten}
@@ -22,7 +22,7 @@ pub extends-none : (out : List ℕ) (w : ℕ) → w ≤ length out → Extends o
 extends-none out w h = record { past = omega arith; within = h; kept = refl; text = sym (append-nil (take w out)); rest = refl }
 
 -- a text that is written there
-pub extends-written : (out : List ℕ) (w : ℕ) (t : List ℕ) {out′ : List ℕ} {w′ : ℕ} → w + length t ≤ length out → w′ ≡ w + length t → out′ ≡ overwritten out w t
+extends-written : (out : List ℕ) (w : ℕ) (t : List ℕ) {out′ : List ℕ} {w′ : ℕ} → w + length t ≤ length out → w′ ≡ w + length t → out′ ≡ overwritten out w t
     → Extends out w t out′ w′
 extends-written out w t {out′} {w′} fits past e =
     let rest = drop (w + length t) out in
@@ -56,17 +56,10 @@ module _ (out : List ℕ) (w : ℕ) (inside : w ≤ length out) where
       ap (λ (x : List ℕ). take w out ++ (o ++ x)) (drop-of-length-le (drop w out) {i = length out - w} (omega (arith, length-drop w out)))
       ∙ ap (λ (x : List ℕ). take w out ++ x) (append-nil o)
 
-  -- the buffer is as long with a part as long
-  pub with-inside : (o : List ℕ) → length o ≡ length (partFrom out w) → w ≤ length (withPart out w o)
-  with-inside o e = omega (arith, ap length (with-is o), length-append (take w out) o, length-take-le w out inside)
-
-  -- what is given back as it was lent changes nothing
-  pub with-same : withPart out w (partFrom out w) ≡ out
-  with-same = with-is (partFrom out w) ∙ ap (λ (x : List ℕ). take w out ++ x) part-is ∙ take-append-drop w out
-
   -- a text that is printed at the start of the part
-  pub prints : {t o : List ℕ} {n : ℕ} → Prints (partFrom out w) 0 t o n → w + n ≤ length out → withPart out w o ≡ overwritten out w t
-  prints {t} {o} {n} p fits =
+  pub extends-printed : {t o : List ℕ} {n : ℕ} → Prints (partFrom out w) 0 t o n → w + n ≤ length out → Extends out w t (withPart out w o) (w + n)
+  extends-printed {t} {o} {n} p fits =
       let text : o ≡ t ++ drop (length t) (drop w out) =
       p .fits (omega (arith, part-length)) ∙ ap₂ (λ (k : ℕ) (x : List ℕ). t ++ drop k x) (zero-add (length t)) part-is in
-      with-is o ∙ ap (λ (x : List ℕ). take w out ++ x) (text ∙ ap (λ (x : List ℕ). t ++ x) (drop-drop (length t) w out))
+      extends-written out w t (omega (arith, p .past)) (omega (arith, p .past))
+      (with-is o ∙ ap (λ (x : List ℕ). take w out ++ x) (text ∙ ap (λ (x : List ℕ). t ++ x) (drop-drop (length t) w out)))

@@ -9,14 +9,17 @@ use lib.Seq.{take-add, drop-drop}
 use Rattle.ledger_state.specs.declared.Ledger.{Ledger}
 use Rattle.command_lines.specs.declared.Assembled.{Assembled}
 use Rattle.command_lines.specs.Lines.{TakesLine}
-use Rattle.command_answers.specs.Answers.{maxAnswer}
+use Rattle.bytes_print.specs.Page.{Prints}
+use Rattle.command_syntax.specs.Line.{lineIn}
+use Rattle.command_answers.specs.Answers.{maxAnswer, replyText}
+use Rattle.command_session.specs.declared.Answered.{Answered}
+use Rattle.command_session.specs.Answering.{Answers}
 use Rattle.command_session.specs.Feeding.{Moves, Feeds}
 use Rattle.command_session.specs.FeedLaws.{moves-none, moves-then}
-use Rattle.command_session.proofs.OutLaws.{Extends, extends-none, extends-written, partFrom, part-is, part-length}
-use Rattle.command_session.proofs.LineLaws.{Answers}
+use Rattle.command_session.proofs.OutLaws.{Extends, extends-none, extends-printed, partFrom, withPart, part-is, part-length}
 use Rattle.command_session.proofs.TurnLaws.{turn-text, turn-line}
 
-pub record Running (l : Ledger) (s buffer : List ℕ) (fill : ℕ) (input out : List ℕ) (l′ : Ledger) (s′ buffer′ out′ update : List ℕ) (fill′ consumed written : ℕ)
+pub record Running (l : Ledger) (s buffer : List ℕ) (fill : ℕ) (input out : List ℕ) (l′ : Ledger) (s′ buffer′ out′ : List ℕ) (fill′ consumed written : ℕ)
     : Type 0 where
   pub within-input : consumed ≤ length input
   pub within-out : written ≤ length out
@@ -25,13 +28,12 @@ pub record Running (l : Ledger) (s buffer : List ℕ) (fill : ℕ) (input out : 
   pub store-kept : length s′ ≡ length s
   pub buffer-kept : length buffer′ ≡ length buffer
   pub out-kept : length out′ ≡ length out
-  pub update-long : length update ≡ 996
   pub rest-kept : drop written out′ ≡ drop written out
   pub moves : Moves l s buffer fill (take consumed input) (take written out′) l′ s′ buffer′ fill′
 
 module _ {l : Ledger} {s buffer input out : List ℕ} {fill : ℕ} where
-  pub run-none : {update : List ℕ} → length update ≡ 996 → Running l s buffer fill input out l s buffer out update fill 0 0
-  run-none h =
+  pub run-none : Running l s buffer fill input out l s buffer out fill 0 0
+  run-none =
       record {
         within-input = omega arith;
         within-out = omega arith;
@@ -39,21 +41,20 @@ module _ {l : Ledger} {s buffer input out : List ℕ} {fill : ℕ} where
         store-kept = refl;
         buffer-kept = refl;
         out-kept = refl;
-        update-long = h;
         rest-kept = refl;
         moves = moves-none;
       }
 
-  module _ {l₁ : Ledger} {s₁ buffer₁ out₁ update₁ : List ℕ} {fill₁ consumed written : ℕ}
-      (run : Running l s buffer fill input out l₁ s₁ buffer₁ out₁ update₁ fill₁ consumed written) where
+  module _ {l₁ : Ledger} {s₁ buffer₁ out₁ : List ℕ} {fill₁ consumed written : ℕ}
+      (run : Running l s buffer fill input out l₁ s₁ buffer₁ out₁ fill₁ consumed written) where
     -- one more turn
-    pub run-turn : {l₂ : Ledger} {s₂ buffer₂ out₂ update₂ t : List ℕ} {fill₂ k w : ℕ}
+    pub run-turn : {l₂ : Ledger} {s₂ buffer₂ out₂ t : List ℕ} {fill₂ k w : ℕ}
         → Moves l₁ s₁ buffer₁ fill₁ (take k (partFrom input consumed)) t l₂ s₂ buffer₂ fill₂
         → Extends out₁ written t out₂ w
         → 0 < k → k ≤ length (partFrom input consumed) → length t ≤ maxAnswer
-        → length s₂ ≡ length s₁ → length buffer₂ ≡ length buffer₁ → length update₂ ≡ 996
-        → Running l s buffer fill input out l₂ s₂ buffer₂ out₂ update₂ fill₂ (consumed + k) w
-    run-turn {l₂} {s₂} {buffer₂} {out₂} {update₂} {t} {fill₂} {k} {w} m e some-taken inside short sk bk uk =
+        → length s₂ ≡ length s₁ → length buffer₂ ≡ length buffer₁
+        → Running l s buffer fill input out l₂ s₂ buffer₂ out₂ fill₂ (consumed + k) w
+    run-turn {l₂} {s₂} {buffer₂} {out₂} {t} {fill₂} {k} {w} m e some-taken inside short sk bk =
         let xs : take consumed input ++ take k (partFrom input consumed) ≡ take (consumed + k) input =
         ap (λ (x : List ℕ). take consumed input ++ take k x) (part-is input consumed (run .within-input)) ∙ sym (take-add consumed k input) in
         let rest : drop w out₁ ≡ drop w out =
@@ -66,7 +67,6 @@ module _ {l : Ledger} {s buffer input out : List ℕ} {fill : ℕ} where
           store-kept = sk ∙ run .store-kept;
           buffer-kept = bk ∙ run .buffer-kept;
           out-kept = e .kept ∙ run .out-kept;
-          update-long = uk;
           rest-kept = e .rest ∙ rest;
           moves = subst₂ (λ (x y : List ℕ). Moves l s buffer fill x y l₂ s₂ buffer₂ fill₂) xs (sym (e .text)) (moves-then (run .moves) m);
         }
@@ -81,20 +81,19 @@ module _ {l : Ledger} {s buffer input out : List ℕ} {fill : ℕ} where
       run-less = omega (arith, t .some-taken left)
 
       -- the line goes on
-      pub run-text : a .ended ≡ false → Running l s buffer fill input out l₁ s₁ buffer₂ out₁ update₁ (a .fill) (consumed + a .consumed) written
+      pub run-text : a .ended ≡ false → Running l s buffer fill input out l₁ s₁ buffer₂ out₁ (a .fill) (consumed + a .consumed) written
       run-text e =
           run-turn (turn-text t e) (extends-none out₁ written (omega (arith, run .within-out, run .out-kept))) (t .some-taken left) (t .within) (omega arith)
-          refl bk (run .update-long)
+          refl bk
 
-      -- the line ends, and is answered
-      pub run-line : a .ended ≡ true → {l₂ : Ledger} {s₂ out₂ update₂ : List ℕ} {written₂ : ℕ}
-          → Answers l₁ s₁ buffer₂ (a .fill) out₁ written l₂ s₂ out₂ written₂
-          → maxAnswer ≤ length out₁ - written → length s₂ ≡ length s₁ → length update₂ ≡ 996
-          → Running l s buffer fill input out l₂ s₂ buffer₂ out₂ update₂ 0 (consumed + a .consumed) written₂
-      run-line e w room sk uk =
-          run-turn (turn-line t e (w .answers))
-          (extends-written out₁ written (w .text) (omega (arith, w .short, run .within-out, run .out-kept)) (w .past) (w .put))
-          (t .some-taken left) (t .within) (w .short) sk bk uk
+      -- the line ends, and its answer is printed
+      pub run-line : a .ended ≡ true → {r : Answered} {s₂ o : List ℕ} {n : ℕ}
+          → Answers l₁ s₁ (lineIn buffer₂ (a .fill)) r s₂ → length s₂ ≡ length s₁
+          → Prints (partFrom out₁ written) 0 (replyText (r .reply)) o n → n ≤ maxAnswer → written + maxAnswer ≤ length out₁
+          → Running l s buffer fill input out (r .ledger) s₂ buffer₂ (withPart out₁ written o) 0 (consumed + a .consumed) (written + n)
+      run-line e w sk p few room =
+          run-turn (turn-line t e (w .answers)) (extends-printed out₁ written (omega arith) p (omega arith)) (t .some-taken left) (t .within)
+          (omega (arith, p .past)) sk bk
 
     -- all is consumed
     pub run-ends : length input ≤ consumed

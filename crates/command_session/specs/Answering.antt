@@ -10,11 +10,18 @@ use Rattle.ledger_offering.specs.Values.{OfferValues}
 use Rattle.ledger_offering.specs.Offer.{OfferRow}
 use Rattle.ledger_offering.specs.Words.{valuesText}
 use Rattle.command_syntax.specs.Syntax.{readLine}
+use Rattle.command_answers.specs.Answers.{ReplyPrintable, replyText}
+use Rattle.command_session.specs.declared.Answered.{Answered}
 
 -- A line that reads so is answered: the ledger and the store after it, and the text of the answer.
 pub data AnswersLine (l : Ledger) (s : List ℕ) : Option (List ℕ) → Ledger → List ℕ → List ℕ → Type 0 where
   unread : AnswersLine l s none l s (ascii "(unread)\n")
   offered : {b : List ℕ} {v : OfferValues} {r : Ledger} {s′ : List ℕ} → OfferRow l s b v r s′ → AnswersLine l s (some b) r s′ (valuesText v)
+
+-- What the function `answer_line` promises of a line that reads so: it is answered, and the text of its answer is that of the reply, which can be printed.
+pub record Answers (l : Ledger) (s : List ℕ) (o : Option (List ℕ)) (r : Answered) (s′ : List ℕ) : Type 0 where
+  pub answers : AnswersLine l s o (r .ledger) s′ (replyText (r .reply))
+  pub printable : ReplyPrintable (r .reply)
 
 -- Lines that read so, each answered with the ledger and the store that the one before left; and the texts of the answers.
 pub data AnswersLines : Ledger → List ℕ → List (Option (List ℕ)) → Ledger → List ℕ → List ℕ → Type 0 where

@@ -3,15 +3,19 @@ ghost use mathlib.Core.Path.{_≡_};
 ghost use Prim.Native.Nat.{_≤_};
 ghost use lib.ListN.{length};
 ghost use Rattle.ledger_state.specs.View.{bookOf};
+ghost use Rattle.command_syntax.specs.Line.{lineIn};
+ghost use Rattle.command_session.specs.Answering.{Answers};
 ghost use Rattle.command_session.specs.Feeding.{endValues, putOut, Feeds, Feeding, ReportsAt, Finishes};
 use bytes_copy::copy;
-use command_answers::Begun;
-use command_answers::begin_answer;
-use command_answers::print_answer;
+use command_answers::Reply;
+use command_answers::print_reply;
+use command_answers::read_offer;
 use command_lines::take_line;
+use command_syntax::Line;
 use command_syntax::MAX_LINE;
 use command_syntax::MAX_OFFERED;
 use ledger::Ledger;
+use ledger::MAX_REPORT;
 use ledger::Refusal;
 use ledger::Reported;
 
@@ -19,7 +23,7 @@ use ledger::Reported;
 pub const MAX_ANSWER: usize = 22;
 
 // The longest end of an output: an answer and a report.
-pub const MAX_END: usize = 12022;
+pub const MAX_END: usize = MAX_ANSWER + MAX_REPORT;
 
 // What a piece of input comes to: the ledger; how long the line so far is, as `command_lines::take_line` counts; how many bytes of the piece were consumed; how many bytes of
 // output were put at the start of the output buffer; and whether the line buffer was refused.
@@ -57,9 +61,44 @@ impl Finished {
     }
 }
 
+// A ledger, and what the line that led to it was answered.
+struct Answered {
+    ledger: Ledger,
+    reply: Reply,
+}
+
+// Answers a line of so many bytes. The struct goes in whole and comes back, and so stays in its place: a ledger by itself would be copied into it at each line.
+fn answer_line(
+    state: Answered,
+    store: &mut [u8],
+    line: &[u8],
+    fill: usize,
+    update: &mut [u8; MAX_OFFERED],
+) -> Answered
+    ensures { λ r. ⌜ Answers (state .ledger) (now (store .entry)) (lineIn (now (line .entry)) fill) r (now (store .exit)) ⌝ }
+{
+    let ledger = state.ledger;
+    match read_offer(line, fill, update) {
+        Line::Unread => Answered {
+            ledger: ledger,
+            reply: Reply::Unread,
+        },
+        Line::Offered(n) => {
+            let bytes: &[u8] = update;
+            let o = ledger::offer(ledger, store, &bytes[..n]);
+            let next = o.ledger;
+            let answer = o.answer;
+            Answered {
+                ledger: next,
+                reply: Reply::Offered(answer),
+            }
+        }
+    }
+}
+
 // Takes a piece of the input, up to its end or to where the output buffer has no room for another answer.
 fn feed_lines(
-    mut ledger: Ledger,
+    ledger: Ledger,
     store: &mut [u8],
     line: &mut [u8],
     fill: usize,
@@ -69,6 +108,11 @@ fn feed_lines(
     ensures { λ r. ⌜ Feeds ledger (now (store .entry)) (now (line .entry)) fill (now (input .entry)) (now (out .entry)) r (now (store .exit)) (now (line .exit)) (now (out .exit)) ⌝ }
 {
     let mut update = [0u8; MAX_OFFERED];
+    // before the first line: this reply is not printed
+    let mut state = Answered {
+        ledger: ledger,
+        reply: Reply::Unread,
+    };
     let mut length = fill;
     let mut consumed: usize = 0;
     let mut written: usize = 0;
@@ -77,23 +121,15 @@ fn feed_lines(
         consumed += t.consumed;
         length = t.fill;
         if t.ended {
-            match begin_answer(line, length, &mut update, &mut out[written..]) {
-                Begun::Unread(n) => {
-                    written += n;
-                }
-                Begun::Offers(n) => {
-                    let o = ledger::offer(ledger, store, &update[..n]);
-                    let next = o.ledger;
-                    ledger = next;
-                    let answer = o.answer;
-                    written += print_answer(&mut out[written..], answer);
-                }
-            }
+            state = answer_line(state, store, line, length, &mut update);
+            let reply = state.reply;
+            written += print_reply(&mut out[written..], reply);
             length = 0;
         }
     }
+    let last = state.ledger;
     Fed {
-        ledger: ledger,
+        ledger: last,
         fill: length,
         consumed: consumed,
         written: written,

@@ -8,12 +8,12 @@ use Rattle.update_format.specs.Update.{Id}
 use Rattle.ledger_state.specs.State.{Book, placeAt, findIn}
 use Rattle.ledger_state.specs.Row1.{sound}
 use Rattle.ledger_state.specs.Verdicts.{verdictOf}
-use Rattle.ledger_refusals.specs.Numbers.{row1}
+use Rattle.ledger_refusals.specs.Numbers.{row1Number}
 use Rattle.ledger.specs.Ask.{standsAs, unknownId, refusedAs, askedOf}
 
 -- the standing of an id
 module _ (l : Book) (s : List ℕ) (i : Id) where
-  pub asked-unfit : sound l s ≡ false → refusedAs row1 ≡ askedOf l s i
+  pub asked-unfit : sound l s ≡ false → refusedAs row1Number ≡ askedOf l s i
   unfolding askedOf
   asked-unfit h = rw h
 

@@ -33,7 +33,7 @@ use Rattle.ledger_state.specs.FindLaws.{stored-at, find-right}
 use Rattle.ledger_state.specs.TakeLaws.{stands-sound}
 use Rattle.ledger_state.specs.CountLaws.{held-count, void-count}
 use Rattle.ledger_state.specs.Verdicts.{verdictOf}
-use Rattle.ledger_refusals.specs.Numbers.{row10}
+use Rattle.ledger_refusals.specs.Numbers.{row10Number}
 use Rattle.ledger_offering.specs.Values.{OfferValues, takenAs, knownAs, refusedAs}
 use Rattle.ledger_offering.specs.Words.{valuesText}
 use Rattle.ledger_offering.specs.Offer.{OfferRow, unfit, malformed, known, full, taken}
@@ -58,7 +58,7 @@ unfoldable pub answerFor : List Update → Decoded → OfferValues
 answerFor us (refused n) = refusedAs n
 answerFor us (update u) =
     cond (member (ident u) (map ident us)) (knownAs (standingIn (settledTable ident us) (ident u)))
-    (cond (ltb (length us) places) (takenFor (settledTable ident us) (settledTable ident (us ++ (u ∷ []))) (ident u)) (refusedAs row10))
+    (cond (ltb (length us) places) (takenFor (settledTable ident us) (settledTable ident (us ++ (u ∷ []))) (ident u)) (refusedAs row10Number))
 
 -- and its text
 abbrev pub offerText : List Update → Decoded → List ℕ

@@ -8,7 +8,7 @@ use Rattle.rules.specs.Settle.{Verdict}
 use Rattle.ledger_state.specs.State.{Book, placeAt, findIn}
 use Rattle.ledger_state.specs.Row1.{sound}
 use Rattle.ledger_state.specs.Verdicts.{verdictOf}
-use Rattle.ledger_refusals.specs.Numbers.{row1, refusalNumber}
+use Rattle.ledger_refusals.specs.Numbers.{row1Number, refusalNumber}
 use Rattle.ledger.specs.declared.Asked.{Asked}
 use Rattle.ledger.specs.declared.Asked.the-variants.{Is, Unknown, Refused}
 
@@ -29,4 +29,4 @@ askedAt l none = unknownId
 askedAt l (some k) = standsAs (verdictOf (placeAt l k .standing))
 
 unfoldable pub askedOf : Book → List ℕ → Id → AskedValues
-askedOf l s i = cond (sound l s) (askedAt l (findIn l i)) (refusedAs row1)
+askedOf l s i = cond (sound l s) (askedAt l (findIn l i)) (refusedAs row1Number)

@@ -9,7 +9,7 @@ use Rattle.rules.specs.Report.{reportOf}
 use Rattle.ledger_state.specs.Row1.{sound}
 use Rattle.ledger_state.specs.Stands.{ident, Stands}
 use Rattle.ledger_state.specs.State.{Book}
-use Rattle.ledger_refusals.specs.Numbers.{row1, row11, refusalNumber, Output, putBytes, refusedBy}
+use Rattle.ledger_refusals.specs.Numbers.{row1Number, row11Number, refusalNumber, Output, putBytes, refusedBy}
 use Rattle.ledger.specs.declared.Reported.{Reported}
 use Rattle.ledger.specs.declared.Reported.the-variants.{Written, Refused}
 
@@ -26,8 +26,8 @@ reportValues (Refused r) = refusedBy (refusalNumber r)
 -- "The report checks 1, 11." "The writer and the report put their result at the start of the output buffer and return its length; the bytes after it keep their
 -- values."
 pub data ReportRow (l : Book) (s o : List ℕ) : Output → List ℕ → Type 0 where
-  unfit : sound l s ≡ false → ReportRow l s o (refusedBy row1) o
-  short : (text : List ℕ) → sound l s ≡ true → ReportText l s text → length o < length text → ReportRow l s o (refusedBy row11) o
+  unfit : sound l s ≡ false → ReportRow l s o (refusedBy row1Number) o
+  short : (text : List ℕ) → sound l s ≡ true → ReportText l s text → length o < length text → ReportRow l s o (refusedBy row11Number) o
   written : (text : List ℕ) → sound l s ≡ true → ReportText l s text → length text ≤ length o
       → ReportRow l s o (putBytes (length text)) (text ++ drop (length text) o)
 

@@ -32,7 +32,7 @@ use Rattle.ledger_state.specs.TakeLaws.{stands-sound}
 use Rattle.write_operations.specs.declared.Kind.{Kind}
 use Rattle.write_operations.specs.declared.Kind.the-variants.{Add as AnAdd}
 use Rattle.write_operations.specs.Operations.{operationFor, badNamed, unorderedNamed}
-use Rattle.ledger_refusals.specs.Numbers.{row11, row12, Output, putBytes, refusedBy}
+use Rattle.ledger_refusals.specs.Numbers.{row11Number, row12Number, Output, putBytes, refusedBy}
 use Rattle.ledger_offering.specs.Values.{OfferValues, takenAs}
 use Rattle.ledger_offering.specs.Offer.{OfferRow, unfit as not-fit, malformed, known, full, taken}
 use Rattle.ledger.specs.Calls.{says, only-held}
@@ -51,8 +51,8 @@ module _ (l : Book) (s : List ℕ) (a : ℕ) (k : Kind) (t : List ℕ) (i : Id) 
     pub is-written : WrittenUpdate l s a (operationFor k t i named) value
 
   record RefusedSays (n : ℕ) : Type 0 where
-    void : n ≡ row12 → (us : List Update) → Stands l s us → writableOf ident us a (operationFor k t i named) ≡ false
-    short-of : n ≡ row11 → length o < maxLength
+    void : n ≡ row12Number → (us : List Update) → Stands l s us → writableOf ident us a (operationFor k t i named) ≡ false
+    short-of : n ≡ row11Number → length o < maxLength
 
   abbrev WroteSays : Output → List ℕ → Type 0
   WroteSays (putBytes n) o′ = IsWritten n o′
@@ -80,17 +80,17 @@ module _ (l : Book) (s : List ℕ) (a : ℕ) (k : Kind) (t : List ℕ) (i : Id) 
   pub says-written : {n : ℕ} {o′ : List ℕ} → Writing l s a k t i named o (putBytes n) o′ → IsWritten n o′
   says-written w = wrote-says w
 
-  pub says-invalid : {o′ : List ℕ} → Writing l s a k t i named o (refusedBy row12) o′
+  pub says-invalid : {o′ : List ℕ} → Writing l s a k t i named o (refusedBy row12Number) o′
       → (us : List Update) → Stands l s us → writableOf ident us a (operationFor k t i named) ≡ false
   says-invalid w = wrote-says w .void refl
 
   -- a buffer of 533 bytes is never too short, whatever the ledger
-  pub says-short : {o′ : List ℕ} → Writing l s a k t i named o (refusedBy row11) o′ → length o < maxLength
+  pub says-short : {o′ : List ℕ} → Writing l s a k t i named o (refusedBy row11Number) o′ → length o < maxLength
   says-short w = wrote-says w .short-of refl
 
 -- "Add: always valid": the writer never refuses one with row 12
 pub add-not-invalid : (l : Book) (s : List ℕ) (us : List Update) → Stands l s us → (a : ℕ) (t : List ℕ) (i : Id) (named o : List ℕ) {o′ : List ℕ}
-    → Writing l s a AnAdd t i named o (refusedBy row12) o′ → ⊥
+    → Writing l s a AnAdd t i named o (refusedBy row12Number) o′ → ⊥
 unfolding operationFor
 add-not-invalid l s us stands a t i named o w = true-false (add-writable ident us a t) (says-invalid l s a AnAdd t i named o w us stands)
 

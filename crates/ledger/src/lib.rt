@@ -17,6 +17,7 @@ pub use ledger_state::Ledger;
 pub use ledger_state::Standing;
 use ledger_state::find::find;
 pub use ledger_state::fresh;
+pub use report_text::MAX_REPORT;
 use update_format::Id;
 use update_format::Malformed;
 use update_format::ParseResult;

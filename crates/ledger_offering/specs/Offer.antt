@@ -16,7 +16,7 @@ use Rattle.ledger_state.specs.View.{bookOf}
 use Rattle.ledger_state.specs.Row1.{sound}
 use Rattle.ledger_state.specs.Stands.{Stands}
 use Rattle.ledger_state.specs.Verdicts.{verdictOf}
-use Rattle.ledger_refusals.specs.Numbers.{row1, row10}
+use Rattle.ledger_refusals.specs.Numbers.{row1Number, row10Number}
 use Rattle.ledger_offering.specs.declared.Answer.{Answer}
 use Rattle.ledger_offering.specs.declared.Offered.{Offered}
 use Rattle.ledger_offering.specs.Values.{OfferValues, takenAs, knownAs, refusedAs, offerValues}
@@ -59,7 +59,7 @@ pub record Takeable (l : Book) (s b : List ℕ) (i : Id) : Type 0 where
 -- constructor for each row of the table, in its order, and for the two accepted answers.
 pub data OfferRow (l : Ledger) (s b : List ℕ) : OfferValues → Ledger → List ℕ → Type 0 where
   -- row 1
-  unfit : sound (bookOf l) s ≡ false → OfferRow l s b (refusedAs row1) l s
+  unfit : sound (bookOf l) s ≡ false → OfferRow l s b (refusedAs row1Number) l s
   -- rows 2 to 9
   malformed : (n : ℕ) → sound (bookOf l) s ≡ true → decode b ≡ refused n → OfferRow l s b (refusedAs n) l s
   -- "a known id gets its standing before 10"; "a known update changes nothing"
@@ -67,7 +67,7 @@ pub data OfferRow (l : Ledger) (s b : List ℕ) : OfferValues → Ledger → Lis
       → OfferRow l s b (knownAs (verdictOf (placeAt (bookOf l) k .standing))) l s
   -- row 10
   full : (u : Update) → sound (bookOf l) s ≡ true → decode b ≡ update u → findIn (bookOf l) (SHA-256 b) ≡ none → bookOf l .used ≡ places
-      → OfferRow l s b (refusedAs row10) l s
+      → OfferRow l s b (refusedAs row10Number) l s
   -- "the update's own standing, as the rules give it once the offer has settled, with the two counts": "held after less held before, and void after less
   -- void before"
   taken : (u : Update) (r : Ledger) → sound (bookOf l) s ≡ true → decode b ≡ update u → findIn (bookOf l) (SHA-256 b) ≡ none → bookOf l .used < places

@@ -8,25 +8,25 @@ use Rattle.update_format.specs.declared.Malformed.{Malformed}
 use Rattle.update_format.specs.declared.Malformed.the-variants.{Length, Version, Author, Predecessors, Truncated, Kind, Layout, Unordered}
 use Rattle.ledger_refusals.specs.declared.Refusal.{Refusal}
 use Rattle.ledger_refusals.specs.declared.Refusal.the-variants.{Unfit, Malformed as Bad, Full, Short, Invalid}
-use Rattle.ledger_refusals.specs.Numbers.{row1, row2, row3, row4, row5, row6, row7, row8, row10, row11, row12, refusalNumber}
+use Rattle.ledger_refusals.specs.Numbers.{row1Number, row2Number, row3Number, row4Number, row5Number, row6Number, row7Number, row8Number, row10Number, row11Number, row12Number, refusalNumber}
 
 -- the refusal of a number; Unordered stands for row 9 and for every number that is no row's
 malformedOf : ℕ → Malformed
 malformedOf n =
-    cond (eqb n row2) Length
-    (cond (eqb n row3) Version
-    (cond (eqb n row4) Author
-    (cond (eqb n row5) Predecessors
-    (cond (eqb n row6) Truncated
-    (cond (eqb n row7) Kind
-    (cond (eqb n row8) Layout Unordered))))))
+    cond (eqb n row2Number) Length
+    (cond (eqb n row3Number) Version
+    (cond (eqb n row4Number) Author
+    (cond (eqb n row5Number) Predecessors
+    (cond (eqb n row6Number) Truncated
+    (cond (eqb n row7Number) Kind
+    (cond (eqb n row8Number) Layout Unordered))))))
 
 refusalOf : ℕ → Refusal
 refusalOf n =
-    cond (eqb n row1) Unfit
-    (cond (eqb n row10) Full
-    (cond (eqb n row11) Short
-    (cond (eqb n row12) Invalid (Bad (malformedOf n)))))
+    cond (eqb n row1Number) Unfit
+    (cond (eqb n row10Number) Full
+    (cond (eqb n row11Number) Short
+    (cond (eqb n row12Number) Invalid (Bad (malformedOf n)))))
 
 malformed-back : (m : Malformed) → refusalOf (malformedNumber m) ≡ Bad m
 unfolding refusalOf malformedOf

@@ -7,9 +7,8 @@ use lib.ListN.{length}
 use Rattle.bytes_order.specs.Member.{_∈_}
 use Rattle.bytes_order.specs.Distinct.{Distinct}
 use Rattle.bytes_order.specs.MemberLaws.{getD-∈, ∈-getD}
-use Rattle.bytes_order.specs.DistinctLaws.{distinct-index}
+use Rattle.bytes_order.specs.DistinctLaws.{distinct-index, distinct-rekey}
 use Rattle.bytes_order.specs.SortLaws.{ascending-distinct}
-use Rattle.bytes_order.specs.ListLaws.{distinct-rekey}
 use Rattle.update_format.specs.Update.{Operation, Update}
 use Rattle.update_format.specs.Decode.{update, decode}
 use Rattle.update_format.specs.Laws.{decode-complete}

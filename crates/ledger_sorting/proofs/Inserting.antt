@@ -57,7 +57,7 @@ shift xs zs i y e = sym (ap (λ (a : List ℕ). a ++ zs) e ∙ append-assoc (tak
 
 -- the places by another name
 pub renamed : {o : Places} {xs ys : List ℕ} → xs ≡ ys → Lists o xs → Lists o ys
-renamed e a = record { sound = a .sound; are = a .are ∙ e }
+renamed e a = record { is-list = a .is-list; are = a .are ∙ e }
 
 -- what the loop of an insertion comes to
 pub inserted :
@@ -66,14 +66,14 @@ pub inserted :
     Lists (record { count = o .count + 1; items = set ys i c }) (ins at k (placesIn o))
 inserted o at k pre ys c i below above w e =
     let n = o .count in
-    let s = pre .room-for .sound in
+    let s = pre .room-for .is-list in
     let q : i ≡ n = omega arith in
     let f : take (n + 1) (set ys i c) ≡ take (suc n) (set ys n c) = ap₂ (λ (x y : ℕ). take x (set ys y c)) (add-one n) q in
     let g : ins n c ys ≡ ins at k (o .items) = ap (λ (x : ℕ). ins x c ys) (sym q) ∙ e in
     let r : take (n + 1) (set ys i c) ≡ ins at k (placesIn o) =
     f ∙ last ys n c (omega arith) ∙ ap (take (suc n)) g ∙ front at n k (o .items) (pre .index-within) (omega (arith, s .whole)) in
     record {
-      sound = record {
+      is-list = record {
         whole = length-set ys i c ∙ w;
         room = omega arith;
         inside = ap small r ∙ all-ins (λ (j : ℕ). ltb j places) at k (placesIn o) (s .inside) (lt-ltb k places (pre .room-for .place-within));

@@ -36,12 +36,12 @@ pub record PlaceList (o : Places) : Type 0 where
 
 -- the list is sound, and its places are xs
 pub record Lists (o : Places) (xs : List ℕ) : Type 0 where
-  pub sound : PlaceList o
+  pub is-list : PlaceList o
   pub are : placesIn o ≡ xs
 
 -- the list is sound and has room for one more, and k is a place
 pub record RoomFor (o : Places) (k : ℕ) : Type 0 where
-  pub sound : PlaceList o
+  pub is-list : PlaceList o
   pub room : o .count < places
   pub place-within : k < places
 

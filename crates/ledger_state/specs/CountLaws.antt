@@ -15,12 +15,11 @@ use Rattle.rules.specs.Decides.{Decides}
 use Rattle.rules.specs.LeastSets.{held-not-void}
 use Rattle.rules.specs.Settling.{settled-decides}
 use Rattle.bitset.specs.Below.{countBelow}
-use Rattle.bitset.specs.BelowLaws.{countBelow-cong}
+use Rattle.bitset.specs.BelowLaws.{countBelow-cong, count-keep}
 use Rattle.ledger_state.specs.declared.Standing.{Standing}
 use Rattle.ledger_state.specs.declared.Standing.the-variants.{Held as IsHeld, Waiting as IsWaiting, Void as IsVoid}
 use Rattle.ledger_state.specs.State.{Book, placeAt, isHeld, isVoid, standingCount}
 use Rattle.ledger_state.specs.Stands.{ident, noUpdate, updateAt, Stands}
-use Rattle.ledger_state.specs.ListFacts.{count-keep}
 use Rattle.ledger_state.specs.Verdicts.{verdictOf, verdict, verdict-at, placed}
 
 -- what a verdict on an update of the set means

@@ -8,7 +8,6 @@ pub mod Number
 pub mod NumberLaws
 pub mod Row1
 pub mod Stands
-pub mod ListFacts
 pub mod StandingLaws
 pub mod Row1Laws
 pub mod FindLaws

@@ -14,11 +14,10 @@ use Rattle.ledger_state.specs.declared.Found.{Found}
 use Rattle.ledger_state.specs.declared.Found.the-variants.{At, Nowhere}
 use Rattle.ledger_state.specs.declared.Standing.{Standing}
 use Rattle.ledger_state.specs.declared.Standing.the-variants.{Held, Waiting, Void}
+-- "There are 64 places."
+pub use Rattle.rules.specs.Report.{places}
 
--- "There are 64 places. .. the lent store, which has 34,112 bytes"
-abbrev pub places : ℕ
-places = 64
-
+-- "the lent store, which has 34,112 bytes"
 abbrev pub storeLength : ℕ
 storeLength = places * maxLength
 

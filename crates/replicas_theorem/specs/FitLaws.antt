@@ -11,14 +11,14 @@ use Rattle.rules.specs.ReportLaws.{report-length}
 use Rattle.ledger_state.specs.State.{Book}
 use Rattle.ledger_state.specs.Stands.{ident, Stands}
 use Rattle.ledger_state.specs.TakeLaws.{stands-sound}
-use Rattle.ledger_refusals.specs.Numbers.{row1, row11, Output, refusedBy}
+use Rattle.ledger_refusals.specs.Numbers.{row1Number, row11Number, Output, refusedBy}
 use Rattle.ledger_state.specs.FindLaws.{ident-length}
 use Rattle.ledger.specs.Report.{ReportRow, unfit, short, written}
 
 -- for a ledger that stands, row 11 does not apply where the buffer has 12,000 bytes
 pub report-fits : {l : Book} {s o o′ : List ℕ} {v : Output} (us : List Update) → Stands l s us → ReportRow l s o v o′ → maxReport ≤ length o
-    → v ≡ refusedBy row11 → ⊥
-report-fits us h (unfit e) k q = let z : _≡_ {A = ℕ} row1 row11 = cc in omega arith
+    → v ≡ refusedBy row11Number → ⊥
+report-fits us h (unfit e) k q = let z : _≡_ {A = ℕ} row1Number row11Number = cc in omega arith
 report-fits us h (short text e t j) k q =
     let b : length (reportOf ident us) ≤ maxReport = report-length ident ident-length us (h .holds .distinct) (h .holds .room) (h .holds .bounded) in
     omega (arith, b, ap length (t .of-rules us h))

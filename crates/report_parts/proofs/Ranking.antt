@@ -186,7 +186,7 @@ module _ (l : Book) (s : List ℕ) where
     pub met-left : {es′ : Places} → b ≡ false → PlaceList es → es′ ≡ es → Met es′
     met-left t h a =
         let f = keep-no q k e t in
-        subst Met (sym a) (record { sound = h; are = put-none (placesIn es) f }, omega (arith, ap length f))
+        subst Met (sym a) (record { is-list = h; are = put-none (placesIn es) f }, omega (arith, ap length f))
 
   -- one entry
   pub put-first : (k : ℕ) (xs a : List ℕ) {b : Bool} → a ≡ anchorIn (decodedAt l s k) → b ≡ same a beginning → b ≡ true → ins 0 k xs ≡ putEntry l s k xs

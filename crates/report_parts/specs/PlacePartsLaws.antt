@@ -11,7 +11,7 @@ use Rattle.bytes_order.specs.Member.{_∈_, keep, any, concatMap}
 use Rattle.bytes_order.specs.Ascending.{Ascending}
 use Rattle.bytes_order.specs.Sort.{sort}
 use Rattle.bytes_order.specs.BoolLaws.{and-true→, and-true, and-agrees}
-use Rattle.bytes_order.specs.MemberLaws.{∈-cast, ∈-map, map-∈, ∈-keep, keep-∈, keep-map, keep-cong, map-cong, ∈-concatMap, concatMap-∈}
+use Rattle.bytes_order.specs.MemberLaws.{∈-cast, ∈-map, map-∈, ∈-keep, keep-∈, keep-map, keep-cong, map-cong, ∈-concatMap, concatMap-∈, concatMap-keep-map}
 use Rattle.bytes_order.specs.SortLaws.{sort-unique, same-sort, sort-map, ascending-keep}
 use Rattle.update_format.specs.Update.{Id, maxAuthor, Operation, Add, Remove, Insert, Delete, Update}
 use Rattle.rules.specs.Settle.{Row, Table, heldRow, forkedBy, marks, names, removed, tagsOf, tags, settledTable}
@@ -25,7 +25,6 @@ use Rattle.ledger_relations.specs.PlaceTests.{idAt, decodedAt, authorAt, heldAt
 use Rattle.ledger_sorting.specs.declared.Key.the-variants.{Tag}
 use Rattle.ledger_sorting.specs.PlaceLists.{sortedBy}
 use Rattle.report_parts.specs.PlaceParts.{markedAt, marksOf, tagAt, tagOrder}
-use Rattle.report_parts.specs.ListFacts.{concatMap-keep-map}
 use Rattle.ledger_relations.specs.PlaceLaws.{from-used, to-used, place-in, place-decoded, place-author, place-test}
 use Rattle.ledger_relations.specs.RowLaws.{rowAt, row-id, order-∈, ∈-order, table-rows, held-agrees, author-agrees, op-agrees, fork-agrees, op-test-agrees}
 

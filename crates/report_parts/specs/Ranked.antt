@@ -11,7 +11,7 @@ use Rattle.ledger_sorting.specs.PlaceLists.{placesIn, PlaceList}
 
 -- the list is sound, and k is a place
 pub record PlaceAmong (o : Places) (k : ℕ) : Type 0 where
-  pub sound : PlaceList o
+  pub is-list : PlaceList o
   pub place-within : k < places
 
 module _ (l : Book) (s : List ℕ) where
@@ -21,6 +21,6 @@ module _ (l : Book) (s : List ℕ) where
 
   -- both lists are sound, and the entries have room for those of rank n
   pub record RankRoom (order : Places) (n : ℕ) (entries : Places) : Type 0 where
-    pub order-sound : PlaceList order
-    pub entries-sound : PlaceList entries
+    pub order-is-list : PlaceList order
+    pub entries-is-list : PlaceList entries
     pub room : entries .count + length (keep (rankedAt n) (placesIn order)) ≤ places

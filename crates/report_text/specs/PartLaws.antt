@@ -14,10 +14,10 @@ use Rattle.ledger_state.specs.State.{Book}
 use Rattle.ledger_relations.specs.PlaceTests.{idAt, heldAt, waitingAt, voidAt, headAt, shownAt, idOrder}
 use Rattle.report_parts.specs.PlaceParts.{tagAt, tagOrder, entriesOf, valueAt}
 use Rattle.report_text.specs.Text.{updateLineAt}
-use Rattle.report_parts.specs.ListFacts.{concatMap-map, concatMap-keep-map}
 use Rattle.report_parts.specs.PlacePartsLaws.{tags-agree}
 use Rattle.report_parts.specs.ListedLaws.{values-agree}
 use Rattle.ledger_relations.specs.RowLaws.{rowAt, update-id, order-∈, table-rows, held-agrees, waiting-agrees, void-agrees, author-agrees, head-agrees}
+use Rattle.bytes_order.specs.MemberLaws.{concatMap-map, concatMap-keep-map}
 
 module _ {l : Book} {s : List ℕ} {us : List Update} (stands : Stands l s us) where
   -- the lines of the updates whose rows pass a test

@@ -58,7 +58,7 @@ pub record ShownLine (l : Book) (at k : ℕ) : Type 0 where
 -- the page has room for n bytes at byte `at`, for what is printed of the places of a list
 pub record ListOnPage (l : Book) (o : Places) (at n : ℕ) : Type 0 where
   pub used-within : l .used ≤ places
-  pub sound : PlaceList o
+  pub is-list : PlaceList o
   pub page-within : at + n ≤ farthest
 
 -- the list has the places in their order, and the parts that go by standing end at byte `at`

@@ -19,6 +19,9 @@ use report_parts::list;
 use report_parts::marks::marked;
 use report_wording::Part;
 
+// No report is longer.
+pub const MAX_REPORT: usize = 12000;
+
 // The parts that go by standing.
 fn print_standings(l: Ledger, store: &[u8], order: Places, page: &mut [u8]) -> usize
     requires { ⌜ InOrder (bookOf l) (now store) order ⌝ }

@@ -13,18 +13,17 @@ use borrow.Author.Tests.{leb-true, leb-false, eqb-true, eq-eqb}
 use Rattle.bytes_order.specs.Order.{before, same}
 use Rattle.bytes_order.specs.Member.{_∈_, member, keep}
 use Rattle.bytes_order.specs.BoolLaws.{true-false, or-true→, or-left, or-right}
-use Rattle.bytes_order.specs.OrderLaws.{same→eq, eq→same, before→ne}
-use Rattle.bytes_order.specs.MemberLaws.{∈-cast, ∈-append-left, ∈-append-right, append-∈, map-∈, ∈→member, member→∈, ∈-keep, keep-∈}
+use Rattle.bytes_order.specs.OrderLaws.{same→eq, eq→same, before→ne, before-first}
+use Rattle.bytes_order.specs.MemberLaws.{∈-cast, ∈-append-left, ∈-append-right, append-∈, map-∈, ∈→member, member→∈, ∈-keep, keep-∈, take-∈, front-∈, some-taken}
 use Rattle.bytes_order.specs.Distinct.{Distinct, Identifies}
 use Rattle.bytes_order.specs.Ascending.{Ascending}
 use Rattle.bytes_order.specs.Sort.{sort}
-use Rattle.bytes_order.specs.SortLaws.{ascending-keep, sort-∈, ∈-sort, sort-ascending, sort-length, sort-key}
+use Rattle.bytes_order.specs.SortLaws.{ascending-keep, sort-∈, ∈-sort, sort-ascending, sort-length, sort-key, greatest-first}
 use Rattle.update_format.specs.Update.{Id, maxPredecessors, Update}
 use Rattle.rules.specs.Standing.{Ancestor}
 use Rattle.rules.specs.ReadOff.{Marked}
 use Rattle.rules.specs.Settle.{Row, Table, heldRow, covered, heads, rank, rankKey}
 use Rattle.rules.specs.Decides.{Decides}
-use Rattle.bytes_order.specs.ListLaws.{before-first, take-∈, front-∈, some-taken, greatest-first}
 use Rattle.rules.specs.TableLaws.{HeldRow, any-held→, keep-held→, →keep-held, row-eq, row-held, row-id, ancestor→above, above-trans, rank-bound, rank-less}
 use Rattle.rules.specs.Writing.{heldBy, ranked, atOrAbove, firstHeads, others, chosenFrom, chosen}
 

@@ -5,14 +5,13 @@ use mathlib.Core.Logic.{_⊎_, inl, inr, ⊎-elim}
 use mathlib.Core.List.{List, [], _∷_, _++_}
 use Prim.Native.Nat.{ℕ}
 use Rattle.bytes_order.specs.Member.{_∈_, SameMembers}
-use Rattle.bytes_order.specs.MemberLaws.{∈-singleton, ∈-append-left, append-∈}
+use Rattle.bytes_order.specs.MemberLaws.{∈-singleton, ∈-append-left, append-∈, all-or}
 use Rattle.bytes_order.specs.Distinct.{Distinct}
 use Rattle.bytes_order.specs.DistinctLaws.{distinct-eq}
 use Rattle.update_format.specs.Update.{Id, Operation, Add, Remove, Insert, Delete, Update}
 use Rattle.rules.specs.Standing.{Ancestor, AddAncestor, InsertAncestor, Valid, Known, Fine, Held, Void, Waiting}
 use Rattle.rules.specs.ReadOff.{Rank}
 use Rattle.rules.specs.LeastSets.{held-stored, void-stored}
-use Rattle.bytes_order.specs.ListLaws.{all-or}
 
 -- every predecessor of u that is in the set is held
 abbrev pub PredsHeld : (Update → Id) → List Update → Update → Type 0

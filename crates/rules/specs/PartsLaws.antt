@@ -9,8 +9,7 @@ use Rattle.bytes_order.specs.Member.{_∈_, keep}
 use Rattle.bytes_order.specs.MemberLaws.{∈-cast, ∈-map, map-∈, ∈-keep, keep-∈}
 use Rattle.bytes_order.specs.Distinct.{Distinct}
 use Rattle.bytes_order.specs.Ascending.{Ascending}
-use Rattle.bytes_order.specs.SortLaws.{ascending-distinct, ascending-keep, ascending-rekey, ascending-unique, sort-ascending}
-use Rattle.bytes_order.specs.ListLaws.{ascending-map}
+use Rattle.bytes_order.specs.SortLaws.{ascending-distinct, ascending-keep, ascending-rekey, ascending-unique, sort-ascending, ascending-map}
 use Rattle.update_format.specs.Update.{Id, Update}
 use Rattle.rules.specs.Standing.{Held, Void, Waiting}
 use Rattle.rules.specs.ReadOff.{Head, Marked, Present}

@@ -47,6 +47,10 @@ reportText ident parts =
 unfoldable pub reportOf : (Update → Id) → List Update → List ℕ
 reportOf ident S = reportText ident (partsOf ident S)
 
+-- "There are 64 places.": a ledger's set has no more updates
+abbrev pub places : ℕ
+places = 64
+
 -- "none passes 12,000": the bound of `report-length` (`ReportLaws`)
 abbrev pub maxReport : ℕ
 maxReport = 12000

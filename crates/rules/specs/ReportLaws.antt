@@ -17,7 +17,7 @@ use Rattle.rules.specs.Standing.{Held, Void, Waiting}
 use Rattle.rules.specs.Parts.{Parts, ReadFrom}
 use Rattle.rules.specs.Settle.{isInsert, rounds, start, startAll, settledTable, heads, marks, tags, walk, entries, list, partsIn, partsOf}
 use Rattle.bytes_ascii.specs.Ascii.{codes, ascii}
-use Rattle.rules.specs.Report.{partText, reportText, reportOf, maxReport}
+use Rattle.rules.specs.Report.{partText, reportText, reportOf, places, maxReport}
 use Rattle.rules.specs.Decides.{Decides}
 use Rattle.rules.specs.LeastSets.{held-stored, void-stored}
 use Rattle.rules.specs.Settling.{settled-decides, covers}
@@ -80,7 +80,7 @@ pub empty-length : (ident : Update → Id) → length (reportOf ident []) ≡ 72
 unfolding ascii codes
 empty-length ident = ap length (empty-text ident)
 
-pub report-length : (ident : Update → Id) → ((u : Update) → length (ident u) ≡ idLength) → (S : List Update) → Distinct ident S → length S ≤ 64
+pub report-length : (ident : Update → Id) → ((u : Update) → length (ident u) ≡ idLength) → (S : List Update) → Distinct ident S → length S ≤ places
     → ((u : Update) → u ∈ S → Bounded u) → length (reportOf ident S) ≤ maxReport
 unfolding reportOf partsOf isInsert
 report-length ident sized S d few bounded =

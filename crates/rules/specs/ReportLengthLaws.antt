@@ -14,11 +14,11 @@ use Rattle.bytes_order.specs.Distinct.{Distinct}
 use Rattle.bytes_order.specs.DistinctLaws.{distinct-length, distinct-subset-length}
 use Rattle.bytes_order.specs.SortLaws.{sort-∈, sort-length, sort-distinct}
 use Rattle.update_format.specs.Update.{Id, idLength, tagLength, maxAuthor, Operation, Add, Remove, Insert, Delete, BoundedOperation, add, remove, insert, delete, Update, Bounded}
-use Rattle.bytes_order.specs.ListLaws.{concatMap-length, keep-concatMap-length}
 use Rattle.rules.specs.Settle.{Row, Table, Verdict, held, waiting, void, isHeld, isWaiting, isVoid, isInsert, heads, marks, tagsOf, tags, entries, valuesOf, list, updatesIn, partsIn}
 use Rattle.bytes_ascii.specs.Ascii.{codes, ascii, hex, decimal}
 use Rattle.bytes_ascii.specs.AsciiLaws.{hex-length, decimal-length}
 use Rattle.rules.specs.Report.{updateLine, bytesLine, idLine, markLine, partText, reportText}
+use Rattle.bytes_order.specs.CountLaws.{concatMap-length, keep-concatMap-length}
 
 -- lines
 

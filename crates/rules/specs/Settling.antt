@@ -15,15 +15,14 @@ use Rattle.bytes_order.specs.Sort.{sort}
 use Rattle.bytes_order.specs.Ascending.{Ascending}
 use Rattle.bytes_order.specs.MemberLaws.{∈-cases, ∈-cast, ∈-map, map-∈, keep-length, ∈→any, ∈→all}
 use Rattle.bytes_order.specs.DistinctLaws.{distinct-eq, distinct-identifies, distinct-map}
-use Rattle.bytes_order.specs.SortLaws.{sort-∈, ∈-sort, sort-ascending, sort-distinct, sort-length}
+use Rattle.bytes_order.specs.SortLaws.{sort-∈, ∈-sort, sort-ascending, sort-distinct, sort-length, ascending-map}
 use Rattle.update_format.specs.Update.{Id, Update}
 use Rattle.rules.specs.Standing.{Held, Void, Waiting}
 use Rattle.rules.specs.Settle.{Verdict, held, waiting, void, Row, Table, isWaiting, heldIn, voidIn, ruled, judge, round, rounds, start, startAll, settledTable}
 use Rattle.rules.specs.Decides.{Decides}
 use Rattle.rules.specs.LeastSets.{SoundVerdicts, Stable, settled-waiting}
-use Rattle.bytes_order.specs.ListLaws.{countMembers, map-lowers, ascending-map}
-use Rattle.rules.specs.SettlingTable.{SoundRow, SoundTable, Undecided, RowOutcome, stays, rules, judge-outcome, judge-id}
-use Rattle.rules.specs.SettlingTable.{round-sound, held-in, void-in, row-of, right-as}
+use Rattle.rules.specs.SettlingTable.{SoundRow, SoundTable, Undecided, RowOutcome, stays, rules, judge-outcome, judge-id, round-sound, held-in, void-in, row-of, right-as}
+use Rattle.bytes_order.specs.CountLaws.{countMembers, map-lowers}
 
 -- the verdict of the row with an id
 verdictIn : Table → Id → Verdict

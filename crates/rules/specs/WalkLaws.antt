@@ -12,7 +12,7 @@ use Rattle.bytes_order.specs.MemberLaws.{∈-cases, ∈-cast, ∈-reverse, reve
 use Rattle.bytes_order.specs.BoolLaws.{true-false, and-true→, and-true}
 use Rattle.bytes_order.specs.OrderLaws.{same→eq, eq→same, decEq}
 use Rattle.bytes_order.specs.Distinct.{Distinct, distinct-nil, distinct-cons, Identifies}
-use Rattle.bytes_order.specs.DistinctLaws.{distinct-append}
+use Rattle.bytes_order.specs.DistinctLaws.{distinct-append, distinct-reverse, distinct-rekey}
 use Rattle.bytes_order.specs.Sort.{sort}
 use Rattle.bytes_order.specs.SortLaws.{sort-∈, ∈-sort, sort-distinct}
 use Rattle.update_format.specs.Update.{Id, Insert, Update}
@@ -20,7 +20,6 @@ use Rattle.rules.specs.Standing.{beginning, InsertAncestor}
 use Rattle.rules.specs.Settle.{Row, Table, heldRow, rank, anchored, siblings, under, walk, siblingKey}
 use Rattle.rules.specs.Decides.{Decides}
 use Rattle.rules.specs.LeastSets.{held-ancestors}
-use Rattle.bytes_order.specs.ListLaws.{distinct-reverse, distinct-rekey}
 use Rattle.rules.specs.TableLaws.{not-true→, not-true, anchored→, →anchored, insert-anchor, HeldRow, keep-held→, →keep-held, row-eq, row-held, row-id, held-row, rank-less, anchor-above}
 
 -- a held Insert

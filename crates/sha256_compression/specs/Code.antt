@@ -21,7 +21,7 @@ pub record Rotation (n : ℕ) : Type 0 where
   pub within-word : n < 32
 
 -- what is asked for n steps from step t on, with the constants k
-pub record Steps (t n : ℕ) (k : List ℕ) : Type 0 where
+pub record StepsFrom (t n : ℕ) (k : List ℕ) : Type 0 where
   pub steps-within : t + n ≤ 64
   pub constants : k ≡ K
 

@@ -1,11 +1,11 @@
 // The functions, constants and compression of SHA-256 (FIPS 180-4, 4.1.2, 4.2.2 and 6.2.2). The contracts cite the standard's definitions, in its own
-// names, of crate `fips180`.
+// names, of crate `sha256_fips180`.
 ghost use mathlib.Core.Path.{_≡_};
 ghost use mathlib.Core.List.{List};
 ghost use Prim.Native.Nat.{ℕ, _+_, _≤_, _<_};
 ghost use lib.ListN.{length};
 ghost use Rattle.sha256_fips180.specs.Fips180.{ROTR, Ch, Maj, Σ₀, Σ₁, σ₀, σ₁, K, wordAt, words, Working, T₁, T₂, step, steps, added, compress};
-ghost use Rattle.sha256_compression.specs.Code.{working, Scheduled, Rotation, Steps, Loadable, Blocks};
+ghost use Rattle.sha256_compression.specs.Code.{working, Scheduled, Rotation, StepsFrom, Loadable, Blocks};
 
 // K₀ .. K₆₃ of 4.2.2.
 pub const CONSTANTS: [u32; 64] = [
@@ -181,7 +181,7 @@ fn step(s: State, k: u32, w: u32) -> State
 
 // Step t: from the first t steps to the first t + 1, of any hash value H.
 fn step_at(s: State, k: &[u32; 64], w: &[u32; 64], t: usize) -> State
-    requires { ⌜ Steps t 1 (now k) ⌝ }
+    requires { ⌜ StepsFrom t 1 (now k) ⌝ }
     ensures { λ r. ⌜ ((H : Working) → working s ≡ steps t (now (w .entry)) H → working r ≡ steps (t + 1) (now (w .entry)) H) ⌝ }
 {
     step(s, k[t], w[t])
@@ -189,7 +189,7 @@ fn step_at(s: State, k: &[u32; 64], w: &[u32; 64], t: usize) -> State
 
 // Eight steps: written out, they leave no move of a variable to the next.
 fn eight_steps(s: State, k: &[u32; 64], w: &[u32; 64], t: usize) -> State
-    requires { ⌜ Steps t 8 (now k) ⌝ }
+    requires { ⌜ StepsFrom t 8 (now k) ⌝ }
     ensures { λ r. ⌜ ((H : Working) → working s ≡ steps t (now (w .entry)) H → working r ≡ steps (t + 8) (now (w .entry)) H) ⌝ }
 {
     let s1 = step_at(s, k, w, t);

@@ -61,14 +61,14 @@ blank : Front 0 [] (replicate 32 0)
 blank = record { size = refl; front = refl }
 
 -- one more word written
-written
+word-written
     : {p d d′ : List ℕ} (at x : ℕ)
     → Front at p d
     → at ≤ 32
     → d′ ≡ splice d at 4 (bigEndian 4 x)
     → length d′ ≡ length d
     → Front (at + 4) (p ++ bigEndian 4 x) d′
-written {p} {d} {d′} at x f h e k =
+word-written {p} {d} {d′} at x f h e k =
     record {
       size = k ∙ f .size;
       front = rw (e, take-splice d (bigEndian 4 x) at 4 (length-bigEndian 4 x) (omega arith), f .front);
@@ -100,12 +100,12 @@ pub eight-written
     → d8 ≡ bytesOf s
 unfolding bytesOf
 eight-written s {d8 = d8} e1 k1 e2 k2 e3 k3 e4 k4 e5 k5 e6 k6 e7 k7 e8 k8 =
-    let f1 : Front 4 _ _ = written 0 (s .a) blank (omega arith) e1 k1 in
-    let f2 : Front 8 _ _ = written 4 (s .b) f1 (omega arith) e2 k2 in
-    let f3 : Front 12 _ _ = written 8 (s .c) f2 (omega arith) e3 k3 in
-    let f4 : Front 16 _ _ = written 12 (s .d) f3 (omega arith) e4 k4 in
-    let f5 : Front 20 _ _ = written 16 (s .e) f4 (omega arith) e5 k5 in
-    let f6 : Front 24 _ _ = written 20 (s .f) f5 (omega arith) e6 k6 in
-    let f7 : Front 28 _ _ = written 24 (s .g) f6 (omega arith) e7 k7 in
-    let f8 : Front 32 _ _ = written 28 (s .h) f7 (omega arith) e8 k8 in
+    let f1 : Front 4 _ _ = word-written 0 (s .a) blank (omega arith) e1 k1 in
+    let f2 : Front 8 _ _ = word-written 4 (s .b) f1 (omega arith) e2 k2 in
+    let f3 : Front 12 _ _ = word-written 8 (s .c) f2 (omega arith) e3 k3 in
+    let f4 : Front 16 _ _ = word-written 12 (s .d) f3 (omega arith) e4 k4 in
+    let f5 : Front 20 _ _ = word-written 16 (s .e) f4 (omega arith) e5 k5 in
+    let f6 : Front 24 _ _ = word-written 20 (s .f) f5 (omega arith) e6 k6 in
+    let f7 : Front 28 _ _ = word-written 24 (s .g) f6 (omega arith) e7 k7 in
+    let f8 : Front 32 _ _ = word-written 28 (s .h) f7 (omega arith) e8 k8 in
     sym (take-all 32 d8 (omega arith)) ∙ f8 .front ∙ simp append-assoc

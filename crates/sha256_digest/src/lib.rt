@@ -1,5 +1,5 @@
 // SHA-256 (FIPS 180-4): padding, the blocks one after the other, and the digest. The contracts cite the standard's definitions, in its own names, of
-// crate `fips180`.
+// crate `sha256_fips180`.
 ghost use mathlib.Core.Path.{_≡_};
 ghost use mathlib.Core.List.{_++_};
 ghost use Prim.Native.Nat.{_+_, _/_, _≤_, _<_};

@@ -90,7 +90,7 @@ fn ask_for(l: Ledger, store: &[u8], request: &[u8], out: &mut [u8]) -> Wrote {
 }
 
 // Puts a written update in a slot, and prints its length and id.
-fn written(slots: &mut [u8], s: usize, update: &[u8]) {
+fn keep_written(slots: &mut [u8], s: usize, update: &[u8]) {
     set(slots, s, update);
     text(b"(written ");
     decimal(update.len());
@@ -101,7 +101,7 @@ fn written(slots: &mut [u8], s: usize, update: &[u8]) {
 // Writes what a slot asks for, and puts what was written in its place. Where the write is refused, the slot keeps what it asked for.
 pub fn write(l: Ledger, store: &[u8], slots: &mut [u8], out: &mut [u8], s: usize) {
     match ask_for(l, store, bytes_of(slots, s), out) {
-        Wrote::Written(n) => written(slots, s, slice_of(out, 0, n)),
+        Wrote::Written(n) => keep_written(slots, s, slice_of(out, 0, n)),
         Wrote::Refused(r) => answered(Answer::Refused(r)),
     }
 }

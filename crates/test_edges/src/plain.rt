@@ -13,6 +13,7 @@ use crate::commands::WRITE;
 use crate::compare::compare;
 use crate::show;
 use crate::show::text;
+use ledger::MAX_REPORT;
 use ledger_state::STORE_LENGTH;
 use test_script::LENGTHS;
 use test_script::build;
@@ -28,7 +29,7 @@ pub const FILL: u8 = 165;
 // A byte more than a store has, and what every report fits.
 pub const STORE_ROOM: usize = STORE_LENGTH + 1;
 
-pub const BUFFER_ROOM: usize = 12000;
+pub const BUFFER_ROOM: usize = MAX_REPORT;
 
 // Fills a store or an output buffer.
 pub fn fill(s: &mut [u8]) {

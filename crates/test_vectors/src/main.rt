@@ -1,6 +1,6 @@
 // Writes the SHA-256 digests of NIST's examples of at most 1,005 bytes, and of messages about the ends
 // of blocks. Each line is COUNT BYTES DIGEST: the message is BYTES, in hexadecimal, repeated COUNT
-// times. The expected lines are NIST's own (tests/data/nist-sha256.txt); those of `edges` come from
+// times. The expected lines are NIST's own (tests/data/nist-sha256.txt); those of `test_edges` come from
 // another implementation.
 fn main() {
     whole(b"");

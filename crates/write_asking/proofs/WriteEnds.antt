@@ -19,7 +19,7 @@ use Rattle.ledger_state.specs.Stands.{ident, Stands}
 use Rattle.bytes_print.specs.Page.{Prints}
 use Rattle.write_operations.specs.declared.Kind.{Kind}
 use Rattle.write_operations.specs.Operations.{operationFor}
-use Rattle.ledger_refusals.specs.Numbers.{row11, row12, putBytes, refusedBy}
+use Rattle.ledger_refusals.specs.Numbers.{row11Number, row12Number, putBytes, refusedBy}
 use Rattle.write_layout.specs.Written.{writtenAt}
 use Rattle.write_layout.specs.WrittenLaws.{laid-out}
 use Rattle.write_layout.specs.ChooseRight.{chosen-right, writable-holds, unwritable-fails}
@@ -86,13 +86,13 @@ module _ (l : Book) (s : List ℕ) (a : ℕ) (k : Kind) (t : List ℕ) (i : Id) 
         go true f = let h = writable-holds l s us stands a op f in absurd (never (h .0) (w .judged ∙ h .1))
         go false f = refl
 
-    refused : ((h : ℕ) → j ≡ Holds h → ⊥) → Writing l s a k t i named o (refusedBy row12) o
+    refused : ((h : ℕ) → j ≡ Holds h → ⊥) → Writing l s a k t i named o (refusedBy row12Number) o
     refused never = invalid (w .asked .fits) (w .asked .author-small) (w .asked .named-good) (w .asked .named-ordered) (may-not never)
 
-    pub ended-fails : j ≡ Fails → Writing l s a k t i named o (refusedBy row12) o
+    pub ended-fails : j ≡ Fails → Writing l s a k t i named o (refusedBy row12Number) o
     ended-fails e = refused (λ h f. holds-fails (sym f ∙ e))
 
-    pub ended-waits : j ≡ Waits → Writing l s a k t i named o (refusedBy row12) o
+    pub ended-waits : j ≡ Waits → Writing l s a k t i named o (refusedBy row12Number) o
     ended-waits e = refused (λ h f. holds-waits (sym f ∙ e))
 
     is-written : WrittenUpdate l s a op new
@@ -105,7 +105,7 @@ module _ (l : Book) (s : List ℕ) (a : ℕ) (k : Kind) (t : List ℕ) (i : Id) 
       of-rules = λ us stands. chosen-right l s us stands a op;
     }
 
-    pub ended-short : (h : ℕ) → j ≡ Holds h → length o < n → Writing l s a k t i named o (refusedBy row11) o
+    pub ended-short : (h : ℕ) → j ≡ Holds h → length o < n → Writing l s a k t i named o (refusedBy row11Number) o
     ended-short h e g =
         short new (w .asked .fits) (w .asked .author-small) (w .asked .named-good) (w .asked .named-ordered) (may h e) is-written
         (subst (λ (m : ℕ). length o < m) (w .long) g)

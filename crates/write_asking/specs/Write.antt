@@ -11,7 +11,7 @@ use Rattle.ledger_state.specs.Row1.{sound}
 use Rattle.ledger_state.specs.Stands.{ident, Stands}
 use Rattle.write_operations.specs.declared.Kind.{Kind}
 use Rattle.write_operations.specs.Operations.{operationFor, badNamed, unorderedNamed}
-use Rattle.ledger_refusals.specs.Numbers.{row1, row4, row8, row9, row11, row12, refusalNumber, Output, putBytes, refusedBy}
+use Rattle.ledger_refusals.specs.Numbers.{row1Number, row4Number, row8Number, row9Number, row11Number, row12Number, refusalNumber, Output, putBytes, refusedBy}
 use Rattle.write_asking.specs.declared.Wrote.{Wrote}
 use Rattle.write_asking.specs.declared.Wrote.the-variants.{Written, Refused}
 
@@ -33,19 +33,19 @@ pub record WrittenUpdate (l : Book) (s : List ℕ) (a : ℕ) (o : Operation) (u 
 -- Left free for a ledger that stands for no set of updates, where rows 1, 4, 8 and 9 do not apply: which of row 12, row 11 and an update comes, since the rules say only
 -- of a set which operation would be void. Even then row 11 comes only for a buffer shorter than such an update, and so never for one of 533 bytes.
 pub data Writing (l : Book) (s : List ℕ) (a : ℕ) (k : Kind) (t : List ℕ) (i : Id) (named o : List ℕ) : Output → List ℕ → Type 0 where
-  unfit : sound l s ≡ false → Writing l s a k t i named o (refusedBy row1) o
-  author : sound l s ≡ true → maxAuthor < a → Writing l s a k t i named o (refusedBy row4) o
-  layout : sound l s ≡ true → a ≤ maxAuthor → badNamed named ≡ true → Writing l s a k t i named o (refusedBy row8) o
+  unfit : sound l s ≡ false → Writing l s a k t i named o (refusedBy row1Number) o
+  author : sound l s ≡ true → maxAuthor < a → Writing l s a k t i named o (refusedBy row4Number) o
+  layout : sound l s ≡ true → a ≤ maxAuthor → badNamed named ≡ true → Writing l s a k t i named o (refusedBy row8Number) o
   unordered : sound l s ≡ true → a ≤ maxAuthor → badNamed named ≡ false → unorderedNamed named ≡ true
-      → Writing l s a k t i named o (refusedBy row9) o
+      → Writing l s a k t i named o (refusedBy row9Number) o
   -- "the writer's operation would be void": for a ledger that stands
   invalid : sound l s ≡ true → a ≤ maxAuthor → badNamed named ≡ false → unorderedNamed named ≡ false
       → ((us : List Update) → Stands l s us → writableOf ident us a (operationFor k t i named) ≡ false)
-      → Writing l s a k t i named o (refusedBy row12) o
+      → Writing l s a k t i named o (refusedBy row12Number) o
   short : (u : Update) → sound l s ≡ true → a ≤ maxAuthor → badNamed named ≡ false → unorderedNamed named ≡ false
       → ((us : List Update) → Stands l s us → writableOf ident us a (operationFor k t i named) ≡ true)
       → WrittenUpdate l s a (operationFor k t i named) u → length o < length (encode u)
-      → Writing l s a k t i named o (refusedBy row11) o
+      → Writing l s a k t i named o (refusedBy row11Number) o
   written : (u : Update) → sound l s ≡ true → a ≤ maxAuthor → badNamed named ≡ false → unorderedNamed named ≡ false
       → ((us : List Update) → Stands l s us → writableOf ident us a (operationFor k t i named) ≡ true)
       → WrittenUpdate l s a (operationFor k t i named) u → length (encode u) ≤ length o

@@ -16,8 +16,7 @@ use Rattle.bytes_order.specs.BoolLaws.{true-false, not-true→false, and-true�
 use Rattle.bytes_order.specs.OrderLaws.{before-irrefl, before-trans}
 use Rattle.bytes_order.specs.MemberLaws.{∈-cast, ∈-map, map-∈, ∈-keep, keep-∈, keep-none, member→∈, ∈→member}
 use Rattle.bytes_order.specs.DistinctLaws.{distinct-keep, distinct-keys, distinct-same-length}
-use Rattle.bytes_order.specs.SortLaws.{sort-∈, ∈-sort, sort-ascending}
-use Rattle.bytes_order.specs.ListLaws.{greatest-first}
+use Rattle.bytes_order.specs.SortLaws.{sort-∈, ∈-sort, sort-ascending, greatest-first}
 use Rattle.update_format.specs.Update.{Update}
 use Rattle.rules.specs.Settle.{Row, Table, heldRow, rank, settledTable, rankKey}
 use Rattle.rules.specs.Decides.{Decides}

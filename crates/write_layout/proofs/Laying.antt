@@ -34,4 +34,4 @@ pub update-bytes : (l : Book) (s : List ℕ) (a : ℕ) (o : Operation) (p : Plac
 unfolding encode writtenAt
 update-bytes l s a o p h =
     ap₂ (λ (n : ℕ) (xs : List ℕ). 1 ∷ a ∷ n ∷ (joined (map (idAt l s) xs) ++ encodeOperation o))
-    (sym (length-map (chosenPlaces l s a) (idAt l s) ∙ ap length (sym (h .are)) ∙ length-is p (h .sound))) (h .are)
+    (sym (length-map (chosenPlaces l s a) (idAt l s) ∙ ap length (sym (h .are)) ∙ length-is p (h .is-list))) (h .are)

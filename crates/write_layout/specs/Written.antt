@@ -23,7 +23,7 @@ pub record IdAt (k at : ℕ) : Type 0 where
   pub at-within : at ≤ farthestField
 
 pub record IdsAt (o : Places) (at : ℕ) : Type 0 where
-  pub sound : PlaceList o
+  pub is-list : PlaceList o
   pub at-within : at ≤ firstPredecessor
 
 pub record Composable (l : Book) (named : List ℕ) : Type 0 where

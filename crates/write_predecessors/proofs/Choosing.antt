@@ -10,8 +10,7 @@ use lib.Dec.{ltb, leb, eqb}
 use lib.ListN.{length, getD, take}
 use lib.Seq.{getD-take, take-take, take-all}
 use Rattle.bytes_order.specs.Member.{keep}
-use Rattle.bytes_order.specs.MemberLaws.{keep-append, all→∈, ∈→all}
-use Rattle.bytes_order.specs.ListLaws.{take-∈}
+use Rattle.bytes_order.specs.MemberLaws.{keep-append, all→∈, ∈→all, take-∈}
 use Rattle.update_format.specs.Update.{maxPredecessors}
 use Rattle.bitset.specs.Below.{firstBelow, orElse}
 use Rattle.bitset.specs.BelowLaws.{firstBelow-more, firstBelow-some→, firstBelow-some←, firstBelow-none→}
@@ -28,7 +27,7 @@ use Rattle.write_predecessors.specs.Choose.{headsOf, aboveAt, eightWith,
 
 -- heads
 
-module _ (l : Book) (s : List ℕ) (o : Places) (sound : PlaceList o) where
+module _ (l : Book) (s : List ℕ) (o : Places) (is-list : PlaceList o) where
   pub heads-start : [] ≡ keep (headAt l s) (take 0 (placesIn o))
   unfolding keep
   heads-start = refl
@@ -38,11 +37,11 @@ module _ (l : Book) (s : List ℕ) (o : Places) (sound : PlaceList o) where
   heads-more i h e =
       ap (λ (xs : List ℕ). xs ++ keep (headAt l s) (getD (o .items) i 0 ∷ [])) e
       ∙ sym (keep-append (headAt l s) (take i (placesIn o)) (getD (o .items) i 0 ∷ []))
-      ∙ ap (keep (headAt l s)) (sym (passed o sound i h))
+      ∙ ap (keep (headAt l s)) (sym (passed o is-list i h))
 
   pub heads-end : (i : ℕ) → o .count ≤ i → placesIn o ≡ idOrder l s → keep (headAt l s) (take i (placesIn o)) ≡ headsOf l s
   unfolding headsOf
-  heads-end i h e = ap (keep (headAt l s)) (take-all i (placesIn o) (omega (arith, length-is o sound)) ∙ e)
+  heads-end i h e = ap (keep (headAt l s)) (take-all i (placesIn o) (omega (arith, length-is o is-list)) ∙ e)
 
 -- a head at or above a place
 
@@ -55,7 +54,7 @@ above-other l t h n f = f ∙ ap (λ (b : Bool). b || has (placeAt l h .ancestor
 
 module _ (l : Book) (s : List ℕ) (o : Places) (lists : Lists o (headsOf l s)) (t : ℕ) where
   heads-length : length (headsOf l s) ≡ o .count
-  heads-length = ap length (sym (lists .are)) ∙ length-is o (lists .sound)
+  heads-length = ap length (sym (lists .are)) ∙ length-is o (lists .is-list)
 
   pub head-is : (i : ℕ) → i < o .count → getD (headsOf l s) i 0 ≡ getD (o .items) i 0
   head-is i h = ap (λ (xs : List ℕ). getD xs i 0) (sym (lists .are)) ∙ getD-take (o .count) (o .items) i 0 h
@@ -102,7 +101,7 @@ pub first-lists : (o : Places) (n : ℕ) → PlaceList o → n ≤ o .count → 
 first-lists o n s h =
     let e : take n (o .items) ≡ take n (placesIn o) = sym (take-take n (o .count) (o .items) h) in
     record {
-      sound = record {
+      is-list = record {
         whole = s .whole;
         room = omega (arith, s .room);
         inside = ap small e ∙ ∈→all isPlace (take n (placesIn o)) (λ k m. all→∈ isPlace (placesIn o) (s .inside) k (take-∈ n (placesIn o) m));
@@ -133,7 +132,7 @@ module _ (l : Book) (s : List ℕ) (o : Places) (lists : Lists o (headsOf l s)) 
     unfolding eightFor eightWith
     eight-high j e h g {x} a c =
         ap (λ (n : ℕ). ins n (getD (o .items) j 0) (placesIn x)) (sym c)
-        ∙ ins-end x (a .sound) (getD (o .items) j 0)
+        ∙ ins-end x (a .is-list) (getD (o .items) j 0)
         ∙ ap₂ (λ (xs : List ℕ) (k : ℕ). xs ++ (k ∷ [])) (a .are ∙ ap (take (maxPredecessors - 1)) (lists .are)) (sym (head-is l s o lists t j g))
         ∙ sym
         (ap (eightWith l s) e

@@ -45,5 +45,5 @@ module _ (l : Book) (s : List ℕ) where
 
 -- the list is sound and has n places or more
 pub record FirstOf (o : Places) (n : ℕ) : Type 0 where
-  pub sound : PlaceList o
+  pub is-list : PlaceList o
   pub count-within : n ≤ o .count

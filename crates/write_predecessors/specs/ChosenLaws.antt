@@ -11,9 +11,8 @@ use Rattle.bytes_order.specs.Member.{_∈_, member, keep}
 use Rattle.bytes_order.specs.Sort.{sort}
 use Rattle.bytes_order.specs.BoolLaws.{and-true→}
 use Rattle.bytes_order.specs.OrderLaws.{same-refl, ne→same-false}
-use Rattle.bytes_order.specs.MemberLaws.{append-∈, keep-∈, keep-map, keep-cong, keep-all, map-cong}
+use Rattle.bytes_order.specs.MemberLaws.{append-∈, keep-∈, keep-map, keep-cong, keep-all, map-cong, take-∈}
 use Rattle.bytes_order.specs.SortLaws.{sort-∈, sort-sorted, sort-map, sort-cong}
-use Rattle.bytes_order.specs.ListLaws.{take-∈}
 use Rattle.update_format.specs.Update.{Id, maxPredecessors, Update}
 use Rattle.rules.specs.Settle.{Row, Table, heldRow, covered, heads, settledTable}
 use Rattle.rules.specs.ChoiceLaws.{rowId}

@@ -14,10 +14,9 @@ use Rattle.bytes_order.specs.Member.{_∈_, keep, SameMembers}
 use Rattle.bytes_order.specs.Distinct.{Distinct, Identifies}
 use Rattle.bytes_order.specs.Ascending.{Ascending, ascending-nil, ascending-cons}
 use Rattle.bytes_order.specs.Sort.{sort}
-use Rattle.bytes_order.specs.MemberLaws.{∈-cases, ∈-singleton, ∈-append-left, ∈-append-right, append-∈, keep-∈, keep-true, keep-false, keep-all, keep-none, same-members-refl, getD-∈, ∈-getD}
+use Rattle.bytes_order.specs.MemberLaws.{∈-cases, ∈-singleton, ∈-append-left, ∈-append-right, append-∈, keep-∈, keep-true, keep-false, keep-all, keep-none, same-members-refl, getD-∈, ∈-getD, take-∈}
 use Rattle.bytes_order.specs.DistinctLaws.{distinct-head, distinct-tail}
 use Rattle.bytes_order.specs.SortLaws.{ascending-head, ascending-tail, ascending-append, ascending-distinct, ascending-identifies, sort-unique}
-use Rattle.bytes_order.specs.ListLaws.{take-∈}
 
 pub take-map : {A B : Type 0} (f : A → B) (n : ℕ) (xs : List A) → take n (map f xs) ≡ map f (take n xs)
 take-map f zero xs = refl

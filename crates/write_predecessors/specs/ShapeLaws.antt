@@ -11,9 +11,8 @@ use lib.Dec.{leb, ltb}
 use borrow.Author.Tests.{leb-true, ltb-false}
 use Rattle.bytes_order.specs.Member.{_∈_}
 use Rattle.bytes_order.specs.Ascending.{Ascending}
-use Rattle.bytes_order.specs.MemberLaws.{∈-cast, ∈-singleton, append-∈, keep-∈, getD-∈}
+use Rattle.bytes_order.specs.MemberLaws.{∈-cast, ∈-singleton, append-∈, keep-∈, getD-∈, take-∈}
 use Rattle.bytes_order.specs.SortLaws.{ascending-keep, sort-∈, sort-ascending}
-use Rattle.bytes_order.specs.ListLaws.{take-∈}
 use Rattle.update_format.specs.Update.{maxPredecessors}
 use Rattle.bitset.specs.Below.{upTo, firstBelow}
 use Rattle.bitset.specs.BelowLaws.{upTo-∈, firstBelow-some→}

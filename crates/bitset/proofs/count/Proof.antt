@@ -1,4 +1,4 @@
--- `bits::count` meets its contract: a word has at most 64 places.
+-- `count` meets its contract: a word has at most 64 places.
 use native.Mathlib.Omega.{arith}
 use borrow.Author.Needs.{needs}
 use lib.Count.{ones-le}

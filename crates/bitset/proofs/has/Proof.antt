@@ -1,4 +1,4 @@
--- `bits::has` meets its contract: the lowest digit of the shifted word is its place k, and a word has no place past its last.
+-- `has` meets its contract: the lowest digit of the shifted word is its place k, and a word has no place past its last.
 use Prim.Native.Nat.{ℕ, _/_, _^_}
 use native.Mathlib.Omega.{arith}
 use borrow.Author.Needs.{needs}

@@ -1,4 +1,4 @@
--- `bits::including` meets its contract: `1 << k` is 2 ^ k where k is below 64.
+-- `including` meets its contract: `1 << k` is 2 ^ k where k is below 64.
 use native.Mathlib.Omega.{arith}
 use native.Mathlib.Nat.{one-mul}
 use borrow.Author.Needs.{needs}

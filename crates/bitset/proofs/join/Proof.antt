@@ -1,4 +1,4 @@
--- `bits::join` meets its contract.
+-- `join` meets its contract.
 use borrow.Author.Needs.{needs}
 use Rattle.bitset.specs.Bits.{join}
 use Rattle.bitset.proofs.join.Statement.{statement}

@@ -1,4 +1,4 @@
--- `bits::meet` meets its contract.
+-- `meet` meets its contract.
 use borrow.Author.Needs.{needs}
 use Rattle.bitset.specs.Bits.{meet}
 use Rattle.bitset.proofs.meet.Statement.{statement}

@@ -1,4 +1,4 @@
--- `bits::within` meets its contract: a word is within its 64 places.
+-- `within` meets its contract: a word is within its 64 places.
 use native.Mathlib.Omega.{arith}
 use borrow.Author.Needs.{needs}
 use mathlib.Core.Path.{sym}

@@ -1,4 +1,4 @@
--- `copying::copy` meets its contract: `i` bytes are copied, and the others are as they were.
+-- `copy` meets its contract: `i` bytes are copied, and the others are as they were.
 use Prim.Native.Nat.{ℕ, suc, _+_, _-_, _≤_, _<_}
 use mathlib.Core.Path.{_≡_}
 use mathlib.Core.List.{List, [], _∷_, _++_, append-assoc}
@@ -31,33 +31,49 @@ Inv-loop d₀ s i₀ d i = (i ≤ length s) × (length d ≡ length d₀) × (d 
 abbrev μ-loop : tie.MeasureT-loop
 μ-loop d₀ s i₀ d i = length s - i
 
+-- places of the code, each from a later one
+abbrev shared-slice-known→loop : tie.After-shared-slice-known Inv-loop μ-loop → tie.At-loop Inv-loop μ-loop
+shared-slice-known→loop c = c .before .before
+
 loop-again : tie.Need-loop-again Inv-loop μ-loop
-loop-again c = (
-  search needs,
-  simp length-set (c .before .before .loop .inv .1),
-  rw (c .before .before .loop .inv .2) (copied
-      (c .before .before .before .args .d .now)
-      (c .before .before .before .args .s .now)
-      (c .before .before .loop .i)
-      (search needs) (search needs)),
-)
+loop-again c =
+    let at-loop = shared-slice-known→loop c in
+    let at-start = at-loop .before in (
+      search needs,
+      simp length-set (at-loop .loop .inv .1),
+      rw (at-loop .loop .inv .2) (copied
+          (at-start .args .d .now)
+          (at-start .args .s .now)
+          (at-loop .loop .i)
+          (search needs) (search needs)),
+    )
 
 returns : tie.Need-returns Inv-loop μ-loop
 returns c =
-    let e : c .before .loop .i ≡ length (c .before .before .args .s .now) = omega arith in
-    rw (c .before .loop .inv .2, e, take-length)
+    let at-loop = c .before in
+    let at-start = at-loop .before in
+    let e : at-loop .loop .i ≡ length (at-start .args .s .now) = omega arith in
+    rw (at-loop .loop .inv .2, e, take-length)
+
+loop-holds : tie.Need-loop-holds Inv-loop μ-loop
+loop-holds c = search needs
+
+shared-slice-read-d : tie.Need-shared-slice-read-d Inv-loop μ-loop
+shared-slice-read-d c = search needs
+
+slice-write-d : tie.Need-slice-write-d Inv-loop μ-loop
+slice-write-d c = search needs
+
+add-i : tie.Need-add-i Inv-loop μ-loop
+add-i c = search needs
+
+loop-less : tie.Need-loop-less Inv-loop μ-loop
+loop-less c = search needs
+
+same-length : tie.Need-same-length Inv-loop μ-loop
+same-length c = search needs
 
 pub copy-spec : {M : Type 1} → statement M
 copy-spec =
     tie.close
-    (tie.spec
-    Inv-loop
-    μ-loop
-    (λ c. search needs)
-    (λ c. search needs)
-    (λ c. search needs)
-    (λ c. search needs)
-    (λ c. search needs)
-    loop-again
-    (λ c. search needs)
-    returns)
+    (tie.spec Inv-loop μ-loop loop-holds shared-slice-read-d slice-write-d add-i loop-less loop-again same-length returns)

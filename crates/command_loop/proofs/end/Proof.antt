@@ -1,4 +1,4 @@
--- `command::end` meets its contract: what `finish` puts out lies within the buffer, and `write` is to take as many bytes.
+-- `end` meets its contract: what `finish` puts out lies within the buffer, and `write` is to take as many bytes.
 use mathlib.Core.Path.{sym, _∙_}
 use native.Mathlib.Omega.{arith}
 use lib.Seq.{length-take-le}
@@ -9,6 +9,10 @@ use borrow.Author.Needs.{needs}
 use Rattle.command_loop.proofs.end.Statement.{statement}
 use Rattle.command_loop.proofs.end.Tie as tie
 
+-- places of the code, each from a later one
+abbrev written→finish : tie.After-written → tie.After-finish
+written→finish c = c .before .before .before .before .before
+
 finish-requires : tie.Need-finish-requires
 finish-requires c κs = search needs
 
@@ -17,11 +21,14 @@ written-requires c κs = search needs
 
 slice-reshare-prefix-write-all : tie.Need-slice-reshare-prefix-write-all
 slice-reshare-prefix-write-all c =
-    let f = c .before .before .before .before .before .finish in
+    let at-finish = written→finish c in
+    let f = at-finish .finish in
     omega (arith, c .written .ensures, finishes-within (f .ensures), f .kept .1 .1 .1 .1 .0)
 
 slice-aggregate-write-all : tie.Need-slice-aggregate-write-all
-slice-aggregate-write-all c = sym (length-take-le _ _ (slice-reshare-prefix-write-all (c .before)))
+slice-aggregate-write-all c =
+    let at-written = c .before in
+    sym (length-take-le _ _ (slice-reshare-prefix-write-all (at-written)))
 
 write-all-requires : tie.Need-write-all-requires
 write-all-requires c κs = search needs
@@ -34,14 +41,17 @@ same-length-2 c = search needs
 
 returns : tie.Need-returns
 returns c =
-    let w = c .before .before in
-    let f = w .before .before .before .before .before .finish in
+    let at-write-all-arg = c .before in
+    let at-written = at-write-all-arg .before in
+    let at-finish = written→finish at-written in
+    let f = at-finish .finish in
     record {
       values = endValues (f .result);
       finishes = f .ensures;
-      writes = writes-all (sym (w .written .ensures) ∙ slice-aggregate-write-all (c .before)) (c .write-all .ensures);
+      writes = writes-all (sym (at-written .written .ensures) ∙ slice-aggregate-write-all (at-write-all-arg)) (c .write-all .ensures);
     }
 
 pub end-spec : {M : Type 1} → statement M
 end-spec =
-    tie.close (tie.spec finish-requires written-requires slice-reshare-prefix-write-all slice-aggregate-write-all write-all-requires same-length same-length-2 returns)
+    tie.close
+    (tie.spec finish-requires written-requires slice-reshare-prefix-write-all slice-aggregate-write-all write-all-requires same-length same-length-2 returns)

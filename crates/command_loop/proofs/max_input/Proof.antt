@@ -1,4 +1,4 @@
--- `command::max_input` meets its contract: it is the limit of document 01.
+-- `max_input` meets its contract: it is the limit of document 01.
 use mathlib.Core.Path.{refl}
 use Rattle.command_loop.proofs.max_input.Statement.{statement}
 use Rattle.command_loop.proofs.max_input.Tie as tie

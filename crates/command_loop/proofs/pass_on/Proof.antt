@@ -1,4 +1,4 @@
--- `command::pass_on` meets its contract. The loop's invariant: the first `at` bytes of the chunk were fed, in pieces. The measure is what is left of the chunk: with room
+-- `pass_on` meets its contract. The loop's invariant: the first `at` bytes of the chunk were fed, in pieces. The measure is what is left of the chunk: with room
 -- for an answer, `feed` consumes some of it.
 use mathlib.Core.Path.{_≡_, refl, sym, subst, _∙_}
 use Prim.Native.Nat.{ℕ, _+_, _-_, _≤_}
@@ -18,6 +18,13 @@ Inv-loop store₀ line₀ fill chunk out₀ current₀ n₀ at₀ store line out
 abbrev μ-loop : tie.MeasureT-loop
 μ-loop store₀ line₀ fill chunk out₀ current₀ n₀ at₀ store line out current n at = length chunk - at
 
+-- places of the code, each from a later one
+abbrev hand-on-arg3→loop : tie.After-hand-on-arg3 Inv-loop μ-loop → tie.At-loop Inv-loop μ-loop
+hand-on-arg3→loop c = c .before .before .before .before
+
+abbrev struct-known2→struct-known : tie.After-struct-known2 Inv-loop μ-loop → tie.After-struct-known Inv-loop μ-loop
+struct-known2→struct-known c = c .before .before
+
 loop-holds : tie.Need-loop-holds Inv-loop μ-loop
 loop-holds c = (consumes-none, refl, refl, refl)
 
@@ -33,8 +40,8 @@ at-start c = c .before .before .before .before .before
 
 hand-on-requires : tie.Need-hand-on-requires Inv-loop μ-loop
 hand-on-requires c κs =
-    let l = c .before .before .before .before in
-    record { within = l .loop .inv .0 .within; line-long = l .loop .inv .2 ∙ at-start l .pre .line-long }
+    let at-loop = hand-on-arg3→loop c in
+    record { within = at-loop .loop .inv .0 .within; line-long = at-loop .loop .inv .2 ∙ at-start at-loop .pre .line-long }
 
 -- the chunk is consumed as far as the piece went
 consumed : (c : tie.After-struct-known Inv-loop μ-loop)
@@ -54,57 +61,63 @@ out-kept : (c : tie.After-struct-known Inv-loop μ-loop) → length (at-hand-on 
 out-kept c = at-hand-on c .hand-on .kept .1 .1 .1 .1 .1 .1 .0 ∙ at-turn c .before .loop .inv .3
 
 same-length : tie.Need-same-length Inv-loop μ-loop
-same-length c = store-kept (c .before)
+same-length c =
+    let at-struct-known = c .before in
+    store-kept (at-struct-known)
 
 same-length-2 : tie.Need-same-length-2 Inv-loop μ-loop
-same-length-2 c = line-kept (c .before)
+same-length-2 c =
+    let at-struct-known = c .before in
+    line-kept (at-struct-known)
 
 same-length-3 : tie.Need-same-length-3 Inv-loop μ-loop
-same-length-3 c = out-kept (c .before)
+same-length-3 c =
+    let at-struct-known = c .before in
+    out-kept (at-struct-known)
 
 returns : tie.Need-returns Inv-loop μ-loop
-returns c = passes-part (consumed (c .before)) _ (c .if1 .taken)
+returns c =
+    let at-struct-known = c .before in
+    passes-part (consumed (at-struct-known)) _ (c .if1 .taken)
 
 add-at : tie.Need-add-at Inv-loop μ-loop
-add-at c = omega (arith, consumed (c .before .before) .within, at-start (at-turn (c .before .before) .before) .good)
+add-at c =
+    let at-struct-known = struct-known2→struct-known c in
+    omega (arith, consumed (at-struct-known) .within, at-start (at-turn (at-struct-known) .before) .good)
 
 loop-less : tie.Need-loop-less Inv-loop μ-loop
 loop-less c =
-    let h = at-hand-on (c .before .before) in
-    let t = at-turn (c .before .before) in
+    let at-struct-known = struct-known2→struct-known c in
+    let h = at-hand-on (at-struct-known) in
+    let t = at-turn (at-struct-known) in
     consumes-less (t .before .loop .inv .0) (h .hand-on .ensures) (subst (λ (n : ℕ). maxAnswer ≤ n) (sym (t .before .loop .inv .3)) (at-start (t .before) .pre .room)) (t .loop-test .taken)
 
 loop-again : tie.Need-loop-again Inv-loop μ-loop
-loop-again c = (consumed (c .before .before), store-kept (c .before .before), line-kept (c .before .before), out-kept (c .before .before))
+loop-again c =
+    let at-struct-known = struct-known2→struct-known c in
+    (consumed (at-struct-known), store-kept (at-struct-known), line-kept (at-struct-known), out-kept (at-struct-known))
 
 same-length-4 : tie.Need-same-length-4 Inv-loop μ-loop
-same-length-4 c = c .before .loop .inv .1
+same-length-4 c =
+    let at-loop = c .before in
+    at-loop .loop .inv .1
 
 same-length-5 : tie.Need-same-length-5 Inv-loop μ-loop
-same-length-5 c = c .before .loop .inv .2
+same-length-5 c =
+    let at-loop = c .before in
+    at-loop .loop .inv .2
 
 same-length-6 : tie.Need-same-length-6 Inv-loop μ-loop
-same-length-6 c = c .before .loop .inv .3
+same-length-6 c =
+    let at-loop = c .before in
+    at-loop .loop .inv .3
 
 returns-2 : tie.Need-returns-2 Inv-loop μ-loop
-returns-2 c = passes-all (c .before .loop .inv .0) (c .loop-test .left)
+returns-2 c =
+    let at-loop = c .before in
+    passes-all (at-loop .loop .inv .0) (c .loop-test .left)
 
 pub pass-on-spec : {M : Type 1} → statement M
 pass-on-spec =
     tie.close
-    (tie.spec
-    Inv-loop
-    μ-loop
-    loop-holds
-    hand-on-requires
-    same-length
-    same-length-2
-    same-length-3
-    returns
-    add-at
-    loop-less
-    loop-again
-    same-length-4
-    same-length-5
-    same-length-6
-    returns-2)
+    (tie.spec Inv-loop μ-loop loop-holds hand-on-requires same-length same-length-2 same-length-3 returns add-at loop-less loop-again same-length-4 same-length-5 same-length-6 returns-2)

@@ -1,4 +1,4 @@
--- `command::run_on` meets its contract. The loop's invariant: what was fed so far, what was read last and what is left make up the limit. The measure is what is left, with
+-- `run_on` meets its contract. The loop's invariant: what was fed so far, what was read last and what is left make up the limit. The measure is what is left, with
 -- what was read last.
 use mathlib.Core.Path.{_≡_, refl, sym, subst, _∙_}
 use Prim.Native.Nat.{ℕ, _+_, _≤_}
@@ -18,11 +18,26 @@ Inv-loop store₀ line₀ chunk₀ out₀ state₀ store line chunk out state =
 abbrev μ-loop : tie.MeasureT-loop
 μ-loop store₀ line₀ chunk₀ out₀ state₀ store line chunk out state = state .got + state .left
 
+-- places of the code, each from a later one
+abbrev slice-known5→begin : tie.After-slice-known5 Inv-loop μ-loop → tie.After-begin Inv-loop μ-loop
+slice-known5→begin c = c .before .before
+
+abbrev loop→begin : tie.At-loop Inv-loop μ-loop → tie.After-begin Inv-loop μ-loop
+loop→begin c = c .before .before .before
+
+abbrev then2→loop : tie.Then2 Inv-loop μ-loop → tie.At-loop Inv-loop μ-loop
+then2→loop c = c .before .before .before .before
+
+abbrev step-arg4→loop : tie.After-step-arg4 Inv-loop μ-loop → tie.At-loop Inv-loop μ-loop
+step-arg4→loop c = c .before .before .before .before .before .before
+
 begin-requires : tie.Need-begin-requires Inv-loop μ-loop
 begin-requires c κs = tt
 
 loop-holds : tie.Need-loop-holds Inv-loop μ-loop
-loop-holds c = (running-begun (c .before .before .begin .ensures), refl, refl, refl, refl)
+loop-holds c =
+    let at-begin = slice-known5→begin c in
+    (running-begun (at-begin .begin .ensures), refl, refl, refl, refl)
 
 -- the places of the loop's head and of the function's entry
 abbrev at-start : tie.At-loop Inv-loop μ-loop → tie.Start Inv-loop μ-loop
@@ -32,12 +47,14 @@ room : (c : tie.At-loop Inv-loop μ-loop) → maxEnd ≤ length (c .loop .out)
 room c = subst (λ (n : ℕ). maxEnd ≤ n) (sym (c .loop .inv .4)) (at-start c .pre .room)
 
 chunk-kept : (c : tie.At-loop Inv-loop μ-loop) → length (c .loop .chunk) ≡ length (at-start c .args .chunk .now)
-chunk-kept c = c .loop .inv .3 ∙ c .before .before .before .begin .kept .0
+chunk-kept c =
+    let at-begin = loop→begin c in
+    c .loop .inv .3 ∙ at-begin .begin .kept .0
 
 step-requires : tie.Need-step-requires Inv-loop μ-loop
 step-requires c κs =
-    let l = c .before .before .before .before .before .before in
-    record { within = l .loop .inv .0 .within; lent = record { line-long = l .loop .inv .2 ∙ at-start l .pre .line-long; room = omega (arith, room l) } }
+    let at-loop = step-arg4→loop c in
+    record { within = at-loop .loop .inv .0 .within; lent = record { line-long = at-loop .loop .inv .2 ∙ at-start at-loop .pre .line-long; room = omega (arith, room at-loop) } }
 
 -- the places of a turn's call of `step` and of the turn
 abbrev at-step : tie.After-slice-known9 Inv-loop μ-loop → tie.After-step Inv-loop μ-loop
@@ -59,21 +76,29 @@ loop-again c = (
 )
 
 same-length : tie.Need-same-length Inv-loop μ-loop
-same-length c = c .before .before .before .before .loop .inv .1
+same-length c =
+    let at-loop = then2→loop c in
+    at-loop .loop .inv .1
 
 same-length-2 : tie.Need-same-length-2 Inv-loop μ-loop
-same-length-2 c = c .before .before .before .before .loop .inv .2
+same-length-2 c =
+    let at-loop = then2→loop c in
+    at-loop .loop .inv .2
 
 same-length-3 : tie.Need-same-length-3 Inv-loop μ-loop
-same-length-3 c = chunk-kept (c .before .before .before .before)
+same-length-3 c =
+    let at-loop = then2→loop c in
+    chunk-kept (at-loop)
 
 same-length-4 : tie.Need-same-length-4 Inv-loop μ-loop
-same-length-4 c = c .before .before .before .before .loop .inv .4
+same-length-4 c =
+    let at-loop = then2→loop c in
+    at-loop .loop .inv .4
 
 returns : tie.Need-returns Inv-loop μ-loop
 returns c =
-    let l = c .before .before .before .before in
-    stopped (l .loop .state) (l .loop .inv .0 .ran) (above-zero (c .if2 .taken)) refl
+    let at-loop = then2→loop c in
+    stopped (at-loop .loop .state) (at-loop .loop .inv .0 .ran) (above-zero (c .if2 .taken)) refl
 
 end-requires : tie.Need-end-requires Inv-loop μ-loop
 end-requires c κs = tt
@@ -106,22 +131,4 @@ returns-2 c =
 pub run-on-spec : {M : Type 1} → statement M
 run-on-spec =
     tie.close
-    (tie.spec
-    Inv-loop
-    μ-loop
-    begin-requires
-    loop-holds
-    step-requires
-    loop-less
-    loop-again
-    same-length
-    same-length-2
-    same-length-3
-    same-length-4
-    returns
-    end-requires
-    same-length-5
-    same-length-6
-    same-length-7
-    same-length-8
-    returns-2)
+    (tie.spec Inv-loop μ-loop begin-requires loop-holds step-requires loop-less loop-again same-length same-length-2 same-length-3 same-length-4 returns end-requires same-length-5 same-length-6 same-length-7 same-length-8 returns-2)

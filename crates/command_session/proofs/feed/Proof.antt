@@ -27,4 +27,6 @@ returns-fed : tie.Need-returns-2
 returns-fed c = let f = at-lines c in fed _ _ _ _ (f .before .before .before .before .if1 .left) (f .feed-lines .ensures)
 
 pub feed-spec : {M : Type 1} → statement M
-feed-spec = tie.close (tie.spec returns-refused feed-lines-requires same-length same-length-2 same-length-3 returns-fed)
+feed-spec =
+    tie.close
+    (tie.spec returns-refused feed-lines-requires same-length same-length-2 same-length-3 returns-fed)

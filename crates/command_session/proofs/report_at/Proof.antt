@@ -8,6 +8,13 @@ use Rattle.command_session.proofs.ReportLaws.{at-within, at-reported, a
 use Rattle.command_session.proofs.report_at.Statement.{statement}
 use Rattle.command_session.proofs.report_at.Tie as tie
 
+-- places of the code, each from a later one
+abbrev n→slice-known2 : tie.After-n → tie.After-slice-known2
+n→slice-known2 c = c .before .before
+
+abbrev refusal→slice-known2 : tie.After-refusal → tie.After-slice-known2
+refusal→slice-known2 c = c .before .before
+
 -- the places of the call of `report` and of the entry
 abbrev at-report : tie.After-slice-known2 → tie.After-report
 at-report c = c .before .before
@@ -32,10 +39,11 @@ enum-known-n c = search needs
 
 add-written : tie.Need-add-t13
 add-written c =
-    let n = c .before in
-    let r = at-report (n .before .before) in
+    let at-n = c .before in
+    let at-slice-known2 = n→slice-known2 at-n in
+    let r = at-report at-slice-known2 in
     let s = at-start r in
-    omega (arith, at-within (now (s .args .out)) (s .args .at) (s .pre) (r .report .ensures) _ (ap reportValues (n .n .given .1)), s .good)
+    omega (arith, at-within (now (s .args .out)) (s .args .at) (s .pre) (r .report .ensures) _ (ap reportValues (at-n .n .given .1)), s .good)
 
 enum-known-refusal : tie.Need-enum-known-refusal
 enum-known-refusal c = search needs
@@ -45,33 +53,24 @@ same-length c = search needs
 
 returns-written : tie.Need-returns
 returns-written c =
-    let n = c .before in
-    let r = at-report (n .before .before) in
+    let at-n = c .before in
+    let at-slice-known2 = n→slice-known2 at-n in
+    let r = at-report at-slice-known2 in
     let s = at-start r in
-    at-reported (now (s .args .out)) (s .args .at) (s .pre) (r .report .ensures) _ (ap reportValues (n .n .given .1))
+    at-reported (now (s .args .out)) (s .args .at) (s .pre) (r .report .ensures) _ (ap reportValues (at-n .n .given .1))
 
 same-length-2 : tie.Need-same-length-2
 same-length-2 c = search needs
 
 returns-refused : tie.Need-returns-2
 returns-refused c =
-    let n = c .before in
-    let r = at-report (n .before .before) in
+    let at-refusal = c .before in
+    let at-slice-known2 = refusal→slice-known2 at-refusal in
+    let r = at-report at-slice-known2 in
     let s = at-start r in
-    at-refused (now (s .args .out)) (s .args .at) (s .pre) (r .report .ensures) _ (ap reportValues (n .refusal .given .1))
+    at-refused (now (s .args .out)) (s .args .at) (s .pre) (r .report .ensures) _ (ap reportValues (at-refusal .refusal .given .1))
 
 pub report-at-spec : {M : Type 1} → statement M
 report-at-spec =
     tie.close
-    (tie.spec
-    sub-report
-    part-report-start
-    part-report-end
-    report-requires
-    enum-known-n
-    add-written
-    enum-known-refusal
-    same-length
-    returns-written
-    same-length-2
-    returns-refused)
+    (tie.spec sub-report part-report-start part-report-end report-requires enum-known-n add-written enum-known-refusal same-length returns-written same-length-2 returns-refused)

@@ -1,4 +1,4 @@
--- `streams::error` meets its contract: a number above zero is kept, and every other counts as EIO.
+-- `error` meets its contract: a number above zero is kept, and every other counts as EIO.
 use mathlib.Core.Path.{_≡_}
 use Prim.Native.Nat.{ℕ, _<_}
 use mathlib.Core.Bool.{true}

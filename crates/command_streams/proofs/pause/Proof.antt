@@ -1,4 +1,4 @@
--- `streams::pause` is safe and ends: a walk of its MIR, by hand, since it lends two structs to a call of C. Each is lent for a lifetime that the walk makes, and comes
+-- `pause` is safe and ends: a walk of its MIR, by hand, since it lends two structs to a call of C. Each is lent for a lifetime that the walk makes, and comes
 -- back when that is ended. What the call says of its result is not used.
 use mathlib.Core.Path.{refl}
 use Prim.Native.Nat.{ℕ, _<_, _^_}

@@ -1,4 +1,4 @@
--- `streams::read_some` meets its contract: no more is read than the limit and the buffer allow, and what is left falls by what was read.
+-- `read_some` meets its contract: no more is read than the limit and the buffer allow, and what is left falls by what was read.
 use mathlib.Core.Path.{sym}
 use Prim.Native.Nat.{ℕ, _≤_}
 use native.Mathlib.Omega.{arith}
@@ -9,6 +9,13 @@ use borrow.Author.Needs.{needs}
 use Rattle.command_streams.proofs.read_some.Statement.{statement}
 use Rattle.command_streams.proofs.read_some.Tie as tie
 
+-- places of the code, each from a later one
+abbrev read-again→least : tie.After-read-again → tie.After-least
+read-again→least c = c .before .before
+
+abbrev struct-known→read-again : tie.After-struct-known → tie.After-read-again
+struct-known→read-again c = c .before .before .before
+
 least-requires : tie.Need-least-requires
 least-requires c κs = search needs
 
@@ -16,7 +23,9 @@ slice-relend-prefix-read-again : tie.Need-slice-relend-prefix-read-again
 slice-relend-prefix-read-again c = search needs
 
 slice-aggregate-read-again : tie.Need-slice-aggregate-read-again
-slice-aggregate-read-again c = sym (length-take-le _ _ (slice-relend-prefix-read-again (c .before)))
+slice-aggregate-read-again c =
+    let at-least = c .before in
+    sym (length-take-le _ _ (slice-relend-prefix-read-again at-least))
 
 read-again-requires : tie.Need-read-again-requires
 read-again-requires c κs = search needs
@@ -29,36 +38,34 @@ abbrev buffer : tie.After-read-again → List ℕ
 buffer c = c .before .before .before .before .args .buffer .now
 
 most-within : (c : tie.After-read-again) → most c ≤ length (buffer c)
-most-within c = slice-relend-prefix-read-again (c .before .before)
+most-within c =
+    let at-least = read-again→least c in
+    slice-relend-prefix-read-again at-least
 
 -- no more was read than was asked for
 got-within : (c : tie.After-read-again) → c .read-again .result .count ≤ most c
 got-within c = omega (arith, c .read-again .ensures .within, c .read-again .kept .0, length-take-le (most c) (buffer c) (most-within c))
 
 sub-rest : tie.Need-sub-rest
-sub-rest c = omega (arith, got-within (c .before .before .before), c .before .before .before .before .before .least .ensures)
+sub-rest c =
+    let at-read-again = struct-known→read-again c in
+    let at-least = read-again→least at-read-again in
+    omega (arith, got-within at-read-again, at-least .least .ensures)
 
 same-length : tie.Need-same-length
 same-length c = search needs
 
 returns : tie.Need-returns
 returns c =
-    let r = c .before .before .before in
-    let kept = length-front (buffer r) (r .read-again .last .0) (most r) (r .read-again .kept .0) in
+    let at-read-again = struct-known→read-again c in
+    let kept = length-front (buffer at-read-again) (at-read-again .read-again .last .0) (most at-read-again) (at-read-again .read-again .kept .0) in
     record {
-      within = omega (arith, got-within r, most-within r, kept);
+      within = omega (arith, got-within at-read-again, most-within at-read-again, kept);
       falls = omega (arith, sub-rest c);
-      none = r .read-again .ensures .none;
+      none = at-read-again .read-again .ensures .none;
     }
 
 pub read-some-spec : {M : Type 1} → statement M
 read-some-spec =
     tie.close
-    (tie.spec
-    least-requires
-    slice-relend-prefix-read-again
-    slice-aggregate-read-again
-    read-again-requires
-    sub-rest
-    same-length
-    returns)
+    (tie.spec least-requires slice-relend-prefix-read-again slice-aggregate-read-again read-again-requires sub-rest same-length returns)

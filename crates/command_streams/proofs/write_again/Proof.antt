@@ -1,4 +1,4 @@
--- `streams::write_again` meets its contract: whatever the last write came to. The measure is the number of turns that are left.
+-- `write_again` meets its contract: whatever the last write came to. The measure is the number of turns that are left.
 use lib.ListN.{length}
 use Rattle.command_streams.specs.Streams.{TakesSome}
 use borrow.Author.Needs.{needs}

@@ -1,4 +1,4 @@
--- `streams::write_all` meets its contract. The loop's invariant: what was taken is within the bytes. The measure is what is left of them: a write that did not fail took some.
+-- `write_all` meets its contract. The loop's invariant: what was taken is within the bytes. The measure is what is left of them: a write that did not fail took some.
 use Prim.Native.Nat.{_-_, _≤_}
 use native.Mathlib.Omega.{arith}
 use lib.ListN.{length}
@@ -11,6 +11,10 @@ Inv-loop bytes at₀ at = at ≤ length bytes
 
 abbrev μ-loop : tie.MeasureT-loop
 μ-loop bytes at₀ at = length bytes - at
+
+-- places of the code, each from a later one
+abbrev else1→write-again : tie.Else1 Inv-loop μ-loop → tie.After-write-again Inv-loop μ-loop
+else1→write-again c = c .before .before
 
 loop-holds : tie.Need-loop-holds Inv-loop μ-loop
 loop-holds c = search needs
@@ -34,7 +38,10 @@ add-at : tie.Need-add-at Inv-loop μ-loop
 add-at c = search needs
 
 loop-less : tie.Need-loop-less Inv-loop μ-loop
-loop-less c = omega (arith, c .before .before .before .write-again .ensures .some (c .before .if1 .left))
+loop-less c =
+    let in-else1 = c .before in
+    let at-write-again = else1→write-again in-else1 in
+    omega (arith, at-write-again .write-again .ensures .some (in-else1 .if1 .left))
 
 loop-again : tie.Need-loop-again Inv-loop μ-loop
 loop-again c = search needs
@@ -45,16 +52,4 @@ returns-2 c = search needs
 pub write-all-spec : {M : Type 1} → statement M
 write-all-spec =
     tie.close
-    (tie.spec
-    Inv-loop
-    μ-loop
-    loop-holds
-    sub-write-again
-    part-write-again-start
-    part-write-again-end
-    write-again-requires
-    returns
-    add-at
-    loop-less
-    loop-again
-    returns-2)
+    (tie.spec Inv-loop μ-loop loop-holds sub-write-again part-write-again-start part-write-again-end write-again-requires returns add-at loop-less loop-again returns-2)

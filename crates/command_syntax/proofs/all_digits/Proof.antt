@@ -18,33 +18,50 @@ Inv-loop s largest₀ i₀ largest i = (i ≤ length s) × (ltb largest 16 ≡ a
 abbrev μ-loop : tie.MeasureT-loop
 μ-loop s largest₀ i₀ largest i = length s - i
 
+-- places of the code, each from a later one
+abbrev loop→start : tie.At-loop Inv-loop μ-loop → tie.Start Inv-loop μ-loop
+loop→start c = c .before .before
+
+abbrev digit-value→loop : tie.After-digit-value Inv-loop μ-loop → tie.At-loop Inv-loop μ-loop
+digit-value→loop c = c .before .before .before
+
 loop-holds : tie.Need-loop-holds Inv-loop μ-loop
 unfolding all
 loop-holds c = (search needs, refl)
 
 loop-again : tie.Need-loop-again Inv-loop μ-loop
 loop-again c =
-    let loop = c .before .before .before .before .loop in (
+    let at-digit-value = c .before in
+    let at-loop = digit-value→loop at-digit-value in
+    let at-start = loop→start at-loop in
+    let loop = at-loop .loop in (
       search needs,
-      digits-next (now (c .before .before .before .before .before .before .args .s)) (loop .i) (loop .largest) (search needs) (c .before .digit-value .ensures) (c .larger .ensures) (loop .inv .1),
+      digits-next (now (at-start .args .s)) (loop .i) (loop .largest) (search needs) (at-digit-value .digit-value .ensures) (c .larger .ensures) (loop .inv .1),
     )
 
 returns : tie.Need-returns Inv-loop μ-loop
 returns c =
-    let loop = c .before .loop in
-    loop .inv .1 ∙ ap (all isDigit) (take-all (loop .i) (now (c .before .before .before .args .s)) (search needs))
+    let at-loop = c .before in
+    let at-start = loop→start at-loop in
+    let loop = at-loop .loop in
+    loop .inv .1 ∙ ap (all isDigit) (take-all (loop .i) (now (at-start .args .s)) (search needs))
+
+shared-slice-read-digit-value : tie.Need-shared-slice-read-digit-value Inv-loop μ-loop
+shared-slice-read-digit-value c = search needs
+
+digit-value-requires : tie.Need-digit-value-requires Inv-loop μ-loop
+digit-value-requires c κs = search needs
+
+larger-requires : tie.Need-larger-requires Inv-loop μ-loop
+larger-requires c κs = search needs
+
+add-i : tie.Need-add-i Inv-loop μ-loop
+add-i c = search needs
+
+loop-less : tie.Need-loop-less Inv-loop μ-loop
+loop-less c = search needs
 
 pub all-digits-spec : {M : Type 1} → statement M
 all-digits-spec =
     tie.close
-    (tie.spec
-    Inv-loop
-    μ-loop
-    loop-holds
-    (λ c. search needs)
-    (λ c κs. search needs)
-    (λ c κs. search needs)
-    (λ c. search needs)
-    (λ c. search needs)
-    loop-again
-    returns)
+    (tie.spec Inv-loop μ-loop loop-holds shared-slice-read-digit-value digit-value-requires larger-requires add-i loop-less loop-again returns)

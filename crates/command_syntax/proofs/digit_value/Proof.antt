@@ -5,21 +5,36 @@ use Rattle.command_syntax.proofs.Digits.{between, above, below, numeral
 use Rattle.command_syntax.proofs.digit_value.Statement.{statement}
 use Rattle.command_syntax.proofs.digit_value.Tie as tie
 
+returns : tie.Need-returns
+returns c =
+    let in-then1 = c .before in
+    let at-start = in-then1 .before in
+    let b = at-start .args .b in
+    numeral b (between 48 57 b (in-then1 .if1 .taken) (c .if2 .taken))
+
+sub-result : tie.Need-sub-result
+sub-result c = search needs
+
+returns-2 : tie.Need-returns-2
+returns-2 c =
+    let in-then3 = c .before in
+    let in-joined1 = in-then3 .before in
+    let at-start = in-joined1 .before in
+    let b = at-start .args .b in
+    letter b
+    (⊎-elim (λ w. above 48 57 b (w .0 .taken) (w .1 .left)) (λ w. below 48 57 b (w .left)) (in-joined1 .if1 .came))
+    (between 97 102 b (in-then3 .if3 .taken) (c .if4 .taken))
+
+returns-3 : tie.Need-returns-3
+returns-3 c =
+    let in-joined1 = c .before in
+    let at-start = in-joined1 .before in
+    let b = at-start .args .b in
+    no-digit b
+    (⊎-elim (λ w. above 48 57 b (w .0 .taken) (w .1 .left)) (λ w. below 48 57 b (w .left)) (in-joined1 .if1 .came))
+    (⊎-elim (λ w. above 97 102 b (w .0 .taken) (w .1 .left)) (λ w. below 97 102 b (w .left)) (c .if3 .came))
+
 pub digit-value-spec : {M : Type 1} → statement M
 digit-value-spec =
     tie.close
-    (tie.spec
-    (λ c.
-    let b = c .before .before .args .b in
-    numeral b (between 48 57 b (c .before .if1 .taken) (c .if2 .taken)))
-    (λ c. search needs)
-    (λ c.
-    let b = c .before .before .before .args .b in
-    letter b
-    (⊎-elim (λ w. above 48 57 b (w .0 .taken) (w .1 .left)) (λ w. below 48 57 b (w .left)) (c .before .before .if1 .came))
-    (between 97 102 b (c .before .if3 .taken) (c .if4 .taken)))
-    (λ c.
-    let b = c .before .before .args .b in
-    no-digit b
-    (⊎-elim (λ w. above 48 57 b (w .0 .taken) (w .1 .left)) (λ w. below 48 57 b (w .left)) (c .before .if1 .came))
-    (⊎-elim (λ w. above 97 102 b (w .0 .taken) (w .1 .left)) (λ w. below 97 102 b (w .left)) (c .if3 .came))))
+    (tie.spec returns sub-result returns-2 returns-3)

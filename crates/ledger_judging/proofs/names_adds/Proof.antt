@@ -22,38 +22,64 @@ Inv-loop l store up b at count tag k₀ k =
 abbrev μ-loop : tie.MeasureT-loop
 μ-loop l store up b at count tag k₀ k = count - k
 
+-- places of the code, each from a later one
+abbrev loop→start : tie.At-loop Inv-loop μ-loop → tie.Start Inv-loop μ-loop
+loop→start c = c .before .before .before .before
+
+abbrev named→loop : tie.After-named Inv-loop μ-loop → tie.At-loop Inv-loop μ-loop
+named→loop c = c .before .before
+
+loop-holds : tie.Need-loop-holds Inv-loop μ-loop
+loop-holds c = (search needs, refl)
+
+named-requires : tie.Need-named-requires Inv-loop μ-loop
+named-requires c κs = search needs
+
+names-add-requires : tie.Need-names-add-requires Inv-loop μ-loop
+names-add-requires c κs = search needs
+
+returns : tie.Need-returns Inv-loop μ-loop
+returns c =
+    let at-names-add = c .before in
+    let at-named = at-names-add .before in
+    let at-loop = named→loop at-named in
+    let at-start = loop→start at-loop in
+    let a = at-start .args in
+    let p = namesAncestor (bookOf (a .l)) (now (a .store)) (isAdd (now (a .tag))) (a .up) in
+    sym
+    (at-loop .loop .inv .1
+    ∙ all-stop (now (a .b)) (a .at) (a .count) (at-loop .loop .k) p (search needs)
+    (ap p (sym (at-named .named .ensures)) ∙ sym (at-names-add .names-add .ensures) ∙ not-true _ (c .if1 .taken)))
+
+add-k : tie.Need-add-k Inv-loop μ-loop
+add-k c = search needs
+
+loop-less : tie.Need-loop-less Inv-loop μ-loop
+loop-less c = search needs
+
+loop-again : tie.Need-loop-again Inv-loop μ-loop
+loop-again c =
+    let at-names-add = c .before in
+    let at-named = at-names-add .before in
+    let at-loop = named→loop at-named in
+    let at-start = loop→start at-loop in
+    let a = at-start .args in
+    let p = namesAncestor (bookOf (a .l)) (now (a .store)) (isAdd (now (a .tag))) (a .up) in (
+      search needs,
+      at-loop .loop .inv .1
+          ∙ all-go-on (now (a .b)) (a .at) (a .count) (at-loop .loop .k) p (search needs)
+          (ap p (sym (at-named .named .ensures)) ∙ sym (at-names-add .names-add .ensures) ∙ not-false _ (c .if1 .left)),
+    )
+
+returns-2 : tie.Need-returns-2 Inv-loop μ-loop
+returns-2 c =
+    let at-loop = c .before in
+    let at-start = loop→start at-loop in
+    let a = at-start .args in
+    let p = namesAncestor (bookOf (a .l)) (now (a .store)) (isAdd (now (a .tag))) (a .up) in
+    sym (at-loop .loop .inv .1 ∙ all-ended (now (a .b)) (a .at) (a .count) (at-loop .loop .k) p (search needs))
+
 pub names-adds-spec : {M : Type 1} → statement M
 names-adds-spec =
     tie.close
-    (tie.spec
-    Inv-loop
-    μ-loop
-    (λ c. (search needs, refl))
-    (λ c κs. search needs)
-    (λ c κs. search needs)
-    (λ c.
-    let n = c .before .before in
-    let h = n .before .before in
-    let a = h .before .before .before .before .args in
-    let p = namesAncestor (bookOf (a .l)) (now (a .store)) (isAdd (now (a .tag))) (a .up) in
-    sym
-    (h .loop .inv .1
-    ∙ all-stop (now (a .b)) (a .at) (a .count) (h .loop .k) p (search needs)
-    (ap p (sym (n .named .ensures)) ∙ sym (c .before .names-add .ensures) ∙ not-true _ (c .if1 .taken))))
-    (λ c. search needs)
-    (λ c. search needs)
-    (λ c.
-    let n = c .before .before in
-    let h = n .before .before in
-    let a = h .before .before .before .before .args in
-    let p = namesAncestor (bookOf (a .l)) (now (a .store)) (isAdd (now (a .tag))) (a .up) in (
-      search needs,
-      h .loop .inv .1
-          ∙ all-go-on (now (a .b)) (a .at) (a .count) (h .loop .k) p (search needs)
-          (ap p (sym (n .named .ensures)) ∙ sym (c .before .names-add .ensures) ∙ not-false _ (c .if1 .left)),
-    ))
-    (λ c.
-    let h = c .before in
-    let a = h .before .before .before .before .args in
-    let p = namesAncestor (bookOf (a .l)) (now (a .store)) (isAdd (now (a .tag))) (a .up) in
-    sym (h .loop .inv .1 ∙ all-ended (now (a .b)) (a .at) (a .count) (h .loop .k) p (search needs))))
+    (tie.spec Inv-loop μ-loop loop-holds named-requires names-add-requires returns add-k loop-less loop-again returns-2)

@@ -13,60 +13,107 @@ use Rattle.ledger_offering.proofs.OfferLaws.{offered-known, offered-ful
 use Rattle.ledger_offering.proofs.offer_formed.Statement.{statement}
 use Rattle.ledger_offering.proofs.offer_formed.Tie as tie
 
+-- places of the code, each from a later one
+abbrev digest→start : tie.After-digest → tie.Start
+digest→start c = c .before .before .before
+
+abbrev find→digest : tie.After-find → tie.After-digest
+find→digest c = c .before .before
+
+abbrev k→find : tie.After-k → tie.After-find
+k→find c = c .before .before
+
+abbrev enum-told→find : tie.After-enum-told → tie.After-find
+enum-told→find c = c .before .before
+
+abbrev left→k : tie.After-left → tie.After-k
+left→k c = c .before .before .before
+
 -- the place where the id was found is one
-inside : (c : tie.After-known-told) → c .before .k .given .0 .0 < places
+inside : (c : tie.After-known-told) → (c .before) .k .given .0 .0 < places
 inside c =
-    let f = c .before .before .before in
-    let d = f .before .before in
-    let z = d .before .before .before in
-    let a = z .args in
-    let e = found-at (findIn (bookOf (a .t1)) (d .digest .result)) _ (sym (f .find .ensures) ∙ c .before .k .given .1) in
-    omega (arith, find-taken (bookOf (a .t1)) (d .digest .result) _ e, sound→ (bookOf (a .t1)) (now (a .store)) (z .pre .is-sound) .few)
+    let at-k = c .before in
+    let at-find = k→find at-k in
+    let at-digest = find→digest at-find in
+    let at-start = digest→start at-digest in
+    let a = at-start .args in
+    let e = found-at (findIn (bookOf (a .t1)) (at-digest .digest .result)) _ (sym (at-find .find .ensures) ∙ at-k .k .given .1) in
+    omega (arith, find-taken (bookOf (a .t1)) (at-digest .digest .result) _ e, sound→ (bookOf (a .t1)) (now (a .store)) (at-start .pre .is-sound) .few)
+
+digest-requires : tie.Need-digest-requires
+digest-requires c κs = search needs
+
+slice-aggregate-find : tie.Need-slice-aggregate-find
+slice-aggregate-find c = search needs
+
+find-requires : tie.Need-find-requires
+find-requires c κs =
+    let at-start = digest→start (c .before) in
+    sound→ (bookOf (at-start .args .t1)) (now (at-start .args .store)) (at-start .pre .is-sound) .few
+
+enum-known-k : tie.Need-enum-known-k
+enum-known-k c = search needs
+
+mul-p : tie.Need-mul-p
+mul-p c = let h = inside c in search needs
+
+element-copy-out-p : tie.Need-element-copy-out-p
+element-copy-out-p c = let h = inside c in search needs
+
+left-requires : tie.Need-left-requires
+left-requires c κs = search needs
+
+enum-told : tie.Need-enum-told
+enum-told c = search needs
+
+left-requires-2 : tie.Need-left-requires-2
+left-requires-2 c κs = search needs
+
+take-requires : tie.Need-take-requires
+take-requires c κs =
+    let in-else1 = c .before in
+    let at-enum-told = in-else1 .before in
+    let at-find = enum-told→find at-enum-told in
+    let at-digest = find→digest at-find in
+    let at-start = digest→start at-digest in
+    record {
+      formed = at-start .pre;
+      id-right = at-digest .digest .ensures;
+      id-new = found-nowhere (findIn (bookOf (at-start .args .t1)) (at-digest .digest .result)) (sym (at-find .find .ensures) ∙ at-enum-told .enum-told .given .1);
+      place-free = omega (arith, sound→ (bookOf (at-start .args .t1)) (now (at-start .args .store)) (at-start .pre .is-sound) .few, in-else1 .if1 .left);
+    }
+
+returns : tie.Need-returns
+returns c =
+    let at-k = left→k c in
+    let at-find = k→find at-k in
+    let at-digest = find→digest at-find in
+    let at-start = digest→start at-digest in
+    let a = at-start .args in
+    offered-known (a .t1) (now (a .store)) (now (a .update)) (at-start .pre) _ (at-digest .digest .ensures) _
+    (found-at (findIn (bookOf (a .t1)) (at-digest .digest .result)) _ (sym (at-find .find .ensures) ∙ at-k .k .given .1))
+    (c .left .ensures)
+
+returns-2 : tie.Need-returns-2
+returns-2 c =
+    let in-then1 = c .before in
+    let at-enum-told = in-then1 .before in
+    let at-find = enum-told→find at-enum-told in
+    let at-digest = find→digest at-find in
+    let at-start = digest→start at-digest in
+    let a = at-start .args in
+    offered-full (a .t1) (now (a .store)) (now (a .update)) (at-start .pre) _ (at-digest .digest .ensures)
+    (found-nowhere (findIn (bookOf (a .t1)) (at-digest .digest .result)) (sym (at-find .find .ensures) ∙ at-enum-told .enum-told .given .1))
+    (in-then1 .if1 .taken)
+    (c .left2 .ensures)
+
+same-length : tie.Need-same-length
+same-length c = search needs
+
+returns-3 : tie.Need-returns-3
+returns-3 c = search needs
 
 pub offer-formed-spec : {M : Type 1} → statement M
 offer-formed-spec =
     tie.close
-    (tie.spec
-    (λ c κs. search needs)
-    (λ c. search needs)
-    (λ c κs.
-    let z = c .before .before .before .before in
-    sound→ (bookOf (z .args .t1)) (now (z .args .store)) (z .pre .is-sound) .few)
-    (λ c. search needs)
-    (λ c. let h = inside c in search needs)
-    (λ c. let h = inside c in search needs)
-    (λ c κs. search needs)
-    (λ c. search needs)
-    (λ c κs. search needs)
-    (λ c κs.
-    let n = c .before .before in
-    let f = n .before .before in
-    let d = f .before .before in
-    let z = d .before .before .before in
-    record {
-      formed = z .pre;
-      id-right = d .digest .ensures;
-      id-new = found-nowhere (findIn (bookOf (z .args .t1)) (d .digest .result)) (sym (f .find .ensures) ∙ n .enum-told .given .1);
-      place-free = omega (arith, sound→ (bookOf (z .args .t1)) (now (z .args .store)) (z .pre .is-sound) .few, c .before .if1 .left);
-    })
-    (λ c.
-    let k = c .before .before .before in
-    let f = k .before .before in
-    let d = f .before .before in
-    let z = d .before .before .before in
-    let a = z .args in
-    offered-known (a .t1) (now (a .store)) (now (a .update)) (z .pre) _ (d .digest .ensures) _
-    (found-at (findIn (bookOf (a .t1)) (d .digest .result)) _ (sym (f .find .ensures) ∙ k .k .given .1))
-    (c .left .ensures))
-    (λ c.
-    let n = c .before .before in
-    let f = n .before .before in
-    let d = f .before .before in
-    let z = d .before .before .before in
-    let a = z .args in
-    offered-full (a .t1) (now (a .store)) (now (a .update)) (z .pre) _ (d .digest .ensures)
-    (found-nowhere (findIn (bookOf (a .t1)) (d .digest .result)) (sym (f .find .ensures) ∙ n .enum-told .given .1))
-    (c .before .if1 .taken)
-    (c .left2 .ensures))
-    (λ c. search needs)
-    (λ c. search needs))
+    (tie.spec digest-requires slice-aggregate-find find-requires enum-known-k mul-p element-copy-out-p left-requires enum-told left-requires-2 take-requires returns returns-2 same-length returns-3)

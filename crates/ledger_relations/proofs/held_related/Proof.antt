@@ -5,13 +5,30 @@ use Rattle.ledger_relations.proofs.Testing.{held-and, held-not}
 use Rattle.ledger_relations.proofs.held_related.Statement.{statement}
 use Rattle.ledger_relations.proofs.held_related.Tie as tie
 
+-- places of the code, each from a later one
+abbrev has-standing→start : tie.After-has-standing → tie.Start
+has-standing→start c = c .before .before
+
+has-standing-requires : tie.Need-has-standing-requires
+has-standing-requires c κs = search needs
+
+related-requires : tie.Need-related-requires
+related-requires c κs = search needs
+
+returns : tie.Need-returns
+returns c =
+    let in-then1 = c .before in
+    let at-has-standing = in-then1 .before in
+    let at-start = has-standing→start at-has-standing in
+    held-and (placeOf (at-start .args .other)) (at-has-standing .has-standing .ensures) (in-then1 .if1 .taken) (c .related .ensures)
+
+returns-2 : tie.Need-returns-2
+returns-2 c =
+    let at-has-standing = c .before in
+    let at-start = has-standing→start at-has-standing in
+    held-not (placeOf (at-start .args .other)) (at-has-standing .has-standing .ensures) _ (c .if1 .left)
+
 pub held-related-spec : {M : Type 1} → statement M
 held-related-spec =
     tie.close
-    (tie.spec
-    (λ c κs. search needs)
-    (λ c κs. search needs)
-    (λ c.
-    held-and (placeOf (c .before .before .before .before .args .other)) (c .before .before .has-standing .ensures) (c .before .if1 .taken) (c .related .ensures))
-    (λ c.
-    held-not (placeOf (c .before .before .before .args .other)) (c .before .has-standing .ensures) _ (c .if1 .left)))
+    (tie.spec has-standing-requires related-requires returns returns-2)

@@ -18,31 +18,70 @@ Inv-loop store relation k l used own q₀ q = (q ≤ used) × (anyBelow q (λ (j
 abbrev μ-loop : tie.MeasureT-loop
 μ-loop store relation k l used own q₀ q = used - q
 
+-- places of the code, each from a later one
+abbrev own→start : tie.After-own Inv-loop μ-loop → tie.Start Inv-loop μ-loop
+own→start c = c .before .before
+
+abbrev loop→start : tie.At-loop Inv-loop μ-loop → tie.Start Inv-loop μ-loop
+loop→start c = c .before .before .before
+
+abbrev held-related→loop : tie.After-held-related Inv-loop μ-loop → tie.At-loop Inv-loop μ-loop
+held-related→loop c = c .before .before .before
+
+mul-own : tie.Need-mul-own Inv-loop μ-loop
+mul-own c = search needs
+
+element-copy-out-own : tie.Need-element-copy-out-own Inv-loop μ-loop
+element-copy-out-own c = search needs
+
+loop-holds : tie.Need-loop-holds Inv-loop μ-loop
+loop-holds c =
+    let at-start = own→start c in
+    let args = at-start .args in
+    (search needs, some-start (bookOf (args .t1)) (now (args .store)) (args .k) (args .relation))
+
+mul-held-related : tie.Need-mul-held-related Inv-loop μ-loop
+mul-held-related c = search needs
+
+element-copy-out-held-related : tie.Need-element-copy-out-held-related Inv-loop μ-loop
+element-copy-out-held-related c = search needs
+
+held-related-requires : tie.Need-held-related-requires Inv-loop μ-loop
+held-related-requires c κs = search needs
+
+returns : tie.Need-returns Inv-loop μ-loop
+returns c =
+    let at-held-related = c .before in
+    let at-loop = held-related→loop at-held-related in
+    let at-start = loop→start at-loop in
+    let args = at-start .args in
+    let loop = at-loop .loop in
+    some-hit (bookOf (args .t1)) (now (args .store)) (args .k) (args .relation) (loop .q) (search needs) (at-held-related .held-related .ensures) (c .if1 .taken)
+
+add-q : tie.Need-add-q Inv-loop μ-loop
+add-q c = search needs
+
+loop-less : tie.Need-loop-less Inv-loop μ-loop
+loop-less c = search needs
+
+loop-again : tie.Need-loop-again Inv-loop μ-loop
+loop-again c =
+    let at-held-related = c .before in
+    let at-loop = held-related→loop at-held-related in
+    let at-start = loop→start at-loop in
+    let args = at-start .args in
+    let loop = at-loop .loop in
+    (search needs, some-more (bookOf (args .t1)) (now (args .store)) (args .k) (args .relation) (loop .q) (loop .inv .1) (at-held-related .held-related .ensures) (c .if1 .left))
+
+returns-2 : tie.Need-returns-2 Inv-loop μ-loop
+returns-2 c =
+    let at-loop = c .before in
+    let at-start = loop→start at-loop in
+    let args = at-start .args in
+    let loop = at-loop .loop in
+    some-end (bookOf (args .t1)) (now (args .store)) (args .k) (args .relation) (loop .q) (search needs) (search needs) (loop .inv .1)
+
 pub some-held-spec : {M : Type 1} → statement M
 some-held-spec =
     tie.close
-    (tie.spec
-    Inv-loop
-    μ-loop
-    (λ c. search needs)
-    (λ c. search needs)
-    (λ c.
-    let args = c .before .before .args in
-    (search needs, some-start (bookOf (args .t1)) (now (args .store)) (args .k) (args .relation)))
-    (λ c. search needs)
-    (λ c. search needs)
-    (λ c κs. search needs)
-    (λ c.
-    let args = c .before .before .before .before .before .before .before .args in
-    let loop = c .before .before .before .before .loop in
-    some-hit (bookOf (args .t1)) (now (args .store)) (args .k) (args .relation) (loop .q) (search needs) (c .before .held-related .ensures) (c .if1 .taken))
-    (λ c. search needs)
-    (λ c. search needs)
-    (λ c.
-    let args = c .before .before .before .before .before .before .before .args in
-    let loop = c .before .before .before .before .loop in
-    (search needs, some-more (bookOf (args .t1)) (now (args .store)) (args .k) (args .relation) (loop .q) (loop .inv .1) (c .before .held-related .ensures) (c .if1 .left)))
-    (λ c.
-    let args = c .before .before .before .before .args in
-    let loop = c .before .loop in
-    some-end (bookOf (args .t1)) (now (args .store)) (args .k) (args .relation) (loop .q) (search needs) (search needs) (loop .inv .1)))
+    (tie.spec Inv-loop μ-loop mul-own element-copy-out-own loop-holds mul-held-related element-copy-out-held-related held-related-requires returns add-q loop-less loop-again returns-2)

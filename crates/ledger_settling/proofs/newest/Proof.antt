@@ -8,8 +8,17 @@ use Rattle.ledger_settling.proofs.Settling.{newest-none, newest-stays, 
 use Rattle.ledger_settling.proofs.newest.Statement.{statement}
 use Rattle.ledger_settling.proofs.newest.Tie as tie
 
+-- places of the code, each from a later one
+abbrev then1→start : tie.Then1 → tie.Start
+then1→start c = c .before .before
+
+abbrev has-standing→start : tie.After-has-standing → tie.Start
+has-standing→start c = c .before .before .before .before
+
 returns : tie.Need-returns
-returns c = let a = c .before .before .args in newest-none (bookOf (a .t1)) (now (a .store)) (search needs)
+returns c =
+    let at-start = then1→start c in
+    let a = at-start .args in newest-none (bookOf (a .t1)) (now (a .store)) (search needs)
 
 sub-k : tie.Need-sub-k
 sub-k c = search needs
@@ -28,15 +37,18 @@ settle-waiting-requires c κs = search needs
 
 returns-judged : tie.Need-returns-2
 returns-judged c =
-    let w = c .before .before in
-    let a = w .before .before .before .before .args in
-    newest-judged (bookOf (a .t1)) (now (a .store)) _ (search needs) (sym (w .has-standing .ensures ∙ is-waiting _) ∙ c .before .if2 .taken) (c .settle-waiting .ensures)
+    let in-then2 = c .before in
+    let at-has-standing = in-then2 .before in
+    let at-start = has-standing→start at-has-standing in
+    let a = at-start .args in
+    newest-judged (bookOf (a .t1)) (now (a .store)) _ (search needs) (sym (at-has-standing .has-standing .ensures ∙ is-waiting _) ∙ in-then2 .if2 .taken) (c .settle-waiting .ensures)
 
 returns-stays : tie.Need-returns-3
 returns-stays c =
-    let w = c .before in
-    let a = w .before .before .before .before .args in
-    newest-stays (bookOf (a .t1)) (now (a .store)) _ (search needs) (sym (w .has-standing .ensures ∙ is-waiting _) ∙ c .if2 .left)
+    let at-has-standing = c .before in
+    let at-start = has-standing→start at-has-standing in
+    let a = at-start .args in
+    newest-stays (bookOf (a .t1)) (now (a .store)) _ (search needs) (sym (at-has-standing .has-standing .ensures ∙ is-waiting _) ∙ c .if2 .left)
 
 pub newest-spec : {M : Type 1} → statement M
 newest-spec =

@@ -12,6 +12,10 @@ use Rattle.ledger_settling.proofs.Settling.{both, neither, either}
 use Rattle.ledger_settling.proofs.waits_selected.Statement.{statement}
 use Rattle.ledger_settling.proofs.waits_selected.Tie as tie
 
+-- places of the code, each from a later one
+abbrev has-standing→start : tie.After-has-standing → tie.Start
+has-standing→start c = c .before .before .before
+
 has-standing-requires : tie.Need-has-standing-requires
 has-standing-requires c κs = search needs
 
@@ -23,20 +27,27 @@ follows-requires c κs = search needs
 
 returns-all : tie.Need-returns
 returns-all c =
-    let w = c .before .before in
-    both (sym (w .has-standing .ensures ∙ is-waiting _) ∙ c .before .if1 .taken) (sym (or-left _ _ (c .if2 .taken)))
+    let in-then1 = c .before in
+    let at-has-standing = in-then1 .before in
+    both (sym (at-has-standing .has-standing .ensures ∙ is-waiting _) ∙ in-then1 .if1 .taken) (sym (or-left _ _ (c .if2 .taken)))
 
 returns-follows : tie.Need-returns-2
 returns-follows c =
-    let d = c .before in
-    let w = d .before .before .before in
-    let a = w .before .before .before .args in
-    both (sym (w .has-standing .ensures ∙ is-waiting _) ∙ d .before .before .if1 .taken)
-    (either (d .before .if2 .left) (c .follows .ensures ∙ ap (λ (b : List ℕ). follows (now (a .id)) (decode b)) (d .stored .ensures)))
+    let at-stored = c .before in
+    let in-else2 = at-stored .before in
+    let in-then1 = in-else2 .before in
+    let at-has-standing = in-then1 .before in
+    let at-start = has-standing→start at-has-standing in
+    let a = at-start .args in
+    both (sym (at-has-standing .has-standing .ensures ∙ is-waiting _) ∙ in-then1 .if1 .taken)
+    (either (in-else2 .if2 .left) (c .follows .ensures ∙ ap (λ (b : List ℕ). follows (now (a .id)) (decode b)) (at-stored .stored .ensures)))
 
 returns-settled : tie.Need-returns-3
-returns-settled c = neither _ (sym (c .before .has-standing .ensures ∙ is-waiting _) ∙ c .if1 .left)
+returns-settled c =
+    let at-has-standing = c .before in
+    neither _ (sym (at-has-standing .has-standing .ensures ∙ is-waiting _) ∙ c .if1 .left)
 
 pub waits-selected-spec : {M : Type 1} → statement M
 waits-selected-spec =
-    tie.close (tie.spec has-standing-requires stored-requires follows-requires returns-all returns-follows returns-settled)
+    tie.close
+    (tie.spec has-standing-requires stored-requires follows-requires returns-all returns-follows returns-settled)

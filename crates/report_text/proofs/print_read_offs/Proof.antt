@@ -13,6 +13,34 @@ use Rattle.report_wording.specs.declared.Part.the-variants.{Set, List as Entrie
 use Rattle.report_text.proofs.print_read_offs.Statement.{statement}
 use Rattle.report_text.proofs.print_read_offs.Tie as tie
 
+-- places of the code, each from a later one
+abbrev marked→start : tie.After-marked → tie.Start
+marked→start c = c .before .before .before
+
+abbrev print→marked : tie.After-print → tie.After-marked
+print→marked c = c .before .before
+
+abbrev sorted→print : tie.After-sorted → tie.After-print
+sorted→print c = c .before .before .before
+
+abbrev print2→sorted : tie.After-print2 → tie.After-sorted
+print2→sorted c = c .before .before
+
+abbrev entries→print2 : tie.After-entries → tie.After-print2
+entries→print2 c = c .before .before .before
+
+abbrev print3→entries : tie.After-print3 → tie.After-entries
+print3→entries c = c .before .before
+
+abbrev put-arg2→print3 : tie.After-put-arg2 → tie.After-print3
+put-arg2→print3 c = c .before .before .before .before
+
+abbrev put→print3 : tie.After-put → tie.After-print3
+put→print3 c = c .before .before .before .before .before
+
+abbrev slice-known5→put : tie.After-slice-known5 → tie.After-put
+slice-known5→put c = c .before .before
+
 marked-requires : tie.Need-marked-requires
 marked-requires c κs = search needs
 
@@ -36,41 +64,43 @@ slice-aggregate-put c = search needs
 
 put-requires : tie.Need-put-requires
 put-requires c κs =
-    let pre = c .before .before .before .before .before .before .before .before .before .before .before .before .before .before .before .before .before .before .before .pre in
-    let print = c .before .before .before .before .before .before .before .before .before .before .before .before .before .before .print in
-    let print2 = c .before .before .before .before .before .before .before .before .before .print2 in
-    omega (arith, pre .at-within, print .ensures .1, print2 .ensures .1, c .before .before .before .before .print3 .ensures .1)
+    let at-print3 = put-arg2→print3 c in
+    let at-print2 = entries→print2 (print3→entries at-print3) in
+    let at-print = sorted→print (print2→sorted at-print2) in
+    let at-start = marked→start (print→marked at-print) in
+    let pre = at-start .pre in
+    let print = at-print .print in
+    let print2 = at-print2 .print2 in
+    omega (arith, pre .at-within, print .ensures .1, print2 .ensures .1, at-print3 .print3 .ensures .1)
 
 same-length : tie.Need-same-length
 same-length c = search needs
 
 returns : tie.Need-returns
 returns c =
-    let args = c .before .before .before .before .before .before .before .before .before .before .before .before .before .before .before .before .before .before .before .before .before .before .args in
-    let marked = c .before .before .before .before .before .before .before .before .before .before .before .before .before .before .before .before .before .before .before .marked in
-    let print = c .before .before .before .before .before .before .before .before .before .before .before .before .before .before .before .before .before .print in
-    let sorted = c .before .before .before .before .before .before .before .before .before .before .before .before .before .before .sorted in
-    let print2 = c .before .before .before .before .before .before .before .before .before .before .before .before .print2 in
-    let entries = c .before .before .before .before .before .before .before .before .before .entries in
-    let print3 = c .before .before .before .before .before .before .before .print3 in
+    let at-put = slice-known5→put c in
+    let at-print3 = put→print3 at-put in
+    let at-entries = print3→entries at-print3 in
+    let at-print2 = entries→print2 at-entries in
+    let at-sorted = print2→sorted at-print2 in
+    let at-print = sorted→print at-sorted in
+    let at-marked = print→marked at-print in
+    let at-start = marked→start at-marked in
+    let args = at-start .args in
+    let marked = at-marked .marked in
+    let print = at-print .print in
+    let sorted = at-sorted .sorted in
+    let print2 = at-print2 .print2 in
+    let entries = at-entries .entries in
+    let print3 = at-print3 .print3 in
     let l = bookOf (args .l) in
     let s = now (args .store) in
     same-text (read-offs-is l s)
     (both (same-text (ap marksPart (marks-are l s (marked .result) (marked .ensures))) (print .ensures .0))
     (both (same-text (ap (partOf l s Set) (sorted .ensures .are ∙ sorted-tags l s)) (print2 .ensures .0))
-    (both (same-text (ap (partOf l s Entries) (entries .ensures .are)) (print3 .ensures .0)) (c .before .before .put .ensures))))
+    (both (same-text (ap (partOf l s Entries) (entries .ensures .are)) (print3 .ensures .0)) (at-put .put .ensures))))
 
 pub print-read-offs-spec : {M : Type 1} → statement M
 print-read-offs-spec =
     tie.close
-    (tie.spec
-    marked-requires
-    print-marks-requires
-    sorted-requires
-    print-set-requires
-    entries-requires
-    print-list-requires
-    slice-aggregate-put
-    put-requires
-    same-length
-    returns)
+    (tie.spec marked-requires print-marks-requires sorted-requires print-set-requires entries-requires print-list-requires slice-aggregate-put put-requires same-length returns)

@@ -8,33 +8,79 @@ use Rattle.report_wording.proofs.LineLaws.{update-line}
 use Rattle.report_wording.proofs.update_line.Statement.{statement}
 use Rattle.report_wording.proofs.update_line.Tie as tie
 
+-- places of the code, each from a later one
+abbrev author-of→start : tie.After-author-of → tie.Start
+author-of→start c = c .before .before .before .before
+
+abbrev open-id→author-of : tie.After-open-id → tie.After-author-of
+open-id→author-of c = c .before .before
+
+abbrev put→open-id : tie.After-put → tie.After-open-id
+put→open-id c = c .before .before .before .before .before
+
+abbrev decimal-arg→put : tie.After-decimal-arg → tie.After-put
+decimal-arg→put c = c .before .before .before
+
+abbrev decimal→put : tie.After-decimal → tie.After-put
+decimal→put c = c .before .before .before .before
+
+abbrev put2→decimal : tie.After-put2 → tie.After-decimal
+put2→decimal c = c .before .before .before .before .before
+
+abbrev slice-known5→put2 : tie.After-slice-known5 → tie.After-put2
+slice-known5→put2 c = c .before .before
+
+author-of-requires : tie.Need-author-of-requires
+author-of-requires c κs = search needs
+
+open-id-requires : tie.Need-open-id-requires
+open-id-requires c κs = search needs
+
+slice-aggregate-put : tie.Need-slice-aggregate-put
+slice-aggregate-put c = search needs
+
+put-requires : tie.Need-put-requires
+put-requires c κs = search needs
+
+decimal-requires : tie.Need-decimal-requires
+decimal-requires c κs =
+    let at-put = decimal-arg→put c in
+    let at-open-id = put→open-id at-put in
+    let at-author-of = open-id→author-of at-open-id in
+    let at-start = author-of→start at-author-of in
+    let put′ = at-put .put in
+    let pre = at-start .pre in
+    record {
+      at-within = omega (arith, put′ .ensures .past, at-open-id .open-id .ensures .1, pre .line-within);
+      two-digits = omega (arith, at-author-of .author-of .ensures .1);
+    }
+
+slice-aggregate-put-2 : tie.Need-slice-aggregate-put-2
+slice-aggregate-put-2 c = search needs
+
+put-requires-2 : tie.Need-put-requires-2
+put-requires-2 c κs = search needs
+
+same-length : tie.Need-same-length
+same-length c = search needs
+
+returns : tie.Need-returns
+returns c =
+    let at-put2 = slice-known5→put2 c in
+    let at-decimal = put2→decimal at-put2 in
+    let at-put = decimal→put at-decimal in
+    let at-open-id = put→open-id at-put in
+    let at-author-of = open-id→author-of at-open-id in
+    let at-start = author-of→start at-author-of in
+    let put2 = at-put2 .put2 in
+    let decimal′ = at-decimal .decimal in
+    let put′ = at-put .put in
+    let args = at-start .args in (
+      same-text (update-line (now (args .id)) (decode (now (args .b))) (at-author-of .author-of .result) (at-author-of .author-of .ensures .0)) (both (at-open-id .open-id .ensures .0) (both (put′ .ensures) (both (decimal′ .ensures .0) (put2 .ensures)))),
+      omega (arith, put2 .ensures .past, decimal′ .ensures .1, put′ .ensures .past, at-open-id .open-id .ensures .1),
+    )
+
 pub update-line-spec : {M : Type 1} → statement M
 update-line-spec =
     tie.close
-    (tie.spec
-    (λ c κs. search needs)
-    (λ c κs. search needs)
-    (λ c. search needs)
-    (λ c κs. search needs)
-    (λ c κs.
-    let put′ = c .before .before .before .put in
-    let opened = c .before .before .before .before .before .before .before .before in
-    let author = opened .before .before in
-    let pre = author .before .before .before .before .pre in
-    record {
-      at-within = omega (arith, put′ .ensures .past, opened .open-id .ensures .1, pre .line-within);
-      two-digits = omega (arith, author .author-of .ensures .1);
-    })
-    (λ c. search needs)
-    (λ c κs. search needs)
-    (λ c. search needs)
-    (λ c.
-    let put2 = c .before .before .put2 in
-    let decimal′ = c .before .before .before .before .before .before .before .decimal in
-    let put′ = c .before .before .before .before .before .before .before .before .before .before .before .put in
-    let opened = c .before .before .before .before .before .before .before .before .before .before .before .before .before .before .before .before in
-    let author = opened .before .before in
-    let args = author .before .before .before .before .args in (
-      same-text (update-line (now (args .id)) (decode (now (args .b))) (author .author-of .result) (author .author-of .ensures .0)) (both (opened .open-id .ensures .0) (both (put′ .ensures) (both (decimal′ .ensures .0) (put2 .ensures)))),
-      omega (arith, put2 .ensures .past, decimal′ .ensures .1, put′ .ensures .past, opened .open-id .ensures .1),
-    )))
+    (tie.spec author-of-requires open-id-requires slice-aggregate-put put-requires decimal-requires slice-aggregate-put-2 put-requires-2 same-length returns)

@@ -1,4 +1,4 @@
--- `sha256::all_steps` meets its contract: `t` steps are made.
+-- `all_steps` meets its contract: `t` steps are made.
 use Prim.Native.Nat.{_-_, _%_, _≤_}
 use mathlib.Core.Path.{_≡_}
 use borrow.Author.Needs.{needs}

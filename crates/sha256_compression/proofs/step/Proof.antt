@@ -1,4 +1,4 @@
--- `sha256::step` meets its contract: the definition, field by field.
+-- `step` meets its contract: the definition, field by field.
 use borrow.Author.Needs.{needs}
 use Rattle.sha256_compression.specs.Code.{working}
 use Rattle.sha256_compression.proofs.Words.{step-made}

@@ -1,4 +1,4 @@
--- `sha256::t2` meets its contract: the definition, at what the calls ensure.
+-- `t2` meets its contract: the definition, at what the calls ensure.
 use mathlib.Core.Path.{ap₂, _∙_}
 use borrow.Author.Needs.{needs}
 use Rattle.sha256_fips180.specs.Fips180.{_⊞_, T₂}

@@ -1,4 +1,4 @@
--- `sha256::digest` meets its contract: the definition, at what the calls ensure.
+-- `digest` meets its contract: the definition, at what the calls ensure.
 use mathlib.Core.Path.{refl, ap, _∙_}
 use borrow.Author.Needs.{needs}
 use Rattle.sha256_fips180.specs.Fips180.{SHA-256, K, bytesOf}

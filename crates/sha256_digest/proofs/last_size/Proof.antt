@@ -1,4 +1,4 @@
--- `sha256::last_size` meets its contract.
+-- `last_size` meets its contract.
 use mathlib.Core.Path.{sym}
 use native.Mathlib.Omega.{arith}
 use Rattle.sha256_digest.proofs.Padding.{one-block, two-blocks}

@@ -1,4 +1,4 @@
--- `sha256::silkcliff_sha256` meets its contract: nothing is written, or the digest.
+-- `silkcliff_sha256` meets its contract: nothing is written, or the digest.
 use mathlib.Core.Path.{refl}
 use borrow.Author.Needs.{needs}
 use native.Mathlib.Omega.{arith}
@@ -9,6 +9,19 @@ use Rattle.sha256_digest.proofs.silkcliff_sha256.Tie as tie
 returns : tie.Need-returns
 returns c = (λ h. absurd (omega arith), λ h. (refl, refl))
 
+digest-requires : tie.Need-digest-requires
+digest-requires c κs = search needs
+
+slice-aggregate-copy : tie.Need-slice-aggregate-copy
+slice-aggregate-copy c = search needs
+
+copy-requires : tie.Need-copy-requires
+copy-requires c κs = search needs
+
+same-length : tie.Need-same-length
+same-length c = search needs
+
+-- (`rw` looks through no abbreviation)
 returns-2 : tie.Need-returns-2
 returns-2 c = (
   λ h. (refl, rw (c .before .before .copy .ensures, c .before .before .before .before .before .digest .ensures, length-digest)),
@@ -18,10 +31,4 @@ returns-2 c = (
 pub silkcliff-sha256-spec : {M : Type 1} → statement M
 silkcliff-sha256-spec =
     tie.close
-    (tie.spec
-    returns
-    (λ c κs. search needs)
-    (λ c. search needs)
-    (λ c κs. search needs)
-    (λ c. search needs)
-    returns-2)
+    (tie.spec returns digest-requires slice-aggregate-copy copy-requires same-length returns-2)

@@ -1,4 +1,4 @@
--- `vectors::first` is safe: the first n bytes of s are n bytes, since s has that many.
+-- `first` is safe: the first n bytes of s are n bytes, since s has that many.
 use mathlib.Core.Path.{sym}
 use native.Mathlib.Omega.{arith}
 use borrow.Author.Needs.{needs}

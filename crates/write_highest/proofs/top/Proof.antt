@@ -16,22 +16,41 @@ Inv-loop l store author used highest₀ k₀ highest k = (k ≤ used) × (highes
 abbrev μ-loop : tie.MeasureT-loop
 μ-loop l store author used highest₀ k₀ highest k = used - k
 
+-- places of the code, each from a later one
+abbrev loop→start : tie.At-loop Inv-loop μ-loop → tie.Start Inv-loop μ-loop
+loop→start c = c .before .before
+
+loop-holds : tie.Need-loop-holds Inv-loop μ-loop
+loop-holds c =
+    let at-start = c .before in
+    let args = at-start .args in
+    (search needs, top-start (bookOf (args .l)) (now (args .store)) (args .author))
+
+top-with-requires : tie.Need-top-with-requires Inv-loop μ-loop
+top-with-requires c κs =
+    let at-loop = c .before in
+    let at-start = loop→start at-loop in
+    let pre = at-start .pre in
+    record { used-within = pre; place-taken = search needs; top-right = at-loop .loop .inv .1 }
+
+add-k : tie.Need-add-k Inv-loop μ-loop
+add-k c = search needs
+
+loop-less : tie.Need-loop-less Inv-loop μ-loop
+loop-less c = search needs
+
+loop-again : tie.Need-loop-again Inv-loop μ-loop
+loop-again c = (search needs, c .top-with .ensures)
+
+returns : tie.Need-returns Inv-loop μ-loop
+returns c =
+    let at-loop = c .before in
+    let at-start = loop→start at-loop in
+    let args = at-start .args in
+    let loop = at-loop .loop in
+    top-end (bookOf (args .l)) (now (args .store)) (args .author) (loop .k) (search needs) (search needs) (loop .inv .1)
+
 pub top-spec : {M : Type 1} → statement M
 top-spec =
     tie.close
-    (tie.spec
-    Inv-loop
-    μ-loop
-    (λ c.
-    let args = c .before .args in
-    (search needs, top-start (bookOf (args .l)) (now (args .store)) (args .author)))
-    (λ c κs.
-    let pre = c .before .before .before .pre in
-    record { used-within = pre; place-taken = search needs; top-right = c .before .loop .inv .1 })
-    (λ c. search needs)
-    (λ c. search needs)
-    (λ c. (search needs, c .top-with .ensures))
-    (λ c.
-    let args = c .before .before .before .args in
-    let loop = c .before .loop in
-    top-end (bookOf (args .l)) (now (args .store)) (args .author) (loop .k) (search needs) (search needs) (loop .inv .1)))
+    (tie.spec Inv-loop μ-loop loop-holds top-with-requires add-k loop-less loop-again returns)

@@ -11,4 +11,4 @@ first-spec =
     (λ c.
     let args = c .before .args in
     let pre = c .before .pre in
-    (first-lists (args .places) (args .n) (pre .sound) (pre .count-within), refl)))
+    (first-lists (args .places) (args .n) (pre .is-list) (pre .count-within), refl)))

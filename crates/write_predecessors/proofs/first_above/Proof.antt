@@ -18,36 +18,73 @@ Inv-loop l store t heads count i₀ i = (i ≤ count) × (firstBelow i (aboveAt 
 abbrev μ-loop : tie.MeasureT-loop
 μ-loop l store t heads count i₀ i = count - i
 
+-- places of the code, each from a later one
+abbrev loop→start : tie.At-loop Inv-loop μ-loop → tie.Start Inv-loop μ-loop
+loop→start c = c .before .before
+
+abbrev h→loop : tie.After-h Inv-loop μ-loop → tie.At-loop Inv-loop μ-loop
+h→loop c = c .before .before
+
+abbrev is-above→loop : tie.After-is-above Inv-loop μ-loop → tie.At-loop Inv-loop μ-loop
+is-above→loop c = c .before .before .before
+
+loop-holds : tie.Need-loop-holds Inv-loop μ-loop
+loop-holds c =
+    let at-start = c .before in
+    let args = at-start .args in
+    (search needs, above-start (bookOf (args .l)) (now (args .store)) (args .t3) (at-start .pre) (args .t))
+
+mul-h : tie.Need-mul-h Inv-loop μ-loop
+mul-h c = search needs
+
+element-copy-out-h : tie.Need-element-copy-out-h Inv-loop μ-loop
+element-copy-out-h c = search needs
+
+is-above-requires : tie.Need-is-above-requires Inv-loop μ-loop
+is-above-requires c κs =
+    let at-loop = h→loop c in
+    let at-start = loop→start at-loop in
+    let args = at-start .args in
+    let pre = at-start .pre in
+    let loop = at-loop .loop in
+    below (args .t3) (pre .is-list) (loop .i) (search needs)
+
+returns : tie.Need-returns Inv-loop μ-loop
+returns c =
+    let at-is-above = c .before in
+    let at-loop = is-above→loop at-is-above in
+    let at-start = loop→start at-loop in
+    let args = at-start .args in
+    let pre = at-start .pre in
+    let loop = at-loop .loop in
+    above-found (bookOf (args .l)) (now (args .store)) (args .t3) (pre) (args .t) (loop .i) (search needs) (at-is-above .is-above .ensures) (c .if1 .taken) (loop .inv .1)
+
+add-i : tie.Need-add-i Inv-loop μ-loop
+add-i c = search needs
+
+loop-less : tie.Need-loop-less Inv-loop μ-loop
+loop-less c = search needs
+
+loop-again : tie.Need-loop-again Inv-loop μ-loop
+loop-again c =
+    let at-is-above = c .before in
+    let at-loop = is-above→loop at-is-above in
+    let at-start = loop→start at-loop in
+    let args = at-start .args in
+    let pre = at-start .pre in
+    let loop = at-loop .loop in
+    (search needs, above-more (bookOf (args .l)) (now (args .store)) (args .t3) (pre) (args .t) (loop .i) (search needs) (at-is-above .is-above .ensures) (c .if1 .left) (loop .inv .1))
+
+returns-2 : tie.Need-returns-2 Inv-loop μ-loop
+returns-2 c =
+    let at-loop = c .before in
+    let at-start = loop→start at-loop in
+    let args = at-start .args in
+    let pre = at-start .pre in
+    let loop = at-loop .loop in
+    above-none (bookOf (args .l)) (now (args .store)) (args .t3) (pre) (args .t) (loop .i) (search needs) (search needs) (loop .inv .1)
+
 pub first-above-spec : {M : Type 1} → statement M
 first-above-spec =
     tie.close
-    (tie.spec
-    Inv-loop
-    μ-loop
-    (λ c.
-    let args = c .before .args in
-    (search needs, above-start (bookOf (args .l)) (now (args .store)) (args .t3) (c .before .pre) (args .t)))
-    (λ c. search needs)
-    (λ c. search needs)
-    (λ c κs.
-    let args = c .before .before .before .before .args in
-    let pre = c .before .before .before .before .pre in
-    let loop = c .before .before .loop in
-    below (args .t3) (pre .sound) (loop .i) (search needs))
-    (λ c.
-    let args = c .before .before .before .before .before .before .args in
-    let pre = c .before .before .before .before .before .before .pre in
-    let loop = c .before .before .before .before .loop in
-    above-found (bookOf (args .l)) (now (args .store)) (args .t3) (pre) (args .t) (loop .i) (search needs) (c .before .is-above .ensures) (c .if1 .taken) (loop .inv .1))
-    (λ c. search needs)
-    (λ c. search needs)
-    (λ c.
-    let args = c .before .before .before .before .before .before .args in
-    let pre = c .before .before .before .before .before .before .pre in
-    let loop = c .before .before .before .before .loop in
-    (search needs, above-more (bookOf (args .l)) (now (args .store)) (args .t3) (pre) (args .t) (loop .i) (search needs) (c .before .is-above .ensures) (c .if1 .left) (loop .inv .1)))
-    (λ c.
-    let args = c .before .before .before .args in
-    let pre = c .before .before .before .pre in
-    let loop = c .before .loop in
-    above-none (bookOf (args .l)) (now (args .store)) (args .t3) (pre) (args .t) (loop .i) (search needs) (search needs) (loop .inv .1)))
+    (tie.spec Inv-loop μ-loop loop-holds mul-h element-copy-out-h is-above-requires returns add-i loop-less loop-again returns-2)

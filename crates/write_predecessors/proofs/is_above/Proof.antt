@@ -5,17 +5,34 @@ use Rattle.write_predecessors.proofs.Choosing.{above-same, above-other}
 use Rattle.write_predecessors.proofs.is_above.Statement.{statement}
 use Rattle.write_predecessors.proofs.is_above.Tie as tie
 
+-- places of the code, each from a later one
+abbrev has→else1 : tie.After-has → tie.Else1
+has→else1 c = c .before .before
+
+returns : tie.Need-returns
+returns c =
+    let at-start = c .before in
+    let args = at-start .args in
+    above-same (bookOf (args .t1)) (args .t) (args .h) (c .if1 .taken)
+
+mul-p : tie.Need-mul-p
+mul-p c = search needs
+
+element-copy-out-p : tie.Need-element-copy-out-p
+element-copy-out-p c = search needs
+
+has-requires : tie.Need-has-requires
+has-requires c κs = search needs
+
+returns-2 : tie.Need-returns-2
+returns-2 c =
+    let in-else1 = has→else1 c in
+    let at-start = in-else1 .before in
+    let args = at-start .args in
+    let if1 = in-else1 .if1 in
+    above-other (bookOf (args .t1)) (args .t) (args .h) (if1 .left) (c .has .ensures)
+
 pub is-above-spec : {M : Type 1} → statement M
 is-above-spec =
     tie.close
-    (tie.spec
-    (λ c.
-    let args = c .before .args in
-    above-same (bookOf (args .t1)) (args .t) (args .h) (c .if1 .taken))
-    (λ c. search needs)
-    (λ c. search needs)
-    (λ c κs. search needs)
-    (λ c.
-    let args = c .before .before .before .args in
-    let if1 = c .before .before .if1 in
-    above-other (bookOf (args .t1)) (args .t) (args .h) (if1 .left) (c .has .ensures)))
+    (tie.spec returns mul-p element-copy-out-p has-requires returns-2)

@@ -17,22 +17,42 @@ Inv-loop self₀ store more₀ self more = Reached (bookOf (self₀ .ledger)) st
 abbrev μ-loop : tie.MeasureT-loop
 μ-loop self₀ store more₀ self more = left (bookOf (self .ledger)) more
 
+-- places of the code, each from a later one
+abbrev loop→start : tie.At-loop Inv-loop μ-loop → tie.Start Inv-loop μ-loop
+loop→start c = c .before .before
+
+loop-holds : tie.Need-loop-holds Inv-loop μ-loop
+loop-holds c = reached-none _ _ _ (search needs)
+
+pass-all-requires : tie.Need-pass-all-requires Inv-loop μ-loop
+pass-all-requires c κs =
+    let at-loop = c .before in
+    omega (arith, at-loop .loop .inv .used-kept)
+
+loop-less : tie.Need-loop-less Inv-loop μ-loop
+loop-less c =
+    let in-loop = c .before in
+    let at-loop = in-loop .before in
+    let at-start = loop→start at-loop in
+    let a = at-start .args in
+    left-falls _ (now (a .store)) _ (bookOf (at-loop .loop .self .ledger)) (at-loop .loop .more) (at-loop .loop .inv) (outcomeOf (c .pass-all .result)) (c .pass-all .ensures)
+    (search needs) (in-loop .loop-test .taken)
+
+loop-again : tie.Need-loop-again Inv-loop μ-loop
+loop-again c =
+    let at-loop = c .before .before in
+    reached-next _ _ _ _ _ (at-loop .loop .inv) (outcomeOf (c .pass-all .result)) (c .pass-all .ensures) (search needs)
+
+returns : tie.Need-returns Inv-loop μ-loop
+returns c =
+    let after-loop = c .before in
+    let at-loop = after-loop .before in
+    let at-start = loop→start at-loop in
+    let a = at-start .args in
+    reached-passed (outcomeOf (a .self)) (now (a .store)) (bookOf (at-loop .loop .self .ledger))
+    (subst (Reached (bookOf (a .self .ledger)) (now (a .store)) (a .self .changed) (bookOf (at-loop .loop .self .ledger))) (after-loop .loop-test .left) (at-loop .loop .inv))
+
 pub settle-spec : {M : Type 1} → statement M
 settle-spec =
     tie.close
-    (tie.spec
-    Inv-loop
-    μ-loop
-    (λ c. reached-none _ _ _ (search needs))
-    (λ c κs. omega (arith, c .before .loop .inv .used-kept))
-    (λ c.
-    let h = c .before .before in
-    let a = h .before .before .args in
-    left-falls _ (now (a .store)) _ (bookOf (h .loop .self .ledger)) (h .loop .more) (h .loop .inv) (outcomeOf (c .pass-all .result)) (c .pass-all .ensures)
-    (search needs) (c .before .loop-test .taken))
-    (λ c. let h = c .before .before in reached-next _ _ _ _ _ (h .loop .inv) (outcomeOf (c .pass-all .result)) (c .pass-all .ensures) (search needs))
-    (λ c.
-    let h = c .before .before in
-    let a = h .before .before .args in
-    reached-passed (outcomeOf (a .self)) (now (a .store)) (bookOf (h .loop .self .ledger))
-    (subst (Reached (bookOf (a .self .ledger)) (now (a .store)) (a .self .changed) (bookOf (h .loop .self .ledger))) (c .before .loop-test .left) (h .loop .inv))))
+    (tie.spec Inv-loop μ-loop loop-holds pass-all-requires loop-less loop-again returns)

@@ -8,7 +8,7 @@ use Rattle.ledger_sorting.proofs.Places.none.Tie as tie
 returns : tie.Need-returns
 unfolding all
 returns c =
-    (record { sound = record { whole = refl; room = omega arith; inside = refl }; are = refl }, refl)
+    (record { is-list = record { whole = refl; room = omega arith; inside = refl }; are = refl }, refl)
 
 pub none-spec : {M : Type 1} → statement M
 none-spec =

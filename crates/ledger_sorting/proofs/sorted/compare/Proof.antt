@@ -9,17 +9,40 @@ use Rattle.ledger_sorting.specs.PlaceLists.{keyIn}
 use Rattle.ledger_sorting.proofs.sorted.compare.Statement.{statement}
 use Rattle.ledger_sorting.proofs.sorted.compare.Tie as tie
 
+-- places of the code, each from a later one
+abbrev enum-told→start : tie.After-enum-told → tie.Start
+enum-told→start c = c .before .before .before
+
+abbrev enum-told2→start : tie.After-enum-told2 → tie.Start
+enum-told2→start c = c .before .before .before
+
+enum-told : tie.Need-enum-told
+enum-told c = search needs
+
+compare-ids-requires : tie.Need-compare-ids-requires
+compare-ids-requires c κs = search needs
+
+enum-told-2 : tie.Need-enum-told-2
+enum-told-2 c = search needs
+
+compare-tags-requires : tie.Need-compare-tags-requires
+compare-tags-requires c κs = search needs
+
+returns : tie.Need-returns
+returns c =
+    let at-enum-told = c .before in
+    let at-start = enum-told→start at-enum-told in
+    let args = at-start .args in
+    c .compare-ids .ensures ∙ ap (λ (y : Key). orderOf (keyIn (now (args .store)) y (placeOf (args .own)) (args .j)) (keyIn (now (args .store)) y (placeOf (args .other)) (args .k))) (sym (at-enum-told .enum-told .given .1))
+
+returns-2 : tie.Need-returns-2
+returns-2 c =
+    let at-enum-told2 = c .before in
+    let at-start = enum-told2→start at-enum-told2 in
+    let args = at-start .args in
+    c .compare-tags .ensures ∙ ap (λ (y : Key). orderOf (keyIn (now (args .store)) y (placeOf (args .own)) (args .j)) (keyIn (now (args .store)) y (placeOf (args .other)) (args .k))) (sym (at-enum-told2 .enum-told2 .given .1))
+
 pub compare-spec : {M : Type 1} → statement M
 compare-spec =
     tie.close
-    (tie.spec
-    (λ c. search needs)
-    (λ c κs. search needs)
-    (λ c. search needs)
-    (λ c κs. search needs)
-    (λ c.
-    let args = c .before .before .before .before .args in
-    c .compare-ids .ensures ∙ ap (λ (y : Key). orderOf (keyIn (now (args .store)) y (placeOf (args .own)) (args .j)) (keyIn (now (args .store)) y (placeOf (args .other)) (args .k))) (sym (c .before .enum-told .given .1)))
-    (λ c.
-    let args = c .before .before .before .before .args in
-    c .compare-tags .ensures ∙ ap (λ (y : Key). orderOf (keyIn (now (args .store)) y (placeOf (args .own)) (args .j)) (keyIn (now (args .store)) y (placeOf (args .other)) (args .k))) (sym (c .before .enum-told2 .given .1))))
+    (tie.spec enum-told compare-ids-requires enum-told-2 compare-tags-requires returns returns-2)

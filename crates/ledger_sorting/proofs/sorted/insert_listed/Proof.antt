@@ -10,19 +10,38 @@ use Rattle.ledger_sorting.proofs.Inserting.{renamed}
 use Rattle.ledger_sorting.proofs.sorted.insert_listed.Statement.{statement}
 use Rattle.ledger_sorting.proofs.sorted.insert_listed.Tie as tie
 
+-- places of the code, each from a later one
+abbrev candidate→start : tie.After-candidate → tie.Start
+candidate→start c = c .before .before
+
+candidate-requires : tie.Need-candidate-requires
+candidate-requires c κs = search needs
+
+insert-requires : tie.Need-insert-requires
+insert-requires c κs =
+    let at-start = candidate→start (c .before) in
+    at-start .pre .room-for
+
+returns : tie.Need-returns
+returns c =
+    let in-then1 = c .before in
+    let at-candidate = in-then1 .before in
+    let at-start = candidate→start at-candidate in
+    let args = at-start .args in (
+      renamed (ap (λ (b : Bool). cond b (insert (keyOf (bookOf (args .l)) (now (args .store)) (args .key)) (args .k) (placesIn (args .places))) (placesIn (args .places))) (sym (sym (at-candidate .candidate .ensures) ∙ in-then1 .if1 .taken))) (c .insert .ensures .0),
+      c .insert .ensures .1,
+    )
+
+returns-2 : tie.Need-returns-2
+returns-2 c =
+    let at-candidate = c .before in
+    let at-start = candidate→start at-candidate in
+    let args = at-start .args in (
+      record { is-list = at-start .pre .room-for .is-list; are = ap (λ (b : Bool). cond b (insert (keyOf (bookOf (args .l)) (now (args .store)) (args .key)) (args .k) (placesIn (args .places))) (placesIn (args .places))) (sym (sym (at-candidate .candidate .ensures) ∙ c .if1 .left)) },
+      search needs,
+    )
+
 pub insert-listed-spec : {M : Type 1} → statement M
 insert-listed-spec =
     tie.close
-    (tie.spec
-    (λ c κs. search needs)
-    (λ c κs. c .before .before .before .pre .room-for)
-    (λ c.
-    let args = c .before .before .before .before .args in (
-      renamed (ap (λ (b : Bool). cond b (insert (keyOf (bookOf (args .l)) (now (args .store)) (args .key)) (args .k) (placesIn (args .places))) (placesIn (args .places))) (sym (sym (c .before .before .candidate .ensures) ∙ c .before .if1 .taken))) (c .insert .ensures .0),
-      c .insert .ensures .1,
-    ))
-    (λ c.
-    let args = c .before .before .before .args in (
-      record { sound = c .before .before .before .pre .room-for .sound; are = ap (λ (b : Bool). cond b (insert (keyOf (bookOf (args .l)) (now (args .store)) (args .key)) (args .k) (placesIn (args .places))) (placesIn (args .places))) (sym (sym (c .before .candidate .ensures) ∙ c .if1 .left)) },
-      search needs,
-    )))
+    (tie.spec candidate-requires insert-requires returns returns-2)

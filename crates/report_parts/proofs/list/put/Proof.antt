@@ -9,7 +9,7 @@ put-spec =
     (tie.spec
     (λ c κs.
     let pre = c .before .pre in
-    record { sound = pre .sound; place-within = pre .place-within })
+    record { is-list = pre .is-list; place-within = pre .place-within })
     (λ c κs.
     let pre = c .before .before .pre in
     record { room-for = pre; index-within = c .index-of .ensures .0 })

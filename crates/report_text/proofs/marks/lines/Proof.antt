@@ -20,9 +20,20 @@ Inv-loop authors page₀ at end₀ a₀ page end a =
 abbrev μ-loop : tie.MeasureT-loop
 μ-loop authors page₀ at end₀ a₀ page end a = suc maxAuthor - a
 
+-- places of the code, each from a later one
+abbrev loop→start : tie.At-loop Inv-loop μ-loop → tie.Start Inv-loop μ-loop
+loop→start c = c .before .before
+
+abbrev shown-line→loop : tie.After-shown-line Inv-loop μ-loop → tie.At-loop Inv-loop μ-loop
+shown-line→loop c = c .before .before .before
+
+abbrev slice-known2→shown-line : tie.After-slice-known2 Inv-loop μ-loop → tie.After-shown-line Inv-loop μ-loop
+slice-known2→shown-line c = c .before .before
+
 loop-holds : tie.Need-loop-holds Inv-loop μ-loop
 loop-holds c =
-    let args = c .before .args in
+    let at-start = c .before in
+    let args = at-start .args in
     (search needs, refl, omega arith, same-text (lines-start (args .authors)) (nothing (now (args .page)) (args .at)))
 
 shown-line-requires : tie.Need-shown-line-requires Inv-loop μ-loop
@@ -36,34 +47,31 @@ loop-less c = search needs
 
 loop-again : tie.Need-loop-again Inv-loop μ-loop
 loop-again c =
-    let line = c .before .before .shown-line in
-    let turn = c .before .before .before .before .before in
-    let args = turn .before .before .args in (
+    let at-shown-line = slice-known2→shown-line c in
+    let at-loop = shown-line→loop at-shown-line in
+    let at-start = loop→start at-loop in
+    let line = at-shown-line .shown-line in
+    let args = at-start .args in (
       search needs,
-      omega (arith, line .kept .1 .1 .0, turn .loop .inv .1),
-      omega (arith, line .ensures .1, turn .loop .inv .2),
-      same-text (lines-more (args .authors) (turn .loop .a)) (both (turn .loop .inv .3) (line .ensures .0)),
+      omega (arith, line .kept .1 .1 .0, at-loop .loop .inv .1),
+      omega (arith, line .ensures .1, at-loop .loop .inv .2),
+      same-text (lines-more (args .authors) (at-loop .loop .a)) (both (at-loop .loop .inv .3) (line .ensures .0)),
     )
 
 same-length : tie.Need-same-length Inv-loop μ-loop
-same-length c = c .before .loop .inv .1
+same-length c =
+    let at-loop = c .before in
+    at-loop .loop .inv .1
 
 returns : tie.Need-returns Inv-loop μ-loop
 returns c =
-    let loop = c .before .loop in
-    let args = c .before .before .before .args in
+    let at-loop = c .before in
+    let at-start = loop→start at-loop in
+    let loop = at-loop .loop in
+    let args = at-start .args in
     (same-text (lines-all (args .authors) (loop .a) (search needs) (search needs)) (loop .inv .3), omega arith)
 
 pub lines-spec : {M : Type 1} → statement M
 lines-spec =
     tie.close
-    (tie.spec
-    Inv-loop
-    μ-loop
-    loop-holds
-    shown-line-requires
-    add-a
-    loop-less
-    loop-again
-    same-length
-    returns)
+    (tie.spec Inv-loop μ-loop loop-holds shown-line-requires add-a loop-less loop-again same-length returns)

@@ -7,6 +7,19 @@ use Rattle.report_text.proofs.MarkLaws.{marks-is}
 use Rattle.report_text.proofs.marks.print.Statement.{statement}
 use Rattle.report_text.proofs.marks.print.Tie as tie
 
+-- places of the code, each from a later one
+abbrev put→start : tie.After-put → tie.Start
+put→start c = c .before .before .before .before
+
+abbrev lines→put : tie.After-lines → tie.After-put
+lines→put c = c .before .before .before .before
+
+abbrev put2→lines : tie.After-put2 → tie.After-lines
+put2→lines c = c .before .before .before .before .before
+
+abbrev slice-known4→put2 : tie.After-slice-known4 → tie.After-put2
+slice-known4→put2 c = c .before .before
+
 slice-aggregate-put : tie.Need-slice-aggregate-put
 slice-aggregate-put c = search needs
 
@@ -27,13 +40,16 @@ same-length c = search needs
 
 returns : tie.Need-returns
 returns c =
-    let closed = c .before .before in
-    let shown = closed .before .before .before .before .before in
-    let opened = shown .before .before .before .before in
-    let args = opened .before .before .before .before .args in (
-      same-text (marks-is (authorsIn (args .authors))) (both (opened .put .ensures) (both (shown .lines .ensures .0) (closed .put2 .ensures))),
-      omega (arith, closed .put2 .ensures .past, shown .lines .ensures .1, opened .put .ensures .past),
+    let at-put2 = slice-known4→put2 c in
+    let at-lines = put2→lines at-put2 in
+    let at-put = lines→put at-lines in
+    let at-start = put→start at-put in
+    let args = at-start .args in (
+      same-text (marks-is (authorsIn (args .authors))) (both (at-put .put .ensures) (both (at-lines .lines .ensures .0) (at-put2 .put2 .ensures))),
+      omega (arith, at-put2 .put2 .ensures .past, at-lines .lines .ensures .1, at-put .put .ensures .past),
     )
 
 pub print-spec : {M : Type 1} → statement M
-print-spec = tie.close (tie.spec slice-aggregate-put put-requires lines-requires slice-aggregate-put-2 put-requires-2 same-length returns)
+print-spec =
+    tie.close
+    (tie.spec slice-aggregate-put put-requires lines-requires slice-aggregate-put-2 put-requires-2 same-length returns)

@@ -28,40 +28,78 @@ Inv-loop l store slice page₀ at places count end₀ i₀ page end i =
 abbrev μ-loop : tie.MeasureT-loop
 μ-loop l store slice page₀ at places count end₀ i₀ page end i = count - i
 
-pub lines-spec : {M : Type 1} → statement M
-lines-spec =
-    tie.close
-    (tie.spec
-    Inv-loop
-    μ-loop
-    (λ c. (search needs, refl, omega arith, λ p m h. h))
-    (λ c. search needs)
-    (λ c. search needs)
-    (λ c κs.
-    let loop = c .before .before .before .loop in
-    let pre = c .before .before .before .before .before .before .pre in
-    let args = c .before .before .before .before .before .before .args in
+-- places of the code, each from a later one
+abbrev loop→start : tie.At-loop Inv-loop μ-loop → tie.Start Inv-loop μ-loop
+loop→start c = c .before .before .before
+
+abbrev shown-line-arg→loop : tie.After-shown-line-arg Inv-loop μ-loop → tie.At-loop Inv-loop μ-loop
+shown-line-arg→loop c = c .before .before .before
+
+abbrev shown-line→loop : tie.After-shown-line Inv-loop μ-loop → tie.At-loop Inv-loop μ-loop
+shown-line→loop c = c .before .before .before .before
+
+abbrev slice-known2→shown-line : tie.After-slice-known2 Inv-loop μ-loop → tie.After-shown-line Inv-loop μ-loop
+slice-known2→shown-line c = c .before .before
+
+loop-holds : tie.Need-loop-holds Inv-loop μ-loop
+loop-holds c = (search needs, refl, omega arith, λ p m h. h)
+
+mul-k : tie.Need-mul-k Inv-loop μ-loop
+mul-k c = search needs
+
+element-copy-out-k : tie.Need-element-copy-out-k Inv-loop μ-loop
+element-copy-out-k c = search needs
+
+shown-line-requires : tie.Need-shown-line-requires Inv-loop μ-loop
+shown-line-requires c κs =
+    let at-loop = shown-line-arg→loop c in
+    let at-start = loop→start at-loop in
+    let loop = at-loop .loop in
+    let pre = at-start .pre in
+    let args = at-start .args in
     record {
-      place-in = record { used-within = pre .used-within; place-within = below (args .t4) (pre .sound) (loop .i) (search needs) };
-      line-within = omega (arith, loop .inv .2, pre .sound .room, pre .page-within);
-    })
-    (λ c. search needs)
-    (λ c. search needs)
-    (λ c.
-    let args = c .before .before .before .before .before .before .before .before .before .args in
-    let loop = c .before .before .before .before .before .before .loop in
-    let pre = c .before .before .before .before .before .before .before .before .before .pre in
-    let shown-line = c .before .before .shown-line in (
+      place-in = record { used-within = pre .used-within; place-within = below (args .t4) (pre .is-list) (loop .i) (search needs) };
+      line-within = omega (arith, loop .inv .2, pre .is-list .room, pre .page-within);
+    }
+
+add-i : tie.Need-add-i Inv-loop μ-loop
+add-i c = search needs
+
+loop-less : tie.Need-loop-less Inv-loop μ-loop
+loop-less c = search needs
+
+loop-again : tie.Need-loop-again Inv-loop μ-loop
+loop-again c =
+    let at-shown-line = slice-known2→shown-line c in
+    let at-loop = shown-line→loop at-shown-line in
+    let at-start = loop→start at-loop in
+    let args = at-start .args in
+    let loop = at-loop .loop in
+    let pre = at-start .pre in
+    let shown-line = at-shown-line .shown-line in (
       search needs,
       omega (arith, shown-line .kept .1 .1 .1 .1 .0, loop .inv .1),
       omega (arith, shown-line .ensures .1, loop .inv .2),
-      λ p m h. loop .inv .3 p m (same-text (lines-next (bookOf (args .l)) (now (args .store)) (args .part) (placesIn (args .t4)) (loop .i) (getD (args .t4 .items) (loop .i) 0) (next (args .t4) (pre .sound) (loop .i) (search needs))) (both (shown-line .ensures .0) h)),
-    ))
-    (λ c. c .before .loop .inv .1)
-    (λ c.
-    let args = c .before .before .before .before .args in
-    let loop = c .before .loop in
-    let pre = c .before .before .before .before .pre in (
-      loop .inv .3 (loop .page) (loop .end) (same-text (lines-end (bookOf (args .l)) (now (args .store)) (args .part) (placesIn (args .t4)) (loop .i) (ended (args .t4) (pre .sound) (loop .i) (search needs))) (nothing (loop .page) (loop .end))),
-      omega (arith, loop .inv .2, pre .sound .room),
-    )))
+      λ p m h. loop .inv .3 p m (same-text (lines-next (bookOf (args .l)) (now (args .store)) (args .part) (placesIn (args .t4)) (loop .i) (getD (args .t4 .items) (loop .i) 0) (next (args .t4) (pre .is-list) (loop .i) (search needs))) (both (shown-line .ensures .0) h)),
+    )
+
+same-length : tie.Need-same-length Inv-loop μ-loop
+same-length c =
+    let at-loop = c .before in
+    at-loop .loop .inv .1
+
+returns : tie.Need-returns Inv-loop μ-loop
+returns c =
+    let at-loop = c .before in
+    let at-start = loop→start at-loop in
+    let args = at-start .args in
+    let loop = at-loop .loop in
+    let pre = at-start .pre in (
+      loop .inv .3 (loop .page) (loop .end) (same-text (lines-end (bookOf (args .l)) (now (args .store)) (args .part) (placesIn (args .t4)) (loop .i) (ended (args .t4) (pre .is-list) (loop .i) (search needs))) (nothing (loop .page) (loop .end))),
+      omega (arith, loop .inv .2, pre .is-list .room),
+    )
+
+pub lines-spec : {M : Type 1} → statement M
+lines-spec =
+    tie.close
+    (tie.spec Inv-loop μ-loop loop-holds mul-k element-copy-out-k shown-line-requires add-i loop-less loop-again same-length returns)

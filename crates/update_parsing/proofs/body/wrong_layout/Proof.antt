@@ -9,6 +9,16 @@ use Rattle.update_parsing.proofs.BodyTests.{other-ends}
 use Rattle.update_parsing.proofs.body.wrong_layout.Statement.{statement}
 use Rattle.update_parsing.proofs.body.wrong_layout.Tie as tie
 
+-- places of the code, each from a later one
+abbrev struct-known2→start : tie.After-struct-known2 → tie.Start
+struct-known2→start c = c .before .before .before .before
+
+abbrev struct-known6→struct-known5 : tie.After-struct-known6 → tie.After-struct-known5
+struct-known6→struct-known5 c = c .before .before
+
+abbrev struct-known7→struct-known5 : tie.After-struct-known7 → tie.After-struct-known5
+struct-known7→struct-known5 c = c .before .before
+
 -- the start, from the place behind the last test
 abbrev at-third : tie.After-struct-known5 → tie.Start
 at-third c = c .before .before .before .before .before .before
@@ -18,7 +28,8 @@ add-result c = search needs
 
 returns : tie.Need-returns
 returns c =
-    let s = now (c .before .before .before .before .args .s) in
+    let at-start = struct-known2→start c in
+    let s = now (at-start .args .s) in
     let k : kindOf s ≡ 1 = omega arith in
     other-ends s (λ e. omega arith) (omega (arith, add-length s k))
 
@@ -39,7 +50,8 @@ add-result-3 c = search needs
 
 returns-3 : tie.Need-returns-3
 returns-3 c =
-    let s = now (at-third (c .before .before) .args .s) in
+    let at-struct-known5 = struct-known6→struct-known5 c in
+    let s = now (at-third at-struct-known5 .args .s) in
     let k : kindOf s ≡ 3 = omega arith in
     other-ends s (λ e. omega arith) (omega (arith, insert-length s k))
 
@@ -48,10 +60,12 @@ add-result-4 c = search needs
 
 returns-4 : tie.Need-returns-4
 returns-4 c =
-    let s = now (at-third (c .before .before) .args .s) in
+    let at-struct-known5 = struct-known7→struct-known5 c in
+    let s = now (at-third at-struct-known5 .args .s) in
     let k : kindOf s ≡ 4 = omega arith in
     other-ends s (λ e. omega arith) (omega (arith, delete-length s k))
 
 pub wrong-layout-spec : {M : Type 1} → statement M
 wrong-layout-spec =
-    tie.close (tie.spec add-result returns add-tag wrong-remove-requires returns-2 add-result-2 add-result-3 returns-3 add-result-4 returns-4)
+    tie.close
+    (tie.spec add-result returns add-tag wrong-remove-requires returns-2 add-result-2 add-result-3 returns-3 add-result-4 returns-4)

@@ -21,37 +21,78 @@ Inv-loop l page₀ at places count end₀ i₀ page end i = (i ≤ count) × (le
 abbrev μ-loop : tie.MeasureT-loop
 μ-loop l page₀ at places count end₀ i₀ page end i = count - i
 
+-- places of the code, each from a later one
+abbrev loop→start : tie.At-loop Inv-loop μ-loop → tie.Start Inv-loop μ-loop
+loop→start c = c .before .before
+
+abbrev put-id-arg→loop : tie.After-put-id-arg Inv-loop μ-loop → tie.At-loop Inv-loop μ-loop
+put-id-arg→loop c = c .before .before .before
+
+abbrev put-id→loop : tie.After-put-id Inv-loop μ-loop → tie.At-loop Inv-loop μ-loop
+put-id→loop c = c .before .before .before .before
+
+abbrev slice-known2→put-id : tie.After-slice-known2 Inv-loop μ-loop → tie.After-put-id Inv-loop μ-loop
+slice-known2→put-id c = c .before .before
+
+loop-holds : tie.Need-loop-holds Inv-loop μ-loop
+loop-holds c = (search needs, refl, omega arith, λ p m h. h)
+
+mul-k : tie.Need-mul-k Inv-loop μ-loop
+mul-k c =
+    let at-start = loop→start (c .before) in
+    let pre = at-start .pre in
+    omega (arith, pre .is-list .room)
+
+element-copy-out-k : tie.Need-element-copy-out-k Inv-loop μ-loop
+element-copy-out-k c =
+    let at-start = loop→start (c .before) in
+    let pre = at-start .pre in
+    omega (arith, pre .is-list .room, pre .is-list .whole)
+
+put-id-requires : tie.Need-put-id-requires Inv-loop μ-loop
+put-id-requires c κs =
+    let at-loop = put-id-arg→loop c in
+    let at-start = loop→start at-loop in
+    let args = at-start .args in
+    let pre = at-start .pre in
+    let loop = at-loop .loop in
+    record { place-within = below (args .t2) (pre .is-list) (loop .i) (search needs); at-within = omega (arith, loop .inv .2, pre .is-list .room, pre .at-within) }
+
+add-i : tie.Need-add-i Inv-loop μ-loop
+add-i c =
+    let at-start = loop→start (put-id→loop (slice-known2→put-id c)) in
+    let pre = at-start .pre in
+    omega (arith, pre .is-list .room)
+
+loop-less : tie.Need-loop-less Inv-loop μ-loop
+loop-less c = search needs
+
+loop-again : tie.Need-loop-again Inv-loop μ-loop
+loop-again c =
+    let at-put-id = slice-known2→put-id c in
+    let at-loop = put-id→loop at-put-id in
+    let at-start = loop→start at-loop in
+    let put-id = at-put-id .put-id in
+    let loop = at-loop .loop in
+    let args = at-start .args in
+    let pre = at-start .pre in
+    (search needs, omega (arith, put-id .kept .1 .1 .0, loop .inv .1), omega (arith, put-id .ensures .1, loop .inv .2), λ p m h. loop .inv .3 p m (same-text (ids-next (bookOf (args .l)) (placesIn (args .t2)) (loop .i) (getD (args .t2 .items) (loop .i) 0) (next (args .t2) (pre .is-list) (loop .i) (search needs)) refl) (both (put-id .ensures .0) h)))
+
+same-length : tie.Need-same-length Inv-loop μ-loop
+same-length c =
+    let at-loop = c .before in
+    at-loop .loop .inv .1
+
+returns : tie.Need-returns Inv-loop μ-loop
+returns c =
+    let at-loop = c .before in
+    let at-start = loop→start at-loop in
+    let loop = at-loop .loop in
+    let args = at-start .args in
+    let pre = at-start .pre in
+    (loop .inv .3 (loop .page) (loop .end) (same-text (ids-end (bookOf (args .l)) (placesIn (args .t2)) (loop .i) (ended (args .t2) (pre .is-list) (loop .i) (search needs))) (nothing (loop .page) (loop .end))), omega (arith, loop .inv .2))
+
 pub put-ids-spec : {M : Type 1} → statement M
 put-ids-spec =
     tie.close
-    (tie.spec
-    Inv-loop
-    μ-loop
-    (λ c. (search needs, refl, omega arith, λ p m h. h))
-    (λ c.
-    let pre = c .before .before .before .pre in
-    omega (arith, pre .sound .room))
-    (λ c.
-    let pre = c .before .before .before .pre in
-    omega (arith, pre .sound .room, pre .sound .whole))
-    (λ c κs.
-    let args = c .before .before .before .before .before .args in
-    let pre = c .before .before .before .before .before .pre in
-    let loop = c .before .before .before .loop in
-    record { place-within = below (args .t2) (pre .sound) (loop .i) (search needs); at-within = omega (arith, loop .inv .2, pre .sound .room, pre .at-within) })
-    (λ c.
-    let pre = c .before .before .before .before .before .before .before .before .pre in
-    omega (arith, pre .sound .room))
-    (λ c. search needs)
-    (λ c.
-    let put-id = c .before .before .put-id in
-    let loop = c .before .before .before .before .before .before .loop in
-    let args = c .before .before .before .before .before .before .before .before .args in
-    let pre = c .before .before .before .before .before .before .before .before .pre in
-    (search needs, omega (arith, put-id .kept .1 .1 .0, loop .inv .1), omega (arith, put-id .ensures .1, loop .inv .2), λ p m h. loop .inv .3 p m (same-text (ids-next (bookOf (args .l)) (placesIn (args .t2)) (loop .i) (getD (args .t2 .items) (loop .i) 0) (next (args .t2) (pre .sound) (loop .i) (search needs)) refl) (both (put-id .ensures .0) h))))
-    (λ c. c .before .loop .inv .1)
-    (λ c.
-    let loop = c .before .loop in
-    let args = c .before .before .before .args in
-    let pre = c .before .before .before .pre in
-    (loop .inv .3 (loop .page) (loop .end) (same-text (ids-end (bookOf (args .l)) (placesIn (args .t2)) (loop .i) (ended (args .t2) (pre .sound) (loop .i) (search needs))) (nothing (loop .page) (loop .end))), omega (arith, loop .inv .2))))
+    (tie.spec Inv-loop μ-loop loop-holds mul-k element-copy-out-k put-id-requires add-i loop-less loop-again same-length returns)
