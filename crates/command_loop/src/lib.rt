@@ -1,4 +1,4 @@
-// The command's loop: reads, feeds what was read, and writes what that puts out. The work on the bytes is `command_session`, the calls are `streams`.
+// The command's loop: reads, feeds what was read, and writes what that puts out. The work on the bytes is `command_session`, the calls are `command_streams`.
 ghost use mathlib.Core.Path.{_≡_};
 ghost use Rattle.command_session.specs.Session.{maxInput};
 ghost use Rattle.command_loop.specs.Command.{AtPiece, HandsOn, Room, Passes, BeginsRun, StepReady, Steps, Ends, Lent, Runs, Commands};

@@ -34,12 +34,12 @@ pub record PlaceList (o : Places) : Type 0 where
   pub room : o .count ≤ places
   pub inside : small (placesIn o) ≡ true
 
--- the list is sound, and its places are xs
+-- it is a list of places, and they are xs
 pub record Lists (o : Places) (xs : List ℕ) : Type 0 where
   pub is-list : PlaceList o
   pub are : placesIn o ≡ xs
 
--- the list is sound and has room for one more, and k is a place
+-- it is a list of places with room for one more, and k is a place
 pub record RoomFor (o : Places) (k : ℕ) : Type 0 where
   pub is-list : PlaceList o
   pub room : o .count < places

@@ -1,5 +1,5 @@
--- What row 1 asks, as facts; a ledger that holds updates has them.
-use mathlib.Core.Path.{_≡_, sym, subst}
+-- What row 1 asks, as facts; a ledger that holds updates has them. The length of a store, as document 01 has it.
+use mathlib.Core.Path.{_≡_, refl, sym, subst}
 use Prim.Native.Nat.{ℕ, _≤_, _<_}
 use native.Mathlib.Omega.{arith}
 use mathlib.Core.List.{List}
@@ -17,6 +17,10 @@ use Rattle.bitset.specs.Bits.{within}
 use Rattle.ledger_state.specs.State.{places, storeLength, Place, Book, placeAt}
 use Rattle.ledger_state.specs.Row1.{soundPlace, sound}
 use Rattle.ledger_state.specs.Stands.{noUpdate, updateAt, Holds}
+
+-- "the lent store, which has 34,112 bytes"
+pub store-bytes : storeLength ≡ 34112
+store-bytes = refl
 
 pub record SoundPlace (used : ℕ) (p : Place) : Type 0 where
   pub long : minLength ≤ p .length

@@ -9,7 +9,7 @@ use Rattle.ledger_relations.specs.Related.{rankedIn}
 use Rattle.ledger_sorting.specs.declared.Places.{Places}
 use Rattle.ledger_sorting.specs.PlaceLists.{placesIn, PlaceList}
 
--- the list is sound, and k is a place
+-- it is a list of places, and k is a place
 pub record PlaceAmong (o : Places) (k : ℕ) : Type 0 where
   pub is-list : PlaceList o
   pub place-within : k < places
@@ -19,7 +19,7 @@ module _ (l : Book) (s : List ℕ) where
   unfoldable pub rankedAt : ℕ → ℕ → Bool
   rankedAt n k = rankedIn s n (placeAt l k) k
 
-  -- both lists are sound, and the entries have room for those of rank n
+  -- both are lists of places, and the entries have room for those of rank n
   pub record RankRoom (order : Places) (n : ℕ) (entries : Places) : Type 0 where
     pub order-is-list : PlaceList order
     pub entries-is-list : PlaceList entries

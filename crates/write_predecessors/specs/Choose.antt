@@ -43,7 +43,7 @@ module _ (l : Book) (s : List ℕ) where
     pub heads-listed : Lists o headsOf
     pub over-most : maxPredecessors < o .count
 
--- the list is sound and has n places or more
+-- it is a list of n places or more
 pub record FirstOf (o : Places) (n : ℕ) : Type 0 where
   pub is-list : PlaceList o
   pub count-within : n ≤ o .count

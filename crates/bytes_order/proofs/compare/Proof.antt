@@ -97,4 +97,5 @@ returns-5 c =
 pub compare-spec : {M : Type 1} → statement M
 compare-spec =
     tie.close
-    (tie.spec Inv-loop μ-loop loop-holds returns shared-slice-read-if2 shared-slice-read-if2-2 returns-2 shared-slice-read-if3 shared-slice-read-if3-2 returns-3 add-i loop-less loop-again returns-4 returns-5)
+    (tie.spec Inv-loop μ-loop loop-holds returns shared-slice-read-if2 shared-slice-read-if2-2 returns-2 shared-slice-read-if3 shared-slice-read-if3-2
+    returns-3 add-i loop-less loop-again returns-4 returns-5)

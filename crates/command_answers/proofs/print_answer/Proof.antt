@@ -88,4 +88,5 @@ returns-3 c =
 pub print-answer-spec : {M : Type 1} → statement M
 print-answer-spec =
     tie.close
-    (tie.spec enum-known-answer print-taken-requires enum-known-answer-2 print-known-requires enum-known-answer-3 print-refused-requires same-length returns same-length-2 returns-2 same-length-3 returns-3)
+    (tie.spec enum-known-answer print-taken-requires enum-known-answer-2 print-known-requires enum-known-answer-3 print-refused-requires same-length
+    returns same-length-2 returns-2 same-length-3 returns-3)

@@ -88,4 +88,5 @@ returns-3 c =
 pub print-standing-spec : {M : Type 1} → statement M
 print-standing-spec =
     tie.close
-    (tie.spec enum-told slice-aggregate-put put-requires enum-told-2 slice-aggregate-put-2 put-requires-2 enum-told-3 slice-aggregate-put-3 put-requires-3 same-length returns same-length-2 returns-2 same-length-3 returns-3)
+    (tie.spec enum-told slice-aggregate-put put-requires enum-told-2 slice-aggregate-put-2 put-requires-2 enum-told-3 slice-aggregate-put-3
+    put-requires-3 same-length returns same-length-2 returns-2 same-length-3 returns-3)

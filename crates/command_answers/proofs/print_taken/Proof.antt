@@ -98,4 +98,5 @@ returns c =
 pub print-taken-spec : {M : Type 1} → statement M
 print-taken-spec =
     tie.close
-    (tie.spec slice-aggregate-put put-requires print-standing-requires slice-aggregate-put-2 put-requires-2 cast-decimal decimal-requires slice-aggregate-put-3 put-requires-3 cast-decimal-2 decimal-requires-2 slice-aggregate-put-4 put-requires-4 same-length returns)
+    (tie.spec slice-aggregate-put put-requires print-standing-requires slice-aggregate-put-2 put-requires-2 cast-decimal decimal-requires
+    slice-aggregate-put-3 put-requires-3 cast-decimal-2 decimal-requires-2 slice-aggregate-put-4 put-requires-4 same-length returns)

@@ -76,4 +76,5 @@ returns-2 c =
 pub skip-blocks-spec : {M : Type 1} → statement M
 skip-blocks-spec =
     tie.close
-    (tie.spec Inv-loop μ-loop loop-holds sub-loop add-has-newline sub-has-newline part-has-newline-start part-has-newline-end has-newline-requires add-at loop-less loop-again returns returns-2)
+    (tie.spec Inv-loop μ-loop loop-holds sub-loop add-has-newline sub-has-newline part-has-newline-start part-has-newline-end has-newline-requires
+    add-at loop-less loop-again returns returns-2)

@@ -74,4 +74,5 @@ returns c =
 pub hand-on-spec : {M : Type 1} → statement M
 hand-on-spec =
     tie.close
-    (tie.spec sub-feed part-feed-start part-feed-end feed-requires slice-reshare-prefix-write-all slice-aggregate-write-all write-all-requires same-length same-length-2 same-length-3 returns)
+    (tie.spec sub-feed part-feed-start part-feed-end feed-requires slice-reshare-prefix-write-all slice-aggregate-write-all write-all-requires
+    same-length same-length-2 same-length-3 returns)

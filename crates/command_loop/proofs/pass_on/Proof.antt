@@ -120,4 +120,5 @@ returns-2 c =
 pub pass-on-spec : {M : Type 1} → statement M
 pass-on-spec =
     tie.close
-    (tie.spec Inv-loop μ-loop loop-holds hand-on-requires same-length same-length-2 same-length-3 returns add-at loop-less loop-again same-length-4 same-length-5 same-length-6 returns-2)
+    (tie.spec Inv-loop μ-loop loop-holds hand-on-requires same-length same-length-2 same-length-3 returns add-at loop-less loop-again same-length-4
+    same-length-5 same-length-6 returns-2)

@@ -131,4 +131,5 @@ returns-2 c =
 pub run-on-spec : {M : Type 1} → statement M
 run-on-spec =
     tie.close
-    (tie.spec Inv-loop μ-loop begin-requires loop-holds step-requires loop-less loop-again same-length same-length-2 same-length-3 same-length-4 returns end-requires same-length-5 same-length-6 same-length-7 same-length-8 returns-2)
+    (tie.spec Inv-loop μ-loop begin-requires loop-holds step-requires loop-less loop-again same-length same-length-2 same-length-3 same-length-4
+    returns end-requires same-length-5 same-length-6 same-length-7 same-length-8 returns-2)

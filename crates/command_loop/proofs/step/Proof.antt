@@ -100,4 +100,5 @@ returns-2 c =
 pub step-spec : {M : Type 1} → statement M
 step-spec =
     tie.close
-    (tie.spec slice-reshare-prefix-pass-on slice-aggregate-pass-on pass-on-requires same-length same-length-2 same-length-3 same-length-4 returns read-some-requires same-length-5 same-length-6 same-length-7 same-length-8 returns-2)
+    (tie.spec slice-reshare-prefix-pass-on slice-aggregate-pass-on pass-on-requires same-length same-length-2 same-length-3 same-length-4 returns
+    read-some-requires same-length-5 same-length-6 same-length-7 same-length-8 returns-2)

@@ -73,4 +73,5 @@ returns-refused c =
 pub report-at-spec : {M : Type 1} → statement M
 report-at-spec =
     tie.close
-    (tie.spec sub-report part-report-start part-report-end report-requires enum-known-n add-written enum-known-refusal same-length returns-written same-length-2 returns-refused)
+    (tie.spec sub-report part-report-start part-report-end report-requires enum-known-n add-written enum-known-refusal same-length returns-written
+    same-length-2 returns-refused)

@@ -52,4 +52,5 @@ returns-2 c = search needs
 pub write-all-spec : {M : Type 1} → statement M
 write-all-spec =
     tie.close
-    (tie.spec Inv-loop μ-loop loop-holds sub-write-again part-write-again-start part-write-again-end write-again-requires returns add-at loop-less loop-again returns-2)
+    (tie.spec Inv-loop μ-loop loop-holds sub-write-again part-write-again-start part-write-again-end write-again-requires returns add-at loop-less
+    loop-again returns-2)

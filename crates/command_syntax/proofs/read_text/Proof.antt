@@ -94,4 +94,5 @@ returns-4 c =
 pub read-text-spec : {M : Type 1} → statement M
 read-text-spec =
     tie.close
-    (tie.spec framed-requires returns sub-last sub-digits returns-2 sub-all-digits part-all-digits-start part-all-digits-end all-digits-requires returns-3 returns-4)
+    (tie.spec framed-requires returns sub-last sub-digits returns-2 sub-all-digits part-all-digits-start part-all-digits-end all-digits-requires
+    returns-3 returns-4)

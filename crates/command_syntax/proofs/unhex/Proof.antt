@@ -119,4 +119,6 @@ same-length c =
 pub unhex-spec : {M : Type 1} → statement M
 unhex-spec =
     tie.close
-    (tie.spec Inv-loop μ-loop loop-holds mul-digit-value add-digit-value shared-slice-read-digit-value digit-value-requires mul-update mul-digit-value-2 add-digit-value-2 shared-slice-read-digit-value-2 digit-value-requires-2 add-update slice-write-update add-i loop-less loop-again same-length returns)
+    (tie.spec Inv-loop μ-loop loop-holds mul-digit-value add-digit-value shared-slice-read-digit-value digit-value-requires mul-update
+    mul-digit-value-2 add-digit-value-2 shared-slice-read-digit-value-2 digit-value-requires-2 add-update slice-write-update add-i loop-less
+    loop-again same-length returns)

@@ -83,4 +83,5 @@ returns-3 c = search needs
 pub offer-spec : {M : Type 1} → statement M
 offer-spec =
     tie.close
-    (tie.spec sound-requires left-requires same-length returns read-requires enum-known-m left-requires-2 enum-told offer-formed-requires same-length-2 returns-2 same-length-3 returns-3)
+    (tie.spec sound-requires left-requires same-length returns read-requires enum-known-m left-requires-2 enum-told offer-formed-requires
+    same-length-2 returns-2 same-length-3 returns-3)

@@ -104,4 +104,5 @@ returns-3 c p =
 pub bytes-in-spec : {M : Type 1} → statement M
 bytes-in-spec =
     tie.close
-    (tie.spec find-requires enum-known-j has-requires mul-p element-copy-out-p stored-requires slice-aggregate-result enum-told slice-aggregate-result-2 returns returns-2 returns-3)
+    (tie.spec find-requires enum-known-j has-requires mul-p element-copy-out-p stored-requires slice-aggregate-result enum-told
+    slice-aggregate-result-2 returns returns-2 returns-3)

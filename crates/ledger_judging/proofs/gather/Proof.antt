@@ -116,4 +116,5 @@ returns c =
 pub gather-spec : {M : Type 1} → statement M
 gather-spec =
     tie.close
-    (tie.spec Inv-loop μ-loop loop-holds predecessor-requires find-requires enum-known-j mul-gather-by element-copy-out-gather-by gather-by-requires enum-told add-k loop-less loop-again returns)
+    (tie.spec Inv-loop μ-loop loop-holds predecessor-requires find-requires enum-known-j mul-gather-by element-copy-out-gather-by gather-by-requires
+    enum-told add-k loop-less loop-again returns)

@@ -117,4 +117,6 @@ returns-5 c =
 pub valid-spec : {M : Type 1} → statement M
 valid-spec =
     tie.close
-    (tie.spec enum-told enum-known-operation slice-of-requires names-adds-requires enum-known-operation-2 slice-of-requires-2 slice-aggregate-same same-requires names-insert-requires enum-known-operation-3 slice-of-requires-3 names-insert-requires-2 returns returns-2 returns-3 returns-4 returns-5)
+    (tie.spec enum-told enum-known-operation slice-of-requires names-adds-requires enum-known-operation-2 slice-of-requires-2 slice-aggregate-same
+    same-requires names-insert-requires enum-known-operation-3 slice-of-requires-3 names-insert-requires-2 returns returns-2 returns-3 returns-4
+    returns-5)

@@ -116,4 +116,5 @@ returns-3 c = search needs
 pub offer-formed-spec : {M : Type 1} → statement M
 offer-formed-spec =
     tie.close
-    (tie.spec digest-requires slice-aggregate-find find-requires enum-known-k mul-p element-copy-out-p left-requires enum-told left-requires-2 take-requires returns returns-2 same-length returns-3)
+    (tie.spec digest-requires slice-aggregate-find find-requires enum-known-k mul-p element-copy-out-p left-requires enum-told left-requires-2
+    take-requires returns returns-2 same-length returns-3)

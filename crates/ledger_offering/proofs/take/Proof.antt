@@ -132,4 +132,5 @@ returns c =
 pub take-spec : {M : Type 1} → statement M
 take-spec =
     tie.close
-    (tie.spec write-at-requires taken-requires settle-requires mul-p element-copy-out-p held-count-requires held-count-requires-2 sub-held void-count-requires void-count-requires-2 sub-void same-length returns)
+    (tie.spec write-at-requires taken-requires settle-requires mul-p element-copy-out-p held-count-requires held-count-requires-2 sub-held
+    void-count-requires void-count-requires-2 sub-void same-length returns)

@@ -101,4 +101,5 @@ returns-4 c =
 pub related-spec : {M : Type 1} → statement M
 related-spec =
     tie.close
-    (tie.spec enum-told has-requires enum-told-2 forks-requires enum-told-3 stored-requires slice-aggregate-removes removes-requires enum-told-4 stored-requires-2 slice-aggregate-erases erases-requires returns returns-2 returns-3 returns-4)
+    (tie.spec enum-told has-requires enum-told-2 forks-requires enum-told-3 stored-requires slice-aggregate-removes removes-requires enum-told-4
+    stored-requires-2 slice-aggregate-erases erases-requires returns returns-2 returns-3 returns-4)

@@ -84,4 +84,5 @@ returns-2 c =
 pub some-held-spec : {M : Type 1} → statement M
 some-held-spec =
     tie.close
-    (tie.spec Inv-loop μ-loop mul-own element-copy-out-own loop-holds mul-held-related element-copy-out-held-related held-related-requires returns add-q loop-less loop-again returns-2)
+    (tie.spec Inv-loop μ-loop mul-own element-copy-out-own loop-holds mul-held-related element-copy-out-held-related held-related-requires returns
+    add-q loop-less loop-again returns-2)

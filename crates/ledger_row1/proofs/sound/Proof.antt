@@ -86,4 +86,5 @@ returns-4 c =
 pub sound-spec : {M : Type 1} → statement M
 sound-spec =
     tie.close
-    (tie.spec Inv-loop μ-loop returns returns-2 loop-holds mul-sound-place element-copy-out-sound-place sound-place-requires returns-3 add-k loop-less loop-again returns-4)
+    (tie.spec Inv-loop μ-loop returns returns-2 loop-holds mul-sound-place element-copy-out-sound-place sound-place-requires returns-3 add-k loop-less
+    loop-again returns-4)

@@ -93,4 +93,5 @@ returns c =
 pub pass-over-spec : {M : Type 1} → statement M
 pass-over-spec =
     tie.close
-    (tie.spec Inv-loop μ-loop loop-holds sub-k mul-waits-selected element-copy-out-waits-selected waits-selected-requires settle-waiting-requires loop-less loop-again loop-less-2 loop-again-2 returns)
+    (tie.spec Inv-loop μ-loop loop-holds sub-k mul-waits-selected element-copy-out-waits-selected waits-selected-requires settle-waiting-requires
+    loop-less loop-again loop-less-2 loop-again-2 returns)

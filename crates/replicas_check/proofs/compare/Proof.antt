@@ -78,4 +78,5 @@ returns-2 c =
 pub compare-spec : {M : Type 1} → statement M
 compare-spec =
     tie.close
-    (tie.spec report-all-requires enum-known-e enum-known-n slice-reshare-prefix-compare-second slice-aggregate-compare-second compare-second-requires same-length same-length-2 returns same-length-3 same-length-4 same-length-5 same-length-6 returns-2)
+    (tie.spec report-all-requires enum-known-e enum-known-n slice-reshare-prefix-compare-second slice-aggregate-compare-second compare-second-requires
+    same-length same-length-2 returns same-length-3 same-length-4 same-length-5 same-length-6 returns-2)

@@ -83,4 +83,5 @@ returns-3 c =
 pub compare-second-spec : {M : Type 1} → statement M
 compare-second-spec =
     tie.close
-    (tie.spec report-all-requires enum-known-e enum-known-k slice-reshare-prefix-same slice-aggregate-same same-requires same-length same-length-2 returns same-length-3 same-length-4 returns-2 same-length-5 same-length-6 returns-3)
+    (tie.spec report-all-requires enum-known-e enum-known-k slice-reshare-prefix-same slice-aggregate-same same-requires same-length same-length-2
+    returns same-length-3 same-length-4 returns-2 same-length-5 same-length-6 returns-3)

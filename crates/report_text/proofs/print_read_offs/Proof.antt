@@ -103,4 +103,5 @@ returns c =
 pub print-read-offs-spec : {M : Type 1} → statement M
 print-read-offs-spec =
     tie.close
-    (tie.spec marked-requires print-marks-requires sorted-requires print-set-requires entries-requires print-list-requires slice-aggregate-put put-requires same-length returns)
+    (tie.spec marked-requires print-marks-requires sorted-requires print-set-requires entries-requires print-list-requires slice-aggregate-put
+    put-requires same-length returns)

@@ -128,4 +128,5 @@ returns-value c =
 pub line-by-spec : {M : Type 1} → statement M
 line-by-spec =
     tie.close
-    (tie.spec update-line-requires enum-told bytes-line-requires enum-told-2 tag-of-requires bytes-line-requires-2 enum-told-3 value-of-requires bytes-line-requires-3 same-length returns-update same-length-2 returns-id same-length-3 returns-tag same-length-4 returns-value)
+    (tie.spec update-line-requires enum-told bytes-line-requires enum-told-2 tag-of-requires bytes-line-requires-2 enum-told-3 value-of-requires
+    bytes-line-requires-3 same-length returns-update same-length-2 returns-id same-length-3 returns-tag same-length-4 returns-value)

@@ -166,4 +166,7 @@ returns-6 c =
 pub word-spec : {M : Type 1} → statement M
 word-spec =
     tie.close
-    (tie.spec enum-told slice-aggregate-put put-requires enum-told-2 slice-aggregate-put-2 put-requires-2 enum-told-3 slice-aggregate-put-3 put-requires-3 enum-told-4 slice-aggregate-put-4 put-requires-4 enum-told-5 slice-aggregate-put-5 put-requires-5 enum-told-6 slice-aggregate-put-6 put-requires-6 same-length returns same-length-2 returns-2 same-length-3 returns-3 same-length-4 returns-4 same-length-5 returns-5 same-length-6 returns-6)
+    (tie.spec enum-told slice-aggregate-put put-requires enum-told-2 slice-aggregate-put-2 put-requires-2 enum-told-3 slice-aggregate-put-3
+    put-requires-3 enum-told-4 slice-aggregate-put-4 put-requires-4 enum-told-5 slice-aggregate-put-5 put-requires-5 enum-told-6 slice-aggregate-put-6
+    put-requires-6 same-length returns same-length-2 returns-2 same-length-3 returns-3 same-length-4 returns-4 same-length-5 returns-5 same-length-6
+    returns-6)

@@ -49,4 +49,5 @@ wrapping-add-u32-requires-8 c κs = search needs
 pub added-spec : {M : Type 1} → statement M
 added-spec =
     tie.close
-    (tie.spec wrapping-add-u32-requires wrapping-add-u32-requires-2 wrapping-add-u32-requires-3 wrapping-add-u32-requires-4 wrapping-add-u32-requires-5 wrapping-add-u32-requires-6 wrapping-add-u32-requires-7 wrapping-add-u32-requires-8 returns)
+    (tie.spec wrapping-add-u32-requires wrapping-add-u32-requires-2 wrapping-add-u32-requires-3 wrapping-add-u32-requires-4
+    wrapping-add-u32-requires-5 wrapping-add-u32-requires-6 wrapping-add-u32-requires-7 wrapping-add-u32-requires-8 returns)

@@ -117,4 +117,5 @@ step-at-requires-8 c κs =
 pub eight-steps-spec : {M : Type 1} → statement M
 eight-steps-spec =
     tie.close
-    (tie.spec step-at-requires add-step-at step-at-requires-2 add-step-at-2 step-at-requires-3 add-step-at-3 step-at-requires-4 add-step-at-4 step-at-requires-5 add-step-at-5 step-at-requires-6 add-step-at-6 step-at-requires-7 add-step-at-7 step-at-requires-8 returns)
+    (tie.spec step-at-requires add-step-at step-at-requires-2 add-step-at-2 step-at-requires-3 add-step-at-3 step-at-requires-4 add-step-at-4
+    step-at-requires-5 add-step-at-5 step-at-requires-6 add-step-at-6 step-at-requires-7 add-step-at-7 step-at-requires-8 returns)

@@ -82,4 +82,7 @@ element-write-w c = search needs
 pub extend-at-spec : {M : Type 1} → statement M
 extend-at-spec =
     tie.close
-    (tie.spec add-small-sigma1 mul-small-sigma1 element-copy-out-small-sigma1 small-sigma1-requires add-wrapping-add-u32 mul-wrapping-add-u32 element-copy-out-wrapping-add-u32 wrapping-add-u32-requires add-small-sigma0 mul-small-sigma0 element-copy-out-small-sigma0 small-sigma0-requires wrapping-add-u32-requires-2 mul-wrapping-add-u32-2 element-copy-out-wrapping-add-u32-2 wrapping-add-u32-requires-3 add-w mul-w element-write-w returns)
+    (tie.spec add-small-sigma1 mul-small-sigma1 element-copy-out-small-sigma1 small-sigma1-requires add-wrapping-add-u32 mul-wrapping-add-u32
+    element-copy-out-wrapping-add-u32 wrapping-add-u32-requires add-small-sigma0 mul-small-sigma0 element-copy-out-small-sigma0 small-sigma0-requires
+    wrapping-add-u32-requires-2 mul-wrapping-add-u32-2 element-copy-out-wrapping-add-u32-2 wrapping-add-u32-requires-3 add-w mul-w element-write-w
+    returns)

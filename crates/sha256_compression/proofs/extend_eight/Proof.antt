@@ -76,4 +76,6 @@ extend-at-requires-8 c κs = search needs
 pub extend-eight-spec : {M : Type 1} → statement M
 extend-eight-spec =
     tie.close
-    (tie.spec extend-at-requires add-extend-at extend-at-requires-2 add-extend-at-2 extend-at-requires-3 add-extend-at-3 extend-at-requires-4 add-extend-at-4 extend-at-requires-5 add-extend-at-5 extend-at-requires-6 add-extend-at-6 extend-at-requires-7 add-extend-at-7 extend-at-requires-8 returns)
+    (tie.spec extend-at-requires add-extend-at extend-at-requires-2 add-extend-at-2 extend-at-requires-3 add-extend-at-3 extend-at-requires-4
+    add-extend-at-4 extend-at-requires-5 add-extend-at-5 extend-at-requires-6 add-extend-at-6 extend-at-requires-7 add-extend-at-7
+    extend-at-requires-8 returns)

@@ -39,4 +39,5 @@ wrapping-add-u32-requires-4 c κs = search needs
 pub t1-spec : {M : Type 1} → statement M
 t1-spec =
     tie.close
-    (tie.spec big-sigma1-requires wrapping-add-u32-requires ch-requires wrapping-add-u32-requires-2 wrapping-add-u32-requires-3 wrapping-add-u32-requires-4 returns)
+    (tie.spec big-sigma1-requires wrapping-add-u32-requires ch-requires wrapping-add-u32-requires-2 wrapping-add-u32-requires-3
+    wrapping-add-u32-requires-4 returns)

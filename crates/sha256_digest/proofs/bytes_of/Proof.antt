@@ -233,4 +233,6 @@ put-requires-8 c κs =
 pub bytes-of-spec : {M : Type 1} → statement M
 bytes-of-spec =
     tie.close
-    (tie.spec slice-aggregate-put cast-put put-requires slice-aggregate-put-2 cast-put-2 put-requires-2 slice-aggregate-put-3 cast-put-3 put-requires-3 slice-aggregate-put-4 cast-put-4 put-requires-4 slice-aggregate-put-5 cast-put-5 put-requires-5 slice-aggregate-put-6 cast-put-6 put-requires-6 slice-aggregate-put-7 cast-put-7 put-requires-7 slice-aggregate-put-8 cast-put-8 put-requires-8 returns)
+    (tie.spec slice-aggregate-put cast-put put-requires slice-aggregate-put-2 cast-put-2 put-requires-2 slice-aggregate-put-3 cast-put-3
+    put-requires-3 slice-aggregate-put-4 cast-put-4 put-requires-4 slice-aggregate-put-5 cast-put-5 put-requires-5 slice-aggregate-put-6 cast-put-6
+    put-requires-6 slice-aggregate-put-7 cast-put-7 put-requires-7 slice-aggregate-put-8 cast-put-8 put-requires-8 returns)

@@ -81,4 +81,5 @@ compress-requires-2 c κs = search needs
 pub finish-spec : {M : Type 1} → statement M
 finish-spec =
     tie.close
-    (tie.spec last-blocks-requires sub-compress part-compress-start part-compress-end compress-requires last-size-requires returns sub-compress-2 part-compress-start-2 part-compress-end-2 compress-requires-2 returns-2)
+    (tie.spec last-blocks-requires sub-compress part-compress-start part-compress-end compress-requires last-size-requires returns sub-compress-2
+    part-compress-start-2 part-compress-end-2 compress-requires-2 returns-2)

@@ -69,4 +69,5 @@ mul-put c = search needs
 pub last-blocks-spec : {M : Type 1} → statement M
 last-blocks-spec =
     tie.close
-    (tie.spec sub-at slice-aggregate-copy sub-copy part-copy-start part-copy-end copy-requires array-write-b last-size-requires slice-aggregate-put sub-put mul-put put-requires returns)
+    (tie.spec sub-at slice-aggregate-copy sub-copy part-copy-start part-copy-end copy-requires array-write-b last-size-requires slice-aggregate-put
+    sub-put mul-put put-requires returns)

@@ -57,4 +57,5 @@ returns c = search needs
 pub run-spec : {M : Type 1} → statement M
 run-spec =
     tie.close
-    (tie.spec Inv-loop μ-loop fresh-requires loop-holds find-requires sub-step part-step-start part-step-end step-requires add-at loop-less loop-again same-length same-length-2 same-length-3 returns)
+    (tie.spec Inv-loop μ-loop fresh-requires loop-holds find-requires sub-step part-step-start part-step-end step-requires add-at loop-less loop-again
+    same-length same-length-2 same-length-3 returns)

@@ -89,4 +89,5 @@ returns-5 c =
 pub layout-of-spec : {M : Type 1} → statement M
 layout-of-spec =
     tie.close
-    (tie.spec read-requires enum-known-u enum-known-operation enum-known-operation-2 enum-known-operation-3 enum-known-operation-4 enum-told returns returns-2 returns-3 returns-4 returns-5)
+    (tie.spec read-requires enum-known-u enum-known-operation enum-known-operation-2 enum-known-operation-3 enum-known-operation-4 enum-told returns
+    returns-2 returns-3 returns-4 returns-5)

@@ -132,4 +132,5 @@ returns-4 c =
 pub write-asked-spec : {M : Type 1} → statement M
 write-asked-spec =
     tie.close
-    (tie.spec slice-aggregate-compose compose-requires array-share-prefix-bytes slice-aggregate-update judge-bytes-requires enum-told returns put-requires enum-told-2 enum-told-3 same-length returns-2 returns-3 returns-4)
+    (tie.spec slice-aggregate-compose compose-requires array-share-prefix-bytes slice-aggregate-update judge-bytes-requires enum-told returns
+    put-requires enum-told-2 enum-told-3 same-length returns-2 returns-3 returns-4)

@@ -60,4 +60,5 @@ returns-3 c =
 pub comes-before-spec : {M : Type 1} → statement M
 comes-before-spec =
     tie.close
-    (tie.spec mul-compare-ids element-copy-out-compare-ids mul-compare-ids-2 element-copy-out-compare-ids-2 compare-ids-requires enum-told enum-told-2 enum-told-3 returns returns-2 returns-3)
+    (tie.spec mul-compare-ids element-copy-out-compare-ids mul-compare-ids-2 element-copy-out-compare-ids-2 compare-ids-requires enum-told enum-told-2
+    enum-told-3 returns returns-2 returns-3)

@@ -127,4 +127,5 @@ returns-4 c =
 pub put-operation-spec : {M : Type 1} → statement M
 put-operation-spec =
     tie.close
-    (tie.spec enum-told put-add-requires enum-told-2 put-remove-requires enum-told-3 put-insert-requires enum-told-4 put-delete-requires same-length returns same-length-2 returns-2 same-length-3 returns-3 same-length-4 returns-4)
+    (tie.spec enum-told put-add-requires enum-told-2 put-remove-requires enum-told-3 put-insert-requires enum-told-4 put-delete-requires same-length
+    returns same-length-2 returns-2 same-length-3 returns-3 same-length-4 returns-4)

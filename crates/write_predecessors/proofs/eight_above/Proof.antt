@@ -151,4 +151,5 @@ returns-3 c =
 pub eight-above-spec : {M : Type 1} → statement M
 eight-above-spec =
     tie.close
-    (tie.spec first-above-requires enum-known-j first-requires mul-h element-copy-out-h sub-first first-requires-2 sub-insert insert-requires enum-told first-requires-3 returns returns-2 returns-3)
+    (tie.spec first-above-requires enum-known-j first-requires mul-h element-copy-out-h sub-first first-requires-2 sub-insert insert-requires
+    enum-told first-requires-3 returns returns-2 returns-3)

@@ -89,4 +89,5 @@ returns-2 c =
 pub decimal-spec : {M : Type 1} → statement M
 decimal-spec =
     tie.close
-    (tie.spec digit-requires slice-aggregate-put put-requires same-length returns digit-requires-2 digit-requires-3 slice-aggregate-put-2 put-requires-2 same-length-2 returns-2)
+    (tie.spec digit-requires slice-aggregate-put put-requires same-length returns digit-requires-2 digit-requires-3 slice-aggregate-put-2
+    put-requires-2 same-length-2 returns-2)

@@ -75,4 +75,5 @@ returns c =
 pub insert-spec : {M : Type 1} → statement M
 insert-spec =
     tie.close
-    (tie.spec Inv-loop μ-loop loop-holds mul-next array-read-next mul-items array-write-items add-i loop-less loop-again mul-items-2 array-write-items-2 add-t16 returns)
+    (tie.spec Inv-loop μ-loop loop-holds mul-next array-read-next mul-items array-write-items add-i loop-less loop-again mul-items-2
+    array-write-items-2 add-t16 returns)

@@ -173,4 +173,5 @@ returns-3 c =
 pub insert-spec : {M : Type 1} → statement M
 insert-spec =
     tie.close
-    (tie.spec Inv-loop μ-loop mul-own element-copy-out-own loop-holds mul-k element-copy-out-k mul-compare element-copy-out-compare compare-requires enum-told insert-requires returns enum-told-2 returns-2 enum-told-3 add-i loop-less loop-again insert-requires-2 returns-3)
+    (tie.spec Inv-loop μ-loop mul-own element-copy-out-own loop-holds mul-k element-copy-out-k mul-compare element-copy-out-compare compare-requires
+    enum-told insert-requires returns enum-told-2 returns-2 enum-told-3 add-i loop-less loop-again insert-requires-2 returns-3)

@@ -104,4 +104,5 @@ returns-2 c =
 pub index-after-spec : {M : Type 1} → statement M
 index-after-spec =
     tie.close
-    (tie.spec Inv-loop μ-loop loop-holds mul-e element-copy-out-e mul-has-id element-copy-out-has-id has-id-requires add-result returns add-i loop-less loop-again returns-2)
+    (tie.spec Inv-loop μ-loop loop-holds mul-e element-copy-out-e mul-has-id element-copy-out-has-id has-id-requires add-result returns add-i
+    loop-less loop-again returns-2)

@@ -141,4 +141,5 @@ returns c =
 pub put-rank-spec : {M : Type 1} → statement M
 put-rank-spec =
     tie.close
-    (tie.spec Inv-loop μ-loop loop-holds mul-k element-copy-out-k mul-is-ranked element-copy-out-is-ranked is-ranked-requires put-requires add-i loop-less loop-again returns)
+    (tie.spec Inv-loop μ-loop loop-holds mul-k element-copy-out-k mul-is-ranked element-copy-out-is-ranked is-ranked-requires put-requires add-i
+    loop-less loop-again returns)

@@ -105,4 +105,6 @@ returns-list c =
 pub shows-spec : {M : Type 1} → statement M
 shows-spec =
     tie.close
-    (tie.spec mul-p element-copy-out-p enum-told has-standing-requires enum-told-2 is-head-requires enum-told-3 has-standing-requires-2 enum-told-4 has-standing-requires-3 enum-told-5 enum-told-6 is-shown-requires returns-held returns-heads returns-waiting returns-void returns-set returns-list)
+    (tie.spec mul-p element-copy-out-p enum-told has-standing-requires enum-told-2 is-head-requires enum-told-3 has-standing-requires-2 enum-told-4
+    has-standing-requires-3 enum-told-5 enum-told-6 is-shown-requires returns-held returns-heads returns-waiting returns-void returns-set
+    returns-list)

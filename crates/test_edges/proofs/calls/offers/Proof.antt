@@ -54,4 +54,5 @@ returns-2 c = search needs
 pub offers-spec : {M : Type 1} → statement M
 offers-spec =
     tie.close
-    (tie.spec Inv-loop μ-loop loop-holds word-requires word-requires-2 slot-requires bytes-of-requires offer-requires add-k loop-less loop-again same-length returns same-length-2 returns-2)
+    (tie.spec Inv-loop μ-loop loop-holds word-requires word-requires-2 slot-requires bytes-of-requires offer-requires add-k loop-less loop-again
+    same-length returns same-length-2 returns-2)

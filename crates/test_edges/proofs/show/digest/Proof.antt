@@ -46,4 +46,5 @@ returns c = search needs
 pub digest-spec : {M : Type 1} → statement M
 digest-spec =
     tie.close
-    (tie.spec Inv-loop μ-loop digest-requires loop-holds array-read-print-hex cast-print-hex print-hex-requires add-i loop-less loop-again slice-aggregate-text text-requires returns)
+    (tie.spec Inv-loop μ-loop digest-requires loop-holds array-read-print-hex cast-print-hex print-hex-requires add-i loop-less loop-again
+    slice-aggregate-text text-requires returns)

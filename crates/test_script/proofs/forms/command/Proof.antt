@@ -53,4 +53,5 @@ returns-2 c = search needs
 pub command-spec : {M : Type 1} → statement M
 command-spec =
     tie.close
-    (tie.spec Inv-loop μ-loop word-requires loop-holds word-requires-2 field-requires same-requires add-k loop-less loop-again word-requires-3 after-requires fits-requires returns returns-2)
+    (tie.spec Inv-loop μ-loop word-requires loop-holds word-requires-2 field-requires same-requires add-k loop-less loop-again word-requires-3
+    after-requires fits-requires returns returns-2)

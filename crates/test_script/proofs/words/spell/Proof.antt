@@ -44,4 +44,5 @@ returns-2 c = search needs
 pub spell-spec : {M : Type 1} → statement M
 spell-spec =
     tie.close
-    (tie.spec Inv-loop μ-loop loop-holds shared-slice-read-extends extends-requires shared-slice-read-extended extended-requires add-i loop-less loop-again returns returns-2)
+    (tie.spec Inv-loop μ-loop loop-holds shared-slice-read-extends extends-requires shared-slice-read-extended extended-requires add-i loop-less
+    loop-again returns returns-2)

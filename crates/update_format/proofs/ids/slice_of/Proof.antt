@@ -60,4 +60,5 @@ returns-3 c =
 pub slice-of-spec : {M : Type 1} → statement M
 slice-of-spec =
     tie.close
-    (tie.spec slice-aggregate-result returns sub-if2 sub-result part-result-start part-result-end returns-2 add-result sub-result-2 part-result-start-2 part-result-end-2 returns-3)
+    (tie.spec slice-aggregate-result returns sub-if2 sub-result part-result-start part-result-end returns-2 add-result sub-result-2
+    part-result-start-2 part-result-end-2 returns-3)
