@@ -9,10 +9,13 @@ use std::io::{BufRead, BufReader, Write};
 use std::process::{exit, Child, ChildStdin, ChildStdout, Command, Stdio};
 use std::time::Instant;
 
-const SIZES: [usize; 4] = [64, 533, 8192, 1 << 20];
-// Many short turns, some milliseconds each, so that a few fall where nothing else runs on the core.
+const SIZES: [usize; 5] = [64, 533, 8 << 10, 1 << 20, 16 << 20];
+const NAMES: [&str; SIZES.len()] = ["64 B", "533 B", "8 KiB", "1 MiB", "16 MiB"];
+// Many short turns, some milliseconds each, so that a few fall where nothing else runs on the core. A turn at a size above
+// TURN_BYTES is one message, taken every LONG_TURN turns.
 const TURNS: usize = 150;
 const TURN_BYTES: usize = 1 << 20;
+const LONG_TURN: usize = 5;
 
 extern "C" {
     fn silkcliff_sha256(s: *const u8, s_len: usize, out: *mut u8, out_len: usize) -> usize;
@@ -81,7 +84,7 @@ fn hash_of(name: &str) -> Option<Hash> {
 }
 
 fn message() -> Vec<u8> {
-    (0..SIZES[3]).map(|i| (i * 131 + i / 251) as u8).collect()
+    (0..SIZES[SIZES.len() - 1]).map(|i| (i * 131 + i / 251) as u8).collect()
 }
 
 fn work(name: &str) {
@@ -111,7 +114,7 @@ struct Worker {
     input: ChildStdin,
     output: BufReader<ChildStdout>,
     // the fewest nanoseconds for a byte, by size
-    best: [f64; 4],
+    best: [f64; SIZES.len()],
 }
 
 impl Worker {
@@ -126,7 +129,7 @@ impl Worker {
         let mut child = command.spawn().expect("a worker");
         let input = child.stdin.take().expect("its input");
         let output = BufReader::new(child.stdout.take().expect("its output"));
-        let mut worker = Worker { title, child, input, output, best: [f64::INFINITY; 4] };
+        let mut worker = Worker { title, child, input, output, best: [f64::INFINITY; SIZES.len()] };
         let mut line = String::new();
         worker.output.read_line(&mut line).expect("its first line");
         if line == "ready\n" {
@@ -138,7 +141,7 @@ impl Worker {
 
     // One turn at a size. Returns the digest.
     fn turn(&mut self, k: usize) -> String {
-        let times = TURN_BYTES / SIZES[k];
+        let times = (TURN_BYTES / SIZES[k]).max(1);
         writeln!(self.input, "{} {}", SIZES[k], times).expect("a worker that reads");
         let mut line = String::new();
         self.output.read_line(&mut line).expect("a worker that answers");
@@ -167,7 +170,7 @@ fn main() {
         }
     }
     for turn in 0..TURNS {
-        for k in 0..SIZES.len() {
+        for k in (0..SIZES.len()).filter(|k| SIZES[*k] <= TURN_BYTES || turn % LONG_TURN == 0) {
             let digests: Vec<String> = workers.iter_mut().map(|w| w.turn(k)).collect();
             if turn == 0 {
                 for (w, d) in workers.iter().zip(&digests) {
@@ -176,7 +179,6 @@ fn main() {
             }
         }
     }
-    println!("{:<38}{:>9}{:>9}{:>9}{:>9}", "", "64 B", "533 B", "8 KiB", "1 MiB");
     let row = |title: &str, cells: Vec<String>| {
         print!("{title:<38}");
         for cell in cells {
@@ -184,6 +186,7 @@ fn main() {
         }
         println!();
     };
+    row("", NAMES.iter().map(|n| n.to_string()).collect());
     let proved = workers[0].best;
     for worker in &workers {
         row(&format!("{}, MB/s", worker.title), worker.best.iter().map(|b| format!("{:.0}", 1000.0 / b)).collect());
@@ -192,6 +195,11 @@ fn main() {
     for worker in &workers[1..] {
         let ratios = worker.best.iter().zip(&proved).map(|(other, ours)| format!("{:.2}", other / ours));
         row(&format!("  {}", worker.title), ratios.collect());
+    }
+    let (last, before) = (SIZES.len() - 1, SIZES.len() - 2);
+    println!("The time for a byte of a message of {} as a ratio to that of one of {}", NAMES[last], NAMES[before]);
+    for worker in &workers {
+        row(&format!("  {}", worker.title), vec![format!("{:.3}", worker.best[last] / worker.best[before])]);
     }
     for worker in workers {
         let Worker { mut child, input, .. } = worker;

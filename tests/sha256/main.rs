@@ -1,10 +1,11 @@
 // Compares the exported function of crates/sha256_digest with NIST's examples and with a SHA-256 of its own.
 //
-//     sha256-test NIST-FILE VECTORS-FILE [--independent-large]
+//     sha256-test NIST-FILE VECTORS-FILE SYMBOLS-FILE [--independent-large]
 //
-// A line of either file is COUNT BYTES DIGEST: the message is BYTES, in hexadecimal or `-` for none,
-// repeated COUNT times. The three messages of more than 500 MB go through our own code here only
-// with --independent-large. One line for each group, and 'N passed, M failed' last.
+// A line of the first two files is COUNT BYTES DIGEST: the message is BYTES, in hexadecimal or `-`
+// for none, repeated COUNT times. The third has the library's symbols, as `nm --format=posix` lists
+// them. The three messages of more than 500 MB go through our own code here only with
+// --independent-large. One line for each group, and 'N passed, M failed' last.
 mod fips;
 
 use std::collections::HashSet;
@@ -155,6 +156,44 @@ fn outputs() -> Result<usize, String> {
     Ok(cases)
 }
 
+// Large messages, with a last block or two, hashed on a thread whose stack is far smaller than they are.
+fn on_small_stack() -> Result<usize, String> {
+    const STACK: usize = 64 << 10;
+    const MIB: usize = 1 << 20;
+    let mut random = Random(0x6a09_e667_f3bc_c908);
+    let buffer: Vec<u8> = (0..16 * MIB + 63).map(|_| random.byte()).collect();
+    let lengths = [MIB, MIB + 55, MIB + 56, 16 * MIB, 16 * MIB + 55, 16 * MIB + 56, 16 * MIB + 63];
+    for length in lengths {
+        let message = &buffer[..length];
+        let found = std::thread::scope(|scope| {
+            let thread = std::thread::Builder::new().stack_size(STACK).spawn_scoped(scope, || proved(message));
+            thread.expect("a thread").join().expect("its end")
+        })?;
+        let expected = fips::sha256(message);
+        if found != expected {
+            return Err(format!("{length} bytes: {} proved, {} our own", hex(&found), hex(&expected)));
+        }
+    }
+    Ok(lengths.len())
+}
+
+// That the library has the exported function, and calls nothing of others but what copies and fills
+// memory: no allocator. Returns how many functions it exports.
+fn calls_no_allocator(path: &str) -> Result<usize, String> {
+    const MAY_CALL: [&str; 3] = ["memcpy", "memmove", "memset"];
+    let text = std::fs::read_to_string(path).unwrap_or_else(|e| panic!("{path}: {e}"));
+    let mut exported = 0;
+    for line in text.lines() {
+        match line.split(' ').collect::<Vec<&str>>()[..] {
+            ["silkcliff_sha256", "T", ..] => exported += 1,
+            [name, "T", ..] => return Err(format!("it exports {name} too")),
+            [name, "U", ..] if !MAY_CALL.contains(&name) => return Err(format!("it calls {name}")),
+            _ => {}
+        }
+    }
+    Ok(exported)
+}
+
 // That VECTORS-FILE has every NIST example of at most 1,005 bytes. Returns how many those are.
 fn contained(nist: &[Example], vectors: &[Example]) -> Result<usize, String> {
     let lines: HashSet<&str> = vectors.iter().map(|e| &e.line[..]).collect();
@@ -193,8 +232,8 @@ impl Tally {
 fn main() {
     let arguments: Vec<String> = std::env::args().skip(1).collect();
     let (files, flags): (Vec<&String>, Vec<&String>) = arguments.iter().partition(|a| !a.starts_with("--"));
-    if files.len() != 2 || flags.iter().any(|f| *f != "--independent-large") {
-        eprintln!("usage: sha256-test NIST-FILE VECTORS-FILE [--independent-large]");
+    if files.len() != 3 || flags.iter().any(|f| *f != "--independent-large") {
+        eprintln!("usage: sha256-test NIST-FILE VECTORS-FILE SYMBOLS-FILE [--independent-large]");
         exit(2);
     }
     let independent_large = !flags.is_empty();
@@ -208,6 +247,8 @@ fn main() {
     tally.group("digests of the program's expected output", 50, compare(&vectors, false));
     tally.group("random messages of 0 to 1200 bytes", 1201, lengths());
     tally.group("output buffers of 0 to 40 bytes", 41, outputs());
+    tally.group("messages of 1 and 16 MiB on a stack of 64 KiB", 7, on_small_stack());
+    tally.group("exported functions, with no allocator called", 1, calls_no_allocator(files[2]));
     println!("{} passed, {} failed", tally.passed, tally.failed);
     exit(if tally.failed == 0 { 0 } else { 1 });
 }

@@ -8,4 +8,5 @@ rt staticlib sha256_digest
 mkdir -p target/tests
 rustc --edition 2021 -O -D warnings -o target/tests/sha256 tests/sha256/main.rs \
     -L native=target/staticlib -l static=sha256_digest
-exec target/tests/sha256 tests/data/nist-sha256.txt crates/test_vectors/stdout "$@"
+nm --format=posix target/staticlib/libsha256_digest.a >target/tests/sha256.symbols
+exec target/tests/sha256 tests/data/nist-sha256.txt crates/test_vectors/stdout target/tests/sha256.symbols "$@"

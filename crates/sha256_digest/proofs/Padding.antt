@@ -8,9 +8,10 @@ use native.Mathlib.Numerals.{add-one, one-add}
 use native.Mathlib.Omega.{arith}
 use lib.ListN.{length, take, drop, set, replicate, length-append, length-drop, length-replicate, replicate-append-replicate}
 use lib.Seq.{take-all, take-take, take-append-le, drop-append-le, drop-drop, set-at, take-at, drop-at}
-use Rattle.sha256_fips180.specs.Fips180.{bigEndian, zeroBytes, pad, block, Working, compress, hash}
+use Rattle.sha256_fips180.specs.Fips180.{bigEndian, zeroBytes, lengthField, padding, pad, block, Working, compress, hash}
+use Rattle.sha256_fips180.specs.Lengths.{length-lengthField, length-padding}
+use Rattle.sha256_fips180.specs.Standard.{messageLimit}
 use Rattle.sha256_digest.specs.Tail.{lastSize, tail}
-use Rattle.sha256_fips180.specs.Lengths.{length-bigEndian}
 use Rattle.sha256_digest.proofs.Bytes.{splice, take-splice}
 
 pub one-block : (n : ℕ) → n % 64 < 56 → lastSize n ≡ 64
@@ -33,20 +34,9 @@ length-rest : (m : List ℕ) → length (rest m) ≡ length m % 64
 unfolding rest
 length-rest m = rw length-drop (omega arith)
 
--- the bytes after the message
-ending : List ℕ → List ℕ
-ending m = 0x80 ∷ (replicate (zeroBytes (length m)) 0 ++ bigEndian 8 (8 * length m % 2 ^ 64))
-
-length-ending : (m : List ℕ) → length (ending m) ≡ 9 + zeroBytes (length m)
-unfolding ending
-length-ending m =
-    let l : length (replicate (zeroBytes (length m)) 0 ++ bigEndian 8 (8 * length m % 2 ^ 64)) ≡ zeroBytes (length m) + 8 =
-    rw (length-append, length-replicate, length-bigEndian)
-    in omega arith
-
-tail-parts : (m : List ℕ) → tail m ≡ rest m ++ ending m
-unfolding pad tail rest ending
-tail-parts m = drop-append-le (64 * (length m / 64)) m (ending m) (omega arith)
+tail-parts : (m : List ℕ) → tail m ≡ rest m ++ padding (length m)
+unfolding pad tail rest
+tail-parts m = drop-append-le (64 * (length m / 64)) m (padding (length m)) (omega arith)
 
 -- N zero bytes from r on
 zeros
@@ -85,20 +75,19 @@ filled
     → e ≡ lastSize (length m)
     → e ≤ N
     → take e
-    (splice (set (rest m ++ drop (length m % 64) (replicate N 0)) (length m % 64) 0x80) (e - 8) 8
-    (bigEndian 8 (8 * length m % 2 ^ 64)))
+    (splice (set (rest m ++ drop (length m % 64) (replicate N 0)) (length m % 64) 0x80) (e - 8) 8 (lengthField (length m)))
     ≡ tail m
-unfolding ending lastSize
+unfolding padding lastSize
 filled m N e size small =
     let z : ℕ = zeroBytes (length m) in
     let q : ℕ = N - (length m % 64 + (1 + z)) in
-    let xs : List ℕ = bigEndian 8 (8 * length m % 2 ^ 64) in
+    let xs : List ℕ = lengthField (length m) in
     let p : List ℕ = rest m ++ (0x80 ∷ replicate z 0) in
     let l : length p ≡ length m % 64 + suc z =
     rw (length-append (rest m) (0x80 ∷ replicate z 0), length-rest m, length-replicate {A = ℕ} z 0)
     in
     rw (tail-parts m, built (rest m) N (length m % 64) z q (length-rest m) (omega arith))
-    (ended p (replicate q 0) xs e (omega arith) (length-bigEndian 8 (8 * length m % 2 ^ 64))
+    (ended p (replicate q 0) xs e (omega arith) (length-lengthField (length m))
     ∙ append-assoc (rest m) (0x80 ∷ replicate z 0) xs)
 
 -- the same as the code takes it
@@ -117,10 +106,11 @@ pub last-filled
     → e ≡ lastSize (length m)
     → e ≤ 128
     → d ≡ after m ++ drop (length (after m)) (replicate 128 0)
-    → b ≡ splice (set d (length m % 64) 0x80) (e - 8) 8 (bigEndian 8 (length m % 2 ^ 61 * 8))
+    → b ≡ splice (set d (length m % 64) 0x80) (e - 8) 8 (bigEndian 8 (length m % messageLimit * 8))
     → take (lastSize (length m)) b ≡ tail m
+unfolding lengthField
 last-filled m d b e size small ed eb =
-    let i : length m % 2 ^ 61 * 8 ≡ 8 * length m % 2 ^ 64 = omega arith in
+    let i : length m % messageLimit * 8 ≡ 8 * length m % 2 ^ 64 = omega arith in
     rw (← size, eb, ed, after-rest m, length-rest m, i) (filled m 128 e size small)
 
 -- the message's own blocks, and the hash values of them
@@ -156,12 +146,12 @@ whole n = omega arith
 
 module _ (m : List ℕ) where
   pad-length : length (pad m) ≡ 64 * (length m / 64) + lastSize (length m)
-  unfolding pad lastSize ending
-  pad-length = omega (arith, length-append m (ending m), length-ending m)
+  unfolding pad lastSize
+  pad-length = omega (arith, length-append m (padding (length m)), length-padding (length m))
 
   pad-hash : hash (length m / 64) (pad m) ≡ hash (length m / 64) m
-  unfolding pad ending
-  pad-hash = hash-front (length m / 64) m (ending m) (omega arith)
+  unfolding pad
+  pad-hash = hash-front (length m / 64) m (padding (length m)) (omega arith)
 
   pad-first : hash (length m / 64 + 1) (pad m) ≡ compress (hash (length m / 64) m) (take 64 (tail m))
   unfolding block tail

@@ -1,5 +1,6 @@
 // SHA-256 (FIPS 180-4): padding, the blocks one after the other, and the digest. The contracts cite the standard's definitions, in its own names, of
-// crate `sha256_fips180`.
+// crate `sha256_fips180`. The message is read where it lies: of its bytes only those after its last whole block are copied, into the last one or
+// two blocks of the padded message, which are all of it that is built.
 ghost use mathlib.Core.Path.{_≡_};
 ghost use mathlib.Core.List.{_++_};
 ghost use Prim.Native.Nat.{_+_, _/_, _≤_, _<_};
@@ -11,6 +12,9 @@ use bytes_copy::copy;
 use sha256_compression::CONSTANTS;
 use sha256_compression::State;
 use sha256_compression::compress;
+
+// 2^61 bytes: from this length on the bit length has no room in the padding's field, and the standard defines no digest.
+const MESSAGE_LIMIT: usize = 0x2000_0000_0000_0000;
 
 // The hash value after the first n blocks of s.
 fn blocks(s: &[u8], k: &[u32; 64], n: usize) -> State
@@ -69,7 +73,7 @@ fn last_blocks(s: &[u8]) -> [u8; 128]
     copy(&mut b, &s[at..n]);
     b[n % 64] = 0x80;
     let end = last_size(n);
-    put(&mut b, end - 8, 8, n % 0x2000_0000_0000_0000 * 8);
+    put(&mut b, end - 8, 8, n % MESSAGE_LIMIT * 8);
     b
 }
 
@@ -102,8 +106,8 @@ fn bytes_of(s: State) -> [u8; 32]
     d
 }
 
-// The SHA-256 of s. Below 2^61 bytes this is FIPS 180-4's digest; above, where the bit length does not fit the padding's field, the field
-// keeps it modulo 2^64, as the definition says.
+// The SHA-256 of s. Below MESSAGE_LIMIT bytes this is FIPS 180-4's digest (`sha256-right`, `sha256_fips180/specs/StandardLaws`); from there on, where
+// the standard defines none, the padding's field keeps the bit length modulo 2^64, as the definition says.
 pub fn digest(s: &[u8]) -> [u8; 32]
     ensures { λ r. ⌜ r ≡ SHA-256 (now (s .entry)) ⌝ }
 {

@@ -2,7 +2,8 @@
 -- are the standard's sections. A byte is a number below 2 ^ 8, a word one below 2 ^ 32, a message a list of bytes.
 --
 -- The standard defines the digest of messages of fewer than 2 ^ 64 bits, which is fewer than 2 ^ 61 bytes. `SHA-256` below is total: of
--- a longer message the padding's 64-bit field keeps the bit length modulo 2 ^ 64.
+-- a longer message the padding's 64-bit field keeps the bit length modulo 2 ^ 64. `Standard` has the padding in the standard's own words,
+-- and `StandardLaws` shows that `SHA-256` is the standard's digest of every message that has one, and which those are.
 use Prim.Native.Nat.{ℕ, zero, suc, _+_, _-_, _*_, _/_, _%_, _^_}
 use mathlib.Core.List.{List, [], _∷_, _++_}
 use lib.ListN.{length, getD, take, drop, replicate}
@@ -68,8 +69,16 @@ bigEndian (suc k) n = bigEndian k (n / 256) ++ (n % 256 ∷ [])
 unfoldable pub zeroBytes : ℕ → ℕ
 zeroBytes n = (119 - n % 64) % 64
 
+-- the bit length of n bytes, in the padding's 64-bit field
+unfoldable pub lengthField : ℕ → List ℕ
+lengthField n = bigEndian 8 (8 * n % 2 ^ 64)
+
+-- what is appended to a message of n bytes
+unfoldable pub padding : ℕ → List ℕ
+padding n = 0x80 ∷ (replicate (zeroBytes n) 0 ++ lengthField n)
+
 unfoldable pub pad : List ℕ → List ℕ
-pad m = m ++ (0x80 ∷ (replicate (zeroBytes (length m)) 0 ++ bigEndian 8 (8 * length m % 2 ^ 64)))
+pad m = m ++ padding (length m)
 
 -- 5.2.1: parsing. M⁽ⁱ⁾ is the i-th block of 64 bytes, counted from 0 here, as 16 words of four bytes, the most significant first.
 abbrev pub wordAt : List ℕ → ℕ → ℕ
