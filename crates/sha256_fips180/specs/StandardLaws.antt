@@ -74,7 +74,7 @@ padded-limit x =
     let b : number (x .block) < 2 ^ 64 = subst (λ (k : ℕ). number (x .block) < 2 ^ k) (x .block-size) (number-below (x .block) (x .block-bits)) in
     rw (← (x .block-number)) b
 
--- "It .. gives FIPS 180-4's digest of them": of every message below the limit `SHA-256` is the standard's digest, ..
+-- Document 02, E2: "It then .. gives FIPS 180-4's digest of them". Of every message below the limit `SHA-256` is the standard's digest, ..
 pub sha256-right : (m : List ℕ) → length m < messageLimit → Digest m (SHA-256 m)
 unfolding SHA-256 pad
 sha256-right m h =
