@@ -2,7 +2,7 @@
 use Prim.Native.Nat.{ℕ, _/_, _%_, _^_}
 use mathlib.Core.Bool.{Bool, cond}
 use lib.Dec.{eqb, ltb}
-use lib.Bits.{bitAnd, bitOr}
+use lib.Bits.{bitOr}
 use lib.Count.{ones}
 
 -- how many places a word has room for
@@ -21,12 +21,9 @@ including w k = bitOr w (2 ^ k)
 unfoldable pub includingBelow : ℕ → ℕ → ℕ → ℕ
 includingBelow n w k = cond (ltb k n) (including w k) w
 
--- what is in v or in w; in both
+-- what is in v or in w
 unfoldable pub join : ℕ → ℕ → ℕ
 join v w = bitOr v w
-
-unfoldable pub meet : ℕ → ℕ → ℕ
-meet v w = bitAnd v w
 
 -- no place of the set w is at or above n
 unfoldable pub within : ℕ → ℕ → Bool

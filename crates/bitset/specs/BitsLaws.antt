@@ -1,21 +1,21 @@
 -- The laws of sets of places.
-use Prim.Native.Nat.{ℕ, zero, suc, _+_, _-_, _*_, _/_, _%_, _^_, _≤_, _<_}
+use Prim.Native.Nat.{ℕ, zero, suc, _+_, _-_, _/_, _%_, _^_, _≤_, _<_}
 use native.Mathlib.Omega.{arith}
-use native.Mathlib.Nat.{lt-of-lt-of-le, lt-of-le-of-lt, zero-lt-suc, one-mul, div-one, div-self, zero-div, div-eq-of-lt, div-add-mod', mod-lt, mul-mod-left, pow-suc, eq-or-lt-of-le, lt-of-not-le, lt-suc-self, zero-add, add-comm, div-lt-iff-lt-mul}
-use native.Mathlib.Numerals.{add-one, one-add}
-use mathlib.Core.Path.{_≡_, refl, sym, _∙_, ap, ap₂, subst}
+use native.Mathlib.Nat.{lt-of-lt-of-le, zero-lt-suc, one-mul, div-self, zero-div, div-eq-of-lt, mod-lt, mul-mod-left, pow-suc, eq-or-lt-of-le, lt-of-not-le, lt-suc-self, zero-add, add-comm, div-lt-iff-lt-mul}
+use native.Mathlib.Numerals.{one-add}
+use mathlib.Core.Path.{_≡_, refl, sym, _∙_, ap, subst}
 use mathlib.Core.Logic.{_⊎_, inl, inr, ⊎-elim}
-use mathlib.Core.Bool.{Bool, true, false, cond, _&&_, _||_, true≢false, false≢true}
+use mathlib.Core.Bool.{Bool, true, false, cond, _||_}
 use lib.Dec.{eqb, ltb}
 use lib.Arith.{lt-one}
-use lib.Pow.{pow-pos, pow-mono, pow-lt, pow-add, shl-shr, shr-shr, shr-lt, split, field, mod-mod-pow}
-use lib.Bits.{bitAnd, bitOr, or-shr, or-mod, or-lt, and-shr, and-mod, and-le-l}
+use lib.Pow.{pow-pos, pow-mono, pow-lt, pow-add, shl-shr, shr-lt, split, field, mod-mod-pow}
+use lib.Bits.{bitOr, or-shr, or-mod, or-lt}
 use lib.Count.{ones, onesIn, ones-cat}
 use borrow.Author.Tests.{eqb-true, eq-eqb, ne-eqb, lt-ltb, le-ltb, ltb-true, ltb-false}
 use Rattle.bytes_order.specs.BoolLaws.{bool-cases, true-false}
 use Rattle.bitset.specs.Below.{countBelow}
 use Rattle.bitset.specs.BelowLaws.{countBelow-cong, countBelow-lt}
-use Rattle.bitset.specs.Bits.{has, including, includingBelow, join, meet, within, count}
+use Rattle.bitset.specs.Bits.{has, including, includingBelow, join, within, count}
 
 -- a binary digit is 0 or 1
 digit : (P : ℕ → Type 0) → P 0 → P 1 → (n : ℕ) → P (n % 2)
@@ -38,11 +38,6 @@ pub has-none : (k : ℕ) → has 0 k ≡ false
 unfolding has
 has-none k = ap (λ (m : ℕ). eqb (m % 2) 1) (zero-div (2 ^ k))
 
--- the places of w from n on, moved down by n
-pub has-shifted : (w n k : ℕ) → has (w / 2 ^ n) k ≡ has w (n + k)
-unfolding has
-has-shifted w n k = ap (λ (m : ℕ). eqb (m % 2) 1) (shr-shr w n k)
-
 -- the places of w below n
 pub has-below : (w n k : ℕ) → k < n → has (w % 2 ^ n) k ≡ has w k
 unfolding has
@@ -58,15 +53,6 @@ has-join v w k =
     ∙ digit (λ (x : ℕ). eqb (bitOr x (w / 2 ^ k % 2)) 1 ≡ (eqb x 1 || eqb (w / 2 ^ k % 2) 1))
     refl
     (digit (λ (y : ℕ). eqb (bitOr 1 y) 1 ≡ true) refl refl (w / 2 ^ k))
-    (v / 2 ^ k)
-
-pub has-meet : (v w k : ℕ) → has (meet v w) k ≡ (has v k && has w k)
-unfolding has meet
-has-meet v w k =
-    ap (λ (m : ℕ). eqb (m % 2) 1) (and-shr v w k) ∙ ap (λ (m : ℕ). eqb m 1) (and-mod (v / 2 ^ k) (w / 2 ^ k) 1)
-    ∙ digit (λ (x : ℕ). eqb (bitAnd x (w / 2 ^ k % 2)) 1 ≡ (eqb x 1 && eqb (w / 2 ^ k % 2) 1))
-    refl
-    (digit (λ (y : ℕ). eqb (bitAnd 1 y) 1 ≡ eqb y 1) refl refl (w / 2 ^ k))
     (v / 2 ^ k)
 
 -- the set of one place
@@ -103,49 +89,6 @@ not-included n w k h = ap (λ (b : Bool). cond b (including w k) w) (le-ltb k n 
 pub has-including : (w k j : ℕ) → has (including w k) j ≡ (has w j || eqb j k)
 unfolding including join
 has-including w k j = has-join w (2 ^ k) j ∙ ap (λ (b : Bool). has w j || b) (has-single k j)
-
--- two words of n digits with the same places are equal
-has-low : (w : ℕ) → has w 0 ≡ eqb (w % 2) 1
-unfolding has
-has-low w = ap (λ (m : ℕ). eqb (m % 2) 1) (div-one w)
-
-has-half : (w k : ℕ) → has (w / 2) k ≡ has w (suc k)
-has-half w k = has-shifted w 1 k ∙ ap (has w) (one-add k)
-
-low-ext : (v w : ℕ) → eqb (v % 2) 1 ≡ eqb (w % 2) 1 → v % 2 ≡ w % 2
-low-ext v w =
-    digit (λ (x : ℕ). eqb x 1 ≡ eqb (w % 2) 1 → x ≡ w % 2)
-    (digit (λ (y : ℕ). false ≡ eqb y 1 → 0 ≡ y) (λ e. refl) (λ e. absurd (false≢true e)) w)
-    (digit (λ (y : ℕ). true ≡ eqb y 1 → 1 ≡ y) (λ e. absurd (true≢false e)) (λ e. refl) w)
-    v
-
-half-lt : {w : ℕ} (n : ℕ) → w < 2 ^ suc n → w / 2 < 2 ^ n
-half-lt {w} n h = shr-lt n 1 (subst (λ (m : ℕ). w < 2 ^ m) (sym (add-one n)) h)
-
-pub has-ext : (n : ℕ) {v w : ℕ} → v < 2 ^ n → w < 2 ^ n → ((k : ℕ) → k < n → has v k ≡ has w k) → v ≡ w
-has-ext zero a b f = lt-one a ∙ sym (lt-one b)
-has-ext (suc n) {v} {w} a b f =
-    sym (div-add-mod' v 2)
-    ∙ ap₂ (λ (x y : ℕ). x * 2 + y)
-    (has-ext n (half-lt n a) (half-lt n b) (λ k h. has-half v k ∙ f (suc k) (omega arith) ∙ sym (has-half w k)))
-    (low-ext v w (sym (has-low v) ∙ f 0 (omega arith) ∙ has-low w))
-    ∙ div-add-mod' w 2
-
--- a meet has no more digits
-pub meet-lt : (n : ℕ) {v : ℕ} (w : ℕ) → v < 2 ^ n → meet v w < 2 ^ n
-unfolding meet
-meet-lt n {v} w h = lt-of-le-of-lt (and-le-l v w) h
-
--- disjoint sets
-pub meet-none→ : (v w : ℕ) → meet v w ≡ 0 → (k : ℕ) → has v k ≡ true → has w k ≡ false
-meet-none→ v w e k h = ap (λ (b : Bool). b && has w k) (sym h) ∙ sym (has-meet v w k) ∙ ap (λ (m : ℕ). has m k) e ∙ has-none k
-
-pub meet-none← : (n : ℕ) {v : ℕ} (w : ℕ) → v < 2 ^ n → ((k : ℕ) → k < n → has v k ≡ true → has w k ≡ false) → meet v w ≡ 0
-meet-none← n {v} w h f = has-ext n (meet-lt n w h) (pow-pos n) (λ k l. has-meet v w k ∙ both (has v k) (f k l) ∙ sym (has-none k))
-  where
-    both : (a : Bool) {b : Bool} → (a ≡ true → b ≡ false) → (a && b) ≡ false
-    both true g = g refl
-    both false g = refl
 
 -- within: no place at or above n, and no digit
 pub within→lt : (w n : ℕ) → within w n ≡ true → w < 2 ^ n

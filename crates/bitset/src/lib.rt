@@ -1,6 +1,6 @@
 // A set of places as one 64-bit word, bit k for place k.
 ghost use mathlib.Core.Path.{_≡_};
-ghost use Rattle.bitset.specs.Bits.{wordBits, has, includingBelow, join, meet, within, count};
+ghost use Rattle.bitset.specs.Bits.{wordBits, has, includingBelow, join, within, count};
 
 // A set of places.
 pub type Set = u64;
@@ -31,13 +31,6 @@ pub fn join(v: Set, w: Set) -> Set
     ensures { λ r. ⌜ r ≡ join v w ⌝ }
 {
     v | w
-}
-
-// What is in both sets.
-pub fn meet(v: Set, w: Set) -> Set
-    ensures { λ r. ⌜ r ≡ meet v w ⌝ }
-{
-    v & w
 }
 
 // Whether every place of the set is below n.

@@ -6,7 +6,6 @@ use mathlib.Core.Option.{none, some}
 use mathlib.Core.Bool.{Bool, true, false, _||_}
 use Rattle.bytes_order.specs.Order.{same}
 use Rattle.bytes_order.specs.Member.{all}
-use borrow.Author.Tests.{eq-eqb, ne-eqb}
 use Rattle.update_format.specs.Update as U
 use Rattle.update_format.specs.Update.{Id, idLength, tagLength}
 use Rattle.update_format.specs.Decode.{slice, idsAt, decode, row2}
@@ -20,12 +19,13 @@ use Rattle.update_format.specs.declared.ParseResult.the-variants.{Update as Acc
 use Rattle.rules.specs.Standing.{beginning}
 use Rattle.rules.specs.Settle.{isAdd, isInsert}
 use Rattle.update_fields.specs.Fields.{testOf}
-use Rattle.bitset.specs.Bits.{has, including, join, meet}
+use Rattle.bitset.specs.Bits.{has, including, join}
 use Rattle.ledger_judging.specs.declared.Gathered.{Gathered}
 use Rattle.ledger_state.specs.declared.Standing.{Standing}
 use Rattle.ledger_state.specs.declared.Standing.the-variants.{Held, Waiting, Void}
 use Rattle.ledger_judging.specs.declared.Judgement.the-variants.{Holds, Fails, Waits}
 use Rattle.ledger_state.specs.State.{Place, Book, placeAt, storedAt, findIn}
+use Rattle.ledger_judging.specs.Antichain.{antichainAt}
 use Rattle.ledger_judging.specs.Judge.{gatherBy, gatherAt, namesAt, namesAncestor, valid, nothingGathered, gather, judgeReady, judgeGathered, judgeDecoded, judgeAt}
 
 -- what is gathered with the predecessor p at place j, by its standing
@@ -116,18 +116,19 @@ module _ (l : Book) (s : List ℕ) (up : ℕ) (b : List ℕ) (o : Operation) whe
 -- the judgement by the predecessors' places and ancestors
 module _ (l : Book) (s : List ℕ) (o : U.Operation) where
   module _ (direct above : ℕ) where
-    pub ready-above : (meet direct above ≡ 0 → ⊥) → Fails ≡ judgeReady l s o direct above
-    unfolding judgeReady
-    ready-above h = rw (ne-eqb _ _ h)
-
-    module _ (apart : meet direct above ≡ 0) (up : ℕ) (joined : up ≡ join direct above) where
-      pub ready-valid : valid l s up o ≡ true → Holds up ≡ judgeReady l s o direct above
+    module _ {b : Bool} (tested : b ≡ antichainAt l direct) where
+      pub ready-ordered : b ≡ false → Fails ≡ judgeReady l s o direct above
       unfolding judgeReady
-      ready-valid v = rw (eq-eqb _ _ apart, ← joined, v)
+      ready-ordered e = rw (← tested, e)
 
-      pub ready-invalid : valid l s up o ≡ false → Fails ≡ judgeReady l s o direct above
-      unfolding judgeReady
-      ready-invalid v = rw (eq-eqb _ _ apart, ← joined, v)
+      module _ (passed : b ≡ true) (up : ℕ) (joined : up ≡ join direct above) where
+        pub ready-valid : valid l s up o ≡ true → Holds up ≡ judgeReady l s o direct above
+        unfolding judgeReady
+        ready-valid v = rw (← tested, passed, ← joined, v)
+
+        pub ready-invalid : valid l s up o ≡ false → Fails ≡ judgeReady l s o direct above
+        unfolding judgeReady
+        ready-invalid v = rw (← tested, passed, ← joined, v)
 
   module _ (g : Gathered) where
     pub gathered-void : g .void ≡ true → Fails ≡ judgeGathered l s o g

@@ -1,10 +1,11 @@
 -- What is gathered from a list of ids, with places that hold the updates `us`: whether one of them is that of a void place; whether each is that
 -- of a place that does not wait; the held places among them; and the ancestors of these.
-use mathlib.Core.Path.{_≡_, refl, sym, _∙_, ap, subst}
-use Prim.Native.Nat.{ℕ, _<_, _^_}
+use mathlib.Core.Path.{_≡_, refl, sym, _∙_, ap, ap₂, subst}
+use Prim.Native.Nat.{ℕ, zero, suc, _+_, _≤_, _<_}
+use native.Mathlib.Omega.{arith}
 use mathlib.Core.List.{List, [], _∷_}
 use mathlib.Core.Option.{Option, none, some}
-use mathlib.Core.Bool.{Bool, true, false, not, _&&_, _||_, or-false, or-true, or-assoc, Bool·not-not, true≢false, false≢true}
+use mathlib.Core.Bool.{Bool, true, false, cond, not, _&&_, _||_, or-false, or-true, or-assoc, Bool·not-not, true≢false, false≢true}
 use lib.ListN.{length}
 use lib.Dec.{eqb}
 use borrow.Author.Tests.{eq-eqb, eqb-true}
@@ -12,8 +13,10 @@ use Rattle.bytes_order.specs.Member.{_∈_, any}
 use Rattle.bytes_order.specs.BoolLaws.{true-false, not-true→false, and-true→, and-true}
 use Rattle.bytes_order.specs.MemberLaws.{∈-cast, any→∈, ∈→any, any-false→, any-false}
 use Rattle.update_format.specs.Update.{Id, Update}
-use Rattle.bitset.specs.Bits.{has, within}
-use Rattle.bitset.specs.BitsLaws.{has-none, has-including, has-join, within-none, within-including, within-join, within→lt}
+use Rattle.bitset.specs.Below.{countBelow}
+use Rattle.bitset.specs.BelowLaws.{countBelow-cong, countBelow-with}
+use Rattle.bitset.specs.Bits.{has, including, within}
+use Rattle.bitset.specs.BitsLaws.{has-none, has-including, has-join, within-none, within-including, within-join}
 use Rattle.ledger_state.specs.declared.Standing.{Standing}
 use Rattle.ledger_state.specs.declared.Standing.the-variants.{Held, Waiting, Void}
 use Rattle.ledger_judging.specs.declared.Gathered.{Gathered}
@@ -21,7 +24,6 @@ use Rattle.ledger_state.specs.State.{Book, placeAt, findIn, isHeld, isWaiting, 
 use Rattle.ledger_judging.specs.Judge.{nothingGathered, gatherBy, gatherAt, gather}
 use Rattle.ledger_state.specs.Stands.{ident, updateAt, Holds}
 use Rattle.ledger_state.specs.StandingLaws.{isHeld→, isVoid→, held-left}
-use Rattle.ledger_state.specs.Row1Laws.{holds-sound}
 use Rattle.ledger_state.specs.FindLaws.{find-taken, find-right, find-all}
 
 -- each id is that of an update at a held place
@@ -117,6 +119,31 @@ module _ (l : Book) where
       step g none = sym (or-false (has (g .above) k))
       step g (some j) = by g j (placeAt l j .standing)
 
+  -- no more places than ids
+  pub gather-few : (n : ℕ) (is : List Id) → countBelow n (has (gather l nothingGathered is .direct)) ≤ length is
+  unfolding countBelow gather
+  gather-few n is = omega (arith, go nothingGathered is {m = 0} (omega (arith, empty n)))
+    where
+      empty : (n : ℕ) → countBelow n (has 0) ≡ 0
+      empty zero = refl
+      empty (suc n) = ap₂ (λ (b : Bool) (c : ℕ). cond b (c + 1) c) (has-none n) (empty n)
+
+      by : (g : Gathered) (j : ℕ) (v : Standing) → countBelow n (has (gatherBy l g j v .direct)) ≤ countBelow n (has (g .direct)) + 1
+      by g j Held =
+          subst (λ (c : ℕ). c ≤ countBelow n (has (g .direct)) + 1)
+          (sym (countBelow-cong n (has (including (g .direct) j)) (λ (k : ℕ). has (g .direct) k || eqb k j) (λ k h. has-including (g .direct) j k)))
+          (countBelow-with n (has (g .direct)) j)
+      by g j Waiting = omega arith
+      by g j Void = omega arith
+
+      step : (g : Gathered) (o : Option ℕ) → countBelow n (has (gatherAt l g o .direct)) ≤ countBelow n (has (g .direct)) + 1
+      step g none = omega arith
+      step g (some j) = by g j (placeAt l j .standing)
+
+      go : (g : Gathered) (is : List Id) {m : ℕ} → countBelow n (has (g .direct)) ≤ m → countBelow n (has (gather l g is .direct)) ≤ m + length is
+      go g [] h = omega arith
+      go g (i ∷ is) {m} h = omega (arith, go (gatherAt l g (findIn l i)) is {m = m + 1} (omega (arith, step g (findIn l i), h)))
+
 -- both words are of taken places, whatever the ledger, if the words of the taken places are
 module _ (l : Book) (taken : (j : ℕ) → j < l .used → within (placeAt l j .ancestors) (l .used) ≡ true) where
   abbrev Inside : Gathered → Type 0
@@ -200,11 +227,6 @@ module _ (l : Book) (s : List ℕ) (us : List Update) (holds : Holds l s us) whe
         each i m =
             let r = h i m in
             ap (passes (waitingAt l) true) (ap (findIn l) (sym (r .2)) ∙ find-all l s us holds (r .0) (r .1)) ∙ ap isWaiting (r .3)
-
-    -- the set of the places has taken ones only
-    pub gathered-taken : gathered .direct < 2 ^ (l .used)
-    gathered-taken =
-        let h = holds-sound l s us holds in within→lt (gathered .direct) (l .used) (gather-inside l (λ j g. h .each j g .inside) is .0)
 
     pub gathered-direct→ : (j : ℕ) → has (gathered .direct) j ≡ true → (j < length us) × (ident (updateAt us j) ∈ is)
     unfolding directAt

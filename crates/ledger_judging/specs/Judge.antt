@@ -4,7 +4,6 @@ use Prim.Native.Nat.{ℕ}
 use mathlib.Core.List.{List, [], _∷_}
 use mathlib.Core.Option.{Option, none, some}
 use mathlib.Core.Bool.{Bool, true, false, cond, _&&_, _||_}
-use lib.Dec.{eqb}
 use Rattle.bytes_order.specs.Order.{same}
 use Rattle.bytes_order.specs.Member.{all}
 use Rattle.update_format.specs.Update.{Id, Operation, Add, Remove, Insert, Delete}
@@ -12,10 +11,11 @@ use Rattle.update_format.specs.Decode.{Decoded, refused, update, decode}
 use Rattle.rules.specs.Standing.{beginning}
 use Rattle.rules.specs.Settle.{isAdd, isInsert}
 use Rattle.update_fields.specs.Fields.{testOf}
-use Rattle.bitset.specs.Bits.{has, including, join, meet}
+use Rattle.bitset.specs.Bits.{has, including, join}
 use Rattle.ledger_state.specs.declared.Standing.{Standing}
 use Rattle.ledger_state.specs.declared.Standing.the-variants.{Held, Waiting, Void}
 use Rattle.ledger_state.specs.State.{Book, placeAt, storedAt, findIn}
+use Rattle.ledger_judging.specs.Antichain.{antichainAt}
 use Rattle.ledger_judging.specs.declared.Gathered.{Gathered}
 use Rattle.ledger_judging.specs.declared.Judgement.{Judgement}
 use Rattle.ledger_judging.specs.declared.Judgement.the-variants.{Holds, Fails, Waits}
@@ -56,7 +56,7 @@ valid l s up (Delete i) = namesAncestor l s isInsert up i
 
 unfoldable pub judgeReady : Book → List ℕ → Operation → ℕ → ℕ → Judgement
 judgeReady l s o direct above =
-    cond (eqb (meet direct above) 0) (cond (valid l s (join direct above) o) (Holds (join direct above)) Fails) Fails
+    cond (antichainAt l direct) (cond (valid l s (join direct above) o) (Holds (join direct above)) Fails) Fails
 
 unfoldable pub judgeGathered : Book → List ℕ → Operation → Gathered → Judgement
 judgeGathered l s o g = cond (g .void) Fails (cond (g .ready) (judgeReady l s o (g .direct) (g .above)) Waits)

@@ -1,39 +1,39 @@
 -- The judgement of a place is that of the rules: with places that hold the updates `us` and say only what is so, a place judged to hold is Held, with
 -- exactly its ancestors in the word; one judged to fail is Void; and one that goes on waiting is not decided by what its predecessors say.
-use mathlib.Core.Path.{_≡_, refl, sym, _∙_, ap, subst}
+use mathlib.Core.Path.{_≡_, refl, sym, _∙_, ap, subst, subst₂}
 use mathlib.Core.Logic.{inl, inr, ⊎-elim}
 use Prim.Native.Nat.{ℕ, _<_}
 use mathlib.Core.List.{List}
 use mathlib.Core.Option.{Option, none, some}
 use mathlib.Core.Bool.{Bool, true, false, cond, false≢true}
 use lib.ListN.{length}
-use lib.Dec.{eqb}
-use borrow.Author.Tests.{eq-eqb, eqb-true}
 use Rattle.bytes_order.specs.Order.{same}
 use Rattle.bytes_order.specs.Member.{_∈_}
-use Rattle.bytes_order.specs.BoolLaws.{true-false, not-true→false, or-true→, or-left, or-right, and-true→, and-true}
+use Rattle.bytes_order.specs.BoolLaws.{true-false, or-true→, or-left, or-right, and-true→, and-true}
 use Rattle.bytes_order.specs.OrderLaws.{same→eq, eq→same}
 use Rattle.bytes_order.specs.MemberLaws.{∈-cast, all→∈, ∈→all}
 use Rattle.bytes_order.specs.DistinctLaws.{distinct-index}
 use Rattle.update_format.specs.Update.{Id, Operation, Add, Remove, Insert, Delete, Update}
 use Rattle.update_format.specs.Decode.{Decoded, update, decode}
 use Rattle.update_format.specs.Laws.{decode-complete}
-use Rattle.rules.specs.Standing.{beginning, Ancestor, InsertAncestor, Valid, Known, Held, Void}
+use Rattle.rules.specs.Standing.{beginning, Ancestor, InsertAncestor, Valid, Known, Antichain, Held, Void}
 use Rattle.rules.specs.Settle.{isAdd, isInsert}
 use Rattle.update_fields.specs.Fields.{testOf}
 use Rattle.rules.specs.LeastSets.{ancestor-stored, ancestor-cases}
 use Rattle.rules.specs.SettlingTable.{isAdd→, →isAdd, isInsert→, →isInsert}
-use Rattle.bitset.specs.Bits.{has, join, meet}
-use Rattle.bitset.specs.BitsLaws.{has-join, meet-none→, meet-none←}
+use Rattle.bitset.specs.Bits.{has, join}
+use Rattle.bitset.specs.BitsLaws.{has-join}
 use Rattle.ledger_state.specs.declared.Standing.the-variants.{Held as IsHeld, Void as IsVoid}
 use Rattle.ledger_judging.specs.declared.Gathered.{Gathered}
 use Rattle.ledger_judging.specs.declared.Judgement.{Judgement}
 use Rattle.ledger_judging.specs.declared.Judgement.the-variants.{Holds as Judged-holds, Fails, Waits}
 use Rattle.ledger_state.specs.State.{Book, placeAt, storedAt, findIn}
+use Rattle.ledger_judging.specs.Antichain.{antichainAt}
+use Rattle.ledger_judging.specs.AntichainLaws.{antichain-at→, →antichain-at}
 use Rattle.ledger_judging.specs.Judge.{nothingGathered, gather, namesAt, namesAncestor, valid, judgeReady, judgeGathered, judgeDecoded, judgeAt}
 use Rattle.ledger_state.specs.Stands.{ident, noUpdate, updateAt, Holds, Truthful}
 use Rattle.ledger_state.specs.FindLaws.{stored-at, place-of, find-right, find-all}
-use Rattle.ledger_judging.specs.GatherLaws.{AllHeld, gathered-taken, gathered-void→, gathered-void←, gathered-ready→, gathered-ready←, gathered-direct→, gathered-direct←, gathered-above→, gathered-above←}
+use Rattle.ledger_judging.specs.GatherLaws.{AllHeld, gathered-void→, gathered-void←, gathered-ready→, gathered-ready←, gathered-direct→, gathered-direct←, gathered-above→, gathered-above←}
 
 -- what is read from a place is its update
 stored-update : (l : Book) (s : List ℕ) (us : List Update) → Holds l s us → (k : ℕ) → k < length us
@@ -172,34 +172,37 @@ module _ (l : Book) (s : List ℕ) (us : List Update) (holds : Holds l s us) whe
                   (ancestor-cases ident us a);
             }
 
-        abbrev Antichain : Type 0
-        Antichain = (x y : Update) → x ∈ us → y ∈ us → ident x ∈ u .preds → ident y ∈ u .preds → Ancestor ident us x y → ⊥
+        -- the antichain rule
+        direct-held : (j : ℕ) → has (gathered .direct) j ≡ true → (j < length us) × (placeAt l j .standing ≡ IsHeld)
+        direct-held j e = let d = gathered-direct→ l s us holds (u .preds) j e in (d .0, pred-held j (d .0) (d .1))
 
-        antichain→ : meet (gathered .direct) (gathered .above) ≡ 0 → Antichain
+        antichain→ : antichainAt l (gathered .direct) ≡ true → Antichain ident us u
         antichain→ e x y mx my px py a =
             let r = place-of us mx in
-            true-false (above-has (r .0) (r .1) my py (subst (λ (z : Update). Ancestor ident us z y) (sym (r .2)) a))
-            (meet-none→ (gathered .direct) (gathered .above) e (r .0) (direct-has (r .0) (r .1) (∈-cast (ap ident (r .2)) px)))
+            let q = place-of us my in
+            antichain-at→ holds truthful (gathered .direct) direct-held e (r .0) (q .0)
+            (direct-has (r .0) (r .1) (∈-cast (ap ident (r .2)) px))
+            (direct-has (q .0) (q .1) (∈-cast (ap ident (q .2)) py))
+            (subst₂ (Ancestor ident us) (sym (r .2)) (sym (q .2)) a)
 
-        →antichain : Antichain → meet (gathered .direct) (gathered .above) ≡ 0
+        →antichain : Antichain ident us u → antichainAt l (gathered .direct) ≡ true
         →antichain n =
-            meet-none← (l .used) (gathered .above)
-            (gathered-taken l s us holds (u .preds))
-            (λ j g e.
-            let d = gathered-direct→ l s us holds (u .preds) j e in
-            not-true→false (has (gathered .above) j)
-            (λ t. let r = has-above j (d .0) t in n (updateAt us j) (r .0) (stored-at us j (d .0)) (r .1) (d .1) (r .2) (r .3)))
+            →antichain-at holds truthful (gathered .direct) direct-held
+            (λ j k x y a.
+            let d = gathered-direct→ l s us holds (u .preds) j x in
+            let e = gathered-direct→ l s us holds (u .preds) k y in
+            n (updateAt us j) (updateAt us k) (stored-at us j (d .0)) (stored-at us k (e .0)) (d .1) (e .1) a)
 
         ready-says : Says l us u (judgeReady l s (u .op) (gathered .direct) (gathered .above))
         unfolding judgeReady Says word
-        ready-says = step (eqb (meet (gathered .direct) (gathered .above)) 0) (valid l s word (u .op)) refl refl
+        ready-says = step (antichainAt l (gathered .direct)) (valid l s word (u .op)) refl refl
           where
-            step : (a v : Bool) → eqb (meet (gathered .direct) (gathered .above)) 0 ≡ a → valid l s word (u .op) ≡ v
+            step : (a v : Bool) → antichainAt l (gathered .direct) ≡ a → valid l s word (u .op) ≡ v
                 → Says l us u (cond a (cond v (Judged-holds word) Fails) Fails)
             step true true e f = (
               Held.held stored preds-known preds-held
                   (record {
-                    antichain = antichain→ (eqb-true (meet (gathered .direct) (gathered .above)) 0 e);
+                    antichain = antichain→ e;
                     valid = valid→ holds word-right (u .op) f;
                   }),
               word-right,
@@ -207,7 +210,7 @@ module _ (l : Book) (s : List ℕ) (us : List Update) (holds : Holds l s us) whe
             step true false e f = Void.broken stored preds-known preds-held (λ d. true-false (→valid holds word-right (u .op) (d .valid)) f)
             step false v e f =
                 Void.broken stored preds-known preds-held
-                (λ d. true-false (eq-eqb (meet (gathered .direct) (gathered .above)) 0 (→antichain (d .antichain))) e)
+                (λ d. true-false (→antichain (d .antichain)) e)
 
       gathered-says : Says l us u (judgeGathered l s (u .op) gathered)
       unfolding judgeGathered Says

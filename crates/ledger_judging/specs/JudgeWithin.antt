@@ -3,13 +3,13 @@ use mathlib.Core.Path.{_≡_, subst}
 use Prim.Native.Nat.{ℕ, _<_}
 use mathlib.Core.List.{List}
 use mathlib.Core.Bool.{Bool, true, false, cond}
-use lib.Dec.{eqb}
 use Rattle.update_format.specs.Decode.{Decoded, refused, update, decode}
-use Rattle.bitset.specs.Bits.{join, meet, within}
+use Rattle.bitset.specs.Bits.{join, within}
 use Rattle.bitset.specs.BitsLaws.{within-join}
 use Rattle.ledger_judging.specs.declared.Judgement.{Judgement}
 use Rattle.ledger_judging.specs.declared.Judgement.the-variants.{Holds as Judged-holds, Fails, Waits}
 use Rattle.ledger_state.specs.State.{Book, placeAt, storedAt}
+use Rattle.ledger_judging.specs.Antichain.{antichainAt}
 use Rattle.ledger_judging.specs.Judge.{nothingGathered, gather, valid, judgeReady, judgeGathered, judgeDecoded, judgeAt}
 use Rattle.ledger_judging.specs.GatherLaws.{gather-inside}
 
@@ -34,7 +34,7 @@ module _ (l : Book) (taken : (j : ℕ) → j < l .used → within (placeAt l j .
       let i = gather-inside l taken (u .preds) in
       let inside = within-join (g .direct) (g .above) (l .used) (i .0) (i .1) in
       let ready =
-      either (eqb (meet (g .direct) (g .above)) 0)
+      either (antichainAt l (g .direct))
       (either (valid l s (join (g .direct) (g .above)) (u .op)) (holds-within inside) fails-within)
       fails-within in
       either (g .void) fails-within (either (g .ready) ready waits-within)

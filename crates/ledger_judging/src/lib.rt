@@ -1,17 +1,20 @@
 // Judging a waiting update: by its predecessors, its ancestors and its operation.
 ghost use mathlib.Core.Path.{_≡_};
 ghost use mathlib.Core.Option.{some};
-ghost use mathlib.Core.Bool.{Bool};
+ghost use mathlib.Core.Bool.{Bool, not};
 ghost use Prim.Native.Nat.{_≤_, _<_};
 ghost use Rattle.bytes_order.specs.Member.{all};
 ghost use Rattle.update_format.specs.Update as U;
 ghost use Rattle.update_format.specs.Decode.{idsAt, firstPredecessor, decode};
 ghost use Rattle.update_format.specs.ParseResult.{operationAt, valueOf};
+ghost use Rattle.rules.specs.CausalOrder.{beforeOrAfter};
 ghost use Rattle.rules.specs.Settle.{isAdd, isInsert};
 ghost use Rattle.update_fields.specs.Fields.{testOf};
 ghost use Rattle.ledger_state.specs.State.{places, Book, placeAt};
 ghost use Rattle.ledger_state.specs.View.{placeOf, bookOf};
 ghost use Rattle.ledger_state.specs.Bounds.{PlaceIn};
+ghost use Rattle.ledger_state.specs.PlaceOrder.{placeOrder};
+ghost use Rattle.ledger_judging.specs.Antichain.{clearBelow, antichainAt};
 ghost use Rattle.ledger_judging.specs.Judge.{nothingGathered, gatherAt, gather, namesAncestor, valid, judgeReady, judgeGathered, judgeDecoded, judgeAt};
 use bitset::Set;
 use ledger_state::Found;
@@ -19,7 +22,9 @@ use ledger_state::Ledger;
 use ledger_state::Place;
 use ledger_state::Standing;
 use ledger_state::find::find;
+use ledger_state::places::causal_order;
 use ledger_state::store::stored;
+use rules::CausalOrder;
 use update_format::Operation;
 use update_format::ParseResult;
 use update_format::Parsed;
@@ -93,6 +98,53 @@ fn gather(l: Ledger, b: &[u8], count: usize) -> Gathered
         k += 1;
     }
     g
+}
+
+// Whether the own place, k, is neither before nor after the other, q.
+fn unordered(own: Place, k: usize, other: Place, q: usize) -> bool
+    ensures { λ r. ⌜ r ≡ not (beforeOrAfter (placeOrder (placeOf own) k (placeOf other) q)) ⌝ }
+{
+    match causal_order(own, k, other, q) {
+        CausalOrder::Same => true,
+        CausalOrder::Before => false,
+        CausalOrder::After => false,
+        CausalOrder::Apart => true,
+    }
+}
+
+// Whether no place of the set below place k is before or after it.
+fn clear_below(l: Ledger, set: Set, k: usize) -> bool
+    requires { ⌜ k < places ⌝ }
+    ensures { λ r. ⌜ r ≡ clearBelow (bookOf l) set k ⌝ }
+{
+    let mut q: usize = 0;
+    while q < k {
+        if bitset::has(set, q) {
+            if !unordered(l.places[q], q, l.places[k], k) {
+                return false;
+            }
+        }
+        q += 1;
+    }
+    true
+}
+
+// Whether no place of the set is before or after another. Each pair is asked about once at most.
+fn antichain(l: Ledger, set: Set) -> bool
+    requires { ⌜ bookOf l .used ≤ places ⌝ }
+    ensures { λ r. ⌜ r ≡ antichainAt (bookOf l) set ⌝ }
+{
+    let used = l.used;
+    let mut k: usize = 0;
+    while k < used {
+        if bitset::has(set, k) {
+            if !clear_below(l, set, k) {
+                return false;
+            }
+        }
+        k += 1;
+    }
+    true
 }
 
 // The bytes of the place in the set `up` with this id, or no bytes.
@@ -198,7 +250,7 @@ fn judge_ready(
     requires { ⌜ bookOf l .used ≤ places ⌝ }
     ensures { λ r. ⌜ r ≡ judgeReady (bookOf l) (now (store .entry)) (operationAt (now (b .entry)) operation) direct above ⌝ }
 {
-    if bitset::meet(direct, above) != 0 {
+    if !antichain(l, direct) {
         return Judgement::Fails;
     }
     let up = bitset::join(direct, above);

@@ -2,24 +2,26 @@
 use Prim.Native.Nat.{ℕ, _+_, _≤_, _<_}
 use mathlib.Core.Path.{_≡_, refl, sym, ap, ap₂, _∙_}
 use mathlib.Core.List.{List}
-use mathlib.Core.Bool.{Bool, true, false, not, _&&_, _||_}
+use mathlib.Core.Bool.{Bool, true, false, not, _&&_, _||_, Bool·not-not}
 use native.Mathlib.Numerals.{add-one}
 use native.Mathlib.Omega.{arith}
 use borrow.Author.Tests.{eq-eqb, ne-eqb}
 use lib.Dec.{eqb}
+use Rattle.rules.specs.CausalOrder.{isApart}
 use Rattle.rules.specs.Settle.{isInsert}
 use Rattle.bitset.specs.Below.{anyBelow}
 use Rattle.bitset.specs.BelowLaws.{anyBelow←}
-use Rattle.bitset.specs.Bits.{has, count}
+use Rattle.bitset.specs.Bits.{count}
 use Rattle.ledger_state.specs.declared.Standing.the-variants.{Held, Waiting, Void}
 use Rattle.ledger_state.specs.State.{Place, Book, placeAt, isHeld}
+use Rattle.ledger_state.specs.PlaceOrder.{placeOrder}
 use Rattle.ledger_state.specs.Number.{hasStanding}
 use Rattle.ledger_state.specs.NumberLaws.{is-held, is-waiting, is-void}
 use Rattle.update_fields.specs.Fields.{testOf, authorIn, isAnyAdd}
-use Rattle.ledger_relations.specs.declared.Relation.{Relation}
-use Rattle.ledger_relations.specs.declared.Relation.the-variants.{Removes, Deletes}
+use Rattle.ledger_relations.specs.declared.Effect.{Effect}
+use Rattle.ledger_relations.specs.declared.Effect.the-variants.{Removes, Deletes}
 use Rattle.ledger_relations.specs.PlaceTests.{idAt, decodedAt, heldAt, waitingAt, voidAt, removedAt, presentAt, deletedAt, shownAt}
-use Rattle.ledger_relations.specs.Related.{neither, decodedIn, forks, heldRelates, rankedIn, someHeld}
+use Rattle.ledger_relations.specs.Effects.{decodedIn, forks, heldAffects, rankedIn, someHeld}
 
 -- a test of the numbers below n
 pub any-more : (n : ℕ) (p : ℕ → Bool) → anyBelow (n + 1) p ≡ anyBelow n p || p n
@@ -45,25 +47,20 @@ first-false : {a : Bool} (c : Bool) → a ≡ false → false ≡ (a && c)
 first-false c e = ap (λ (x : Bool). x && c) (sym e)
 
 module _ (own : Place) (k : ℕ) (other : Place) (q : ℕ) where
-  pub apart-same : k ≡ q → false ≡ neither own k other q
-  apart-same e = sym (ap (λ (b : Bool). not b && (not (has (other .ancestors) k) && not (has (own .ancestors) q))) (eq-eqb k q e))
-
-  pub apart-above : {b : Bool} → (k ≡ q → ⊥) → b ≡ has (other .ancestors) k → b ≡ true → false ≡ neither own k other q
-  apart-above n e t = sym (ap₂ (λ (x y : Bool). not x && (not y && not (has (own .ancestors) q))) (ne-eqb k q n) (sym e ∙ t))
-
-  pub apart-below : {b c : Bool} → (k ≡ q → ⊥) → b ≡ has (other .ancestors) k → b ≡ false → c ≡ has (own .ancestors) q → not c ≡ neither own k other q
-  apart-below n e t f = ap not f ∙ sym (ap₂ (λ (x y : Bool). not x && (not y && not (has (own .ancestors) q))) (ne-eqb k q n) (sym e ∙ t))
-
   module _ (s : List ℕ) where
     abbrev sameAuthor : Bool
     sameAuthor = eqb (authorIn (decodedIn s own k)) (authorIn (decodedIn s other q))
 
-    -- two updates of one author
-    pub fork-apart : {c : Bool} {a b : ℕ} → c ≡ neither own k other q → c ≡ true → a ≡ authorIn (decodedIn s own k) → b ≡ authorIn (decodedIn s other q) → eqb a b ≡ forks s own k other q
-    fork-apart e t f g = ap₂ eqb f g ∙ sym (ap (λ (x : Bool). sameAuthor && x) (sym e ∙ t) ∙ with-true sameAuthor)
+    module _ {c : Bool} (told : c ≡ not (isApart (placeOrder own k other q))) where
+      apart-by : (b : Bool) → c ≡ not b → isApart (placeOrder own k other q) ≡ b
+      apart-by b e = sym (Bool·not-not (isApart (placeOrder own k other q))) ∙ ap not (sym told ∙ e) ∙ Bool·not-not b
 
-    pub fork-related : {c : Bool} → c ≡ neither own k other q → c ≡ false → false ≡ forks s own k other q
-    fork-related e t = sym (ap (λ (x : Bool). sameAuthor && x) (sym e ∙ t) ∙ with-false sameAuthor)
+      -- two updates of one author
+      pub fork-apart : {a b : ℕ} → c ≡ false → a ≡ authorIn (decodedIn s own k) → b ≡ authorIn (decodedIn s other q) → eqb a b ≡ forks s own k other q
+      fork-apart e f g = ap₂ eqb f g ∙ sym (ap (λ (x : Bool). sameAuthor && x) (apart-by true e) ∙ with-true sameAuthor)
+
+      pub fork-comparable : c ≡ true → false ≡ forks s own k other q
+      fork-comparable e = sym (ap (λ (x : Bool). sameAuthor && x) (apart-by false e) ∙ with-false sameAuthor)
 
 -- a test of a place that is to be held, by the answer whether it is
 module _ (p : Place) {b : Bool} (h : b ≡ hasStanding Held (p .standing)) where
@@ -120,20 +117,20 @@ module _ (l : Book) (s : List ℕ) (k : ℕ) where
   shown-is e = ap not e
 
   -- some held place, one after the other
-  module _ (r : Relation) where
+  module _ (e : Effect) where
     abbrev passes : ℕ → Bool
-    passes q = heldRelates s r (placeAt l k) k (placeAt l q) q
+    passes q = heldAffects s e (placeAt l k) k (placeAt l q) q
 
     pub some-start : anyBelow 0 passes ≡ false
     some-start = any-zero passes
 
-    pub some-hit : (q : ℕ) {b : Bool} → q < l .used → b ≡ passes q → b ≡ true → true ≡ someHeld l s r k
+    pub some-hit : (q : ℕ) {b : Bool} → q < l .used → b ≡ passes q → b ≡ true → true ≡ someHeld l s e k
     unfolding someHeld
-    some-hit q h e t = sym (anyBelow← (l .used) passes q h (sym e ∙ t))
+    some-hit q h f t = sym (anyBelow← (l .used) passes q h (sym f ∙ t))
 
     pub some-more : (q : ℕ) {b : Bool} → anyBelow q passes ≡ false → b ≡ passes q → b ≡ false → anyBelow (q + 1) passes ≡ false
-    some-more q i e t = any-more q passes ∙ ap₂ _||_ i (sym e ∙ t)
+    some-more q i f t = any-more q passes ∙ ap₂ _||_ i (sym f ∙ t)
 
-    pub some-end : (q : ℕ) → q ≤ l .used → l .used ≤ q → anyBelow q passes ≡ false → false ≡ someHeld l s r k
+    pub some-end : (q : ℕ) → q ≤ l .used → l .used ≤ q → anyBelow q passes ≡ false → false ≡ someHeld l s e k
     unfolding someHeld
-    some-end q h g i = let e : q ≡ l .used = omega arith in sym i ∙ ap (λ (m : ℕ). anyBelow m passes) e
+    some-end q h g i = let last : q ≡ l .used = omega arith in sym i ∙ ap (λ (m : ℕ). anyBelow m passes) last

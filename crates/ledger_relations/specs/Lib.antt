@@ -1,4 +1,4 @@
 pub mod PlaceTests
-pub mod Related
+pub mod Effects
 pub mod PlaceLaws
 pub mod RowLaws

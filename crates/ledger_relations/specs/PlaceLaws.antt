@@ -13,6 +13,7 @@ use Rattle.update_format.specs.Update.{Operation, Update}
 use Rattle.update_format.specs.Decode.{update, decode}
 use Rattle.update_format.specs.Laws.{decode-complete}
 use Rattle.rules.specs.Standing.{Ancestor, Held}
+use Rattle.rules.specs.CausalOrder.{OrderExactly}
 use Rattle.rules.specs.LeastSets.{held-not-void}
 use Rattle.bitset.specs.Below.{upTo}
 use Rattle.bitset.specs.BelowLaws.{upTo-∈, upTo-ascending}
@@ -20,6 +21,8 @@ use Rattle.bitset.specs.Bits.{has}
 use Rattle.ledger_state.specs.declared.Standing.{Standing}
 use Rattle.ledger_state.specs.declared.Standing.the-variants.{Held as IsHeld, Waiting as IsWaiting, Void as IsVoid}
 use Rattle.ledger_state.specs.State.{Book, placeAt, isHeld}
+use Rattle.ledger_state.specs.PlaceOrder.{orderAt}
+use Rattle.ledger_state.specs.PlaceOrderLaws.{order-at-exactly}
 use Rattle.update_fields.specs.Fields.{testOf, authorIn}
 use Rattle.ledger_state.specs.Stands.{ident, noUpdate, updateAt, Stands}
 use Rattle.ledger_state.specs.StandingLaws.{isHeld→}
@@ -86,3 +89,8 @@ module _ {l : Book} {s : List ℕ} {us : List Update} (stands : Stands l s us) w
   pub →above-at : {j k : ℕ} → j < length us → k < length us → heldAt l s k ≡ true → Ancestor ident us (updateAt us j) (updateAt us k)
       → has (placeAt l k .ancestors) j ≡ true
   →above-at {j} {k} g h e a = stands .truthful .above-all k j h g (standing-held k e) a
+
+  -- and two held places stand to each other exactly as their updates do
+  pub order-at : {j k : ℕ} → j < length us → k < length us → heldAt l s j ≡ true → heldAt l s k ≡ true
+      → OrderExactly ident us (updateAt us j) (updateAt us k) (orderAt l j k)
+  order-at {j} {k} g h d e = order-at-exactly (stands .holds) (stands .truthful) j k g h (standing-held j d) (standing-held k e)

@@ -7,10 +7,12 @@ use lib.Dec.{eqb}
 use Rattle.bytes_order.specs.Sort.{sort}
 use Rattle.update_format.specs.Update.{Id}
 use Rattle.update_format.specs.Decode.{Decoded, decode}
+use Rattle.rules.specs.CausalOrder.{isBefore, isApart}
 use Rattle.rules.specs.Settle.{names, deletes}
 use Rattle.bitset.specs.Below.{anyBelow, upTo}
-use Rattle.bitset.specs.Bits.{has, count}
+use Rattle.bitset.specs.Bits.{count}
 use Rattle.ledger_state.specs.State.{Book, placeAt, storedAt, isHeld, isWaiting, isVoid}
+use Rattle.ledger_state.specs.PlaceOrder.{orderAt}
 use Rattle.update_fields.specs.Fields.{testOf, authorIn, isAnyAdd}
 
 module _ (l : Book) (s : List ℕ) where
@@ -39,18 +41,16 @@ module _ (l : Book) (s : List ℕ) where
   unfoldable pub idOrder : List ℕ
   idOrder = sort idAt (upTo (l .used))
 
-  -- heads
+  -- heads: no held place is after it
   unfoldable pub coveredAt : ℕ → Bool
-  coveredAt k = anyBelow (l .used) (λ (q : ℕ). heldAt q && has (placeAt l q .ancestors) k)
+  coveredAt k = anyBelow (l .used) (λ (q : ℕ). heldAt q && isBefore (orderAt l k q))
 
   unfoldable pub headAt : ℕ → Bool
   headAt k = heldAt k && not (coveredAt k)
 
-  -- marks: q is another held place of r's author, neither an ancestor of the other
+  -- marks: q is a held place of r's author, and the two are apart
   unfoldable pub forkedWith : ℕ → ℕ → Bool
-  forkedWith r q =
-      heldAt q && (eqb (authorAt r) (authorAt q)
-      && (not (eqb r q) && (not (has (placeAt l q .ancestors) r) && not (has (placeAt l r .ancestors) q))))
+  forkedWith r q = heldAt q && (eqb (authorAt r) (authorAt q) && isApart (orderAt l r q))
 
   unfoldable pub forkedAt : ℕ → Bool
   forkedAt r = heldAt r && anyBelow (l .used) (forkedWith r)

@@ -1,27 +1,28 @@
 -- The settled table of a ledger's updates has a row for each place, in the order of the places' ids, and the tests of the rows are those of the places.
 use Prim.Native.Nat.{ℕ, _<_}
-use mathlib.Core.Path.{_≡_, refl, sym, _∙_, ap, subst, subst₂}
+use mathlib.Core.Path.{_≡_, refl, sym, _∙_, ap, ap₂, subst, subst₂}
 use mathlib.Core.Logic.{_⊎_, inl, inr}
 use mathlib.Core.List.{List, [], _∷_, map, map-map, List·Memᴰ·not-nil}
 use mathlib.Core.Bool.{Bool, true, cond, not, _&&_}
 use lib.ListN.{length}
 use lib.Dec.{eqb}
-use borrow.Author.Tests.{eqb-true, eq-eqb}
 use Rattle.bytes_order.specs.Order.{same, ascending}
 use Rattle.bytes_order.specs.Member.{_∈_, member, any}
 use Rattle.bytes_order.specs.Distinct.{Distinct, distinct-nil, distinct-cons, Identifies}
 use Rattle.bytes_order.specs.Ascending.{Ascending}
 use Rattle.bytes_order.specs.BoolLaws.{test-ext, and-agrees}
-use Rattle.bytes_order.specs.OrderLaws.{same→eq, eq→same, ne→same-false}
+use Rattle.bytes_order.specs.OrderLaws.{eq→same, ne→same-false}
 use Rattle.bytes_order.specs.MemberLaws.{∈-cases, ∈-cast, ∈-map, map-∈, member→∈, ∈→member, any→∈, ∈→any, map-cong}
 use Rattle.bytes_order.specs.DistinctLaws.{distinct-eq}
 use Rattle.bytes_order.specs.SortLaws.{Ascending→ascending, ascending→Ascending, ascending-unique, sort-ascending, sort-∈, ∈-sort}
 use Rattle.update_format.specs.Update.{Id, Operation, Update}
 use Rattle.rules.specs.Standing.{Ancestor, Held, Void}
-use Rattle.rules.specs.Settle.{Verdict, held, waiting, void, Row, Table, isHeld, isWaiting, isVoid, heldRow, settledTable, covered, forkedBy}
+use Rattle.rules.specs.CausalOrder.{isBefore, isApart}
+use Rattle.rules.specs.Settle.{Verdict, held, waiting, void, Row, Table, isHeld, isWaiting, isVoid, heldRow, orderIn, settledTable, covered, forkedBy}
 use Rattle.rules.specs.Decides.{Decides}
 use Rattle.rules.specs.LeastSets.{ancestor-stored, held-not-void}
 use Rattle.rules.specs.SettlingTable.{isHeld→}
+use Rattle.rules.specs.TableLaws.{held-order}
 use Rattle.rules.specs.Settling.{settled-ascending, settled-decides}
 use Rattle.bitset.specs.Below.{anyBelow, upTo}
 use Rattle.bitset.specs.BelowLaws.{anyBelow→, anyBelow←, upTo-∈, ∈-upTo}
@@ -30,10 +31,11 @@ use Rattle.ledger_state.specs.declared.Standing.{Standing}
 use Rattle.ledger_state.specs.declared.Standing.the-variants.{Held as IsHeld, Waiting as IsWaiting, Void as IsVoid}
 use Rattle.ledger_state.specs.State.{Book, placeAt, isHeld as placeHeld, isWaiting as placeWaiting, isVoid as placeVoid}
 use Rattle.update_fields.specs.Fields.{testOf}
+use Rattle.ledger_state.specs.PlaceOrder.{orderAt}
 use Rattle.ledger_state.specs.Stands.{ident, noUpdate, updateAt, Stands}
 use Rattle.ledger_state.specs.Verdicts.{verdictOf}
 use Rattle.ledger_relations.specs.PlaceTests.{idAt, heldAt, waitingAt, voidAt, authorAt, decodedAt, coveredAt, headAt, forkedWith, forkedAt, idOrder}
-use Rattle.ledger_relations.specs.PlaceLaws.{from-used, to-used, place-in, place-of, place-id, same-place, place-author, place-test, above-at→, →above-at}
+use Rattle.ledger_relations.specs.PlaceLaws.{from-used, to-used, place-in, place-of, place-id, same-place, place-author, place-test, held-at→, above-at→, →above-at, order-at}
 
 -- the row of an id
 noRow : Row
@@ -203,33 +205,37 @@ module _ {l : Book} {s : List ℕ} {us : List Update} (stands : Stands l s us) w
   pub op-agrees : {k : ℕ} → k < length us → rowAt us k .update .op ≡ updateAt us k .op
   op-agrees h = ap (λ (u : Update). u .op) (row-update h)
 
+  -- two held places stand to each other as their rows do
+  pub order-agrees : {j k : ℕ} → j < length us → k < length us → heldAt l s j ≡ true → heldAt l s k ≡ true
+      → orderIn (settledTable ident us) (rowAt us j .id) (rowAt us k .id) ≡ orderAt l j k
+  order-agrees {j} {k} g h d e =
+      ap₂ (orderIn T) (row-id g ∙ place-id stands g) (row-id h ∙ place-id stands h)
+      ∙ held-order (stands .holds .distinct) decides (held-at→ stands g d) (held-at→ stands h e) .all (orderAt l j k)
+      (order-at stands g h d e .right (orderAt l j k) refl)
+
   -- heads
-  covered-agrees : {k : ℕ} → k < length us → covered (settledTable ident us) (rowAt us k) ≡ coveredAt l s k
+  covered-agrees : {k : ℕ} → k < length us → heldAt l s k ≡ true → covered (settledTable ident us) (rowAt us k) ≡ coveredAt l s k
   unfolding covered coveredAt
-  covered-agrees {k} h =
-      any-agrees (λ (q : Row). heldRow q && member (rowAt us k .id) (q .above)) (λ (q : ℕ). heldAt l s q && has (placeAt l q .ancestors) k)
-      (λ q g. and-agrees (heldRow (rowAt us q)) (held-agrees q g) (λ e. above-agrees h g e))
+  covered-agrees {k} h d =
+      any-agrees (λ (q : Row). heldRow q && isBefore (orderIn T (rowAt us k .id) (q .id))) (λ (q : ℕ). heldAt l s q && isBefore (orderAt l k q))
+      (λ q g. and-agrees (heldRow (rowAt us q)) (held-agrees q g) (λ e. ap isBefore (order-agrees h g d e)))
 
   pub head-agrees : (k : ℕ) → k < length us → (heldRow (rowAt us k) && not (covered (settledTable ident us) (rowAt us k))) ≡ headAt l s k
   unfolding headAt
-  head-agrees k h = and-agrees (heldRow (rowAt us k)) (held-agrees k h) (λ e. ap not (covered-agrees h))
+  head-agrees k h = and-agrees (heldRow (rowAt us k)) (held-agrees k h) (λ e. ap not (covered-agrees h e))
 
   -- marks
-  pub same-agrees : {j k : ℕ} → j < length us → k < length us → same (rowAt us j .id) (rowAt us k .id) ≡ eqb j k
-  same-agrees {j} {k} g h =
-      test-ext (same (rowAt us j .id) (rowAt us k .id)) (eqb j k)
-      (λ e. eq-eqb j k (same-place stands g h (sym (row-id g) ∙ same→eq (rowAt us j .id) (rowAt us k .id) e ∙ row-id h)))
-      (λ e. eq→same (rowAt us j .id) (rowAt us k .id) (ap (λ (i : ℕ). rowAt us i .id) (eqb-true j k e)))
-
-  forked-agrees : {r q : ℕ} → r < length us → q < length us → heldAt l s r ≡ true → forkedBy (rowAt us r) (rowAt us q) ≡ forkedWith l s r q
+  forked-agrees : {r q : ℕ} → r < length us → q < length us → heldAt l s r ≡ true → forkedBy (settledTable ident us) (rowAt us r) (rowAt us q) ≡ forkedWith l s r q
   unfolding forkedBy forkedWith
   forked-agrees {r} {q} h g d =
       and-agrees (heldRow (rowAt us q)) (held-agrees q g) (λ e. λ i.
-      eqb (author-agrees h i) (author-agrees g i) && (not (same-agrees h g i) && (not (above-agrees h g e i) && not (above-agrees g h d i))))
+      eqb (author-agrees h i) (author-agrees g i) && isApart (order-agrees h g d e i))
 
-  pub fork-agrees : (k : ℕ) → k < length us → (heldRow (rowAt us k) && any (forkedBy (rowAt us k)) (settledTable ident us)) ≡ forkedAt l s k
+  pub fork-agrees : (k : ℕ) → k < length us
+      → (heldRow (rowAt us k) && any (forkedBy (settledTable ident us) (rowAt us k)) (settledTable ident us)) ≡ forkedAt l s k
   unfolding forkedAt
-  fork-agrees k h = and-agrees (heldRow (rowAt us k)) (held-agrees k h) (λ e. any-agrees (forkedBy (rowAt us k)) (forkedWith l s k) (λ q g. forked-agrees h g e))
+  fork-agrees k h =
+      and-agrees (heldRow (rowAt us k)) (held-agrees k h) (λ e. any-agrees (forkedBy T (rowAt us k)) (forkedWith l s k) (λ q g. forked-agrees h g e))
 
   -- a held update whose operation passes a test
   pub op-test-agrees : (p : Operation → Bool) → any (λ (q : Row). heldRow q && p (q .update .op)) (settledTable ident us)

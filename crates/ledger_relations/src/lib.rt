@@ -1,36 +1,52 @@
-// How held places stand to a place of a ledger, and the tests of a place that go by it.
+// What held places do to a place of a ledger, and the tests of a place that go by it.
 ghost use mathlib.Core.Path.{_≡_};
+ghost use mathlib.Core.Bool.{not};
 ghost use Prim.Native.Nat.{_<_};
+ghost use Rattle.rules.specs.CausalOrder.{isBefore, isApart};
 ghost use Rattle.ledger_state.specs.State.{places};
+ghost use Rattle.ledger_state.specs.PlaceOrder.{placeOrder};
 ghost use Rattle.ledger_state.specs.View.{placeOf, bookOf};
 ghost use Rattle.ledger_state.specs.Bounds.{PlaceIn, TwoPlaces};
 ghost use Rattle.ledger_relations.specs.PlaceTests.{headAt, forkedAt, presentAt, shownAt};
-ghost use Rattle.ledger_relations.specs.Related.{neither, forks, relates, heldRelates, someHeld, rankedIn};
+ghost use Rattle.ledger_relations.specs.Effects.{forks, affects, heldAffects, someHeld, rankedIn};
 use ledger_state::Ledger;
 use ledger_state::Place;
 use ledger_state::Standing;
+use ledger_state::places::causal_order;
 use ledger_state::places::has_standing;
 use ledger_state::store::stored;
+use rules::CausalOrder;
 
-// How a held place can stand to another place.
-pub enum Relation {
+// What a held place can do to another place: be after it; be a fork of it; remove it; delete it.
+pub enum Effect {
     Covers,
     Forks,
     Removes,
     Deletes,
 }
 
-// Whether the places are two, neither an ancestor of the other.
-fn apart(own: Place, k: usize, other: Place, q: usize) -> bool
-    ensures { λ r. ⌜ r ≡ neither (placeOf own) k (placeOf other) q ⌝ }
+// Whether the other place, q, covers the own, k: the own is before it.
+fn covers(own: Place, k: usize, other: Place, q: usize) -> bool
+    ensures { λ r. ⌜ r ≡ isBefore (placeOrder (placeOf own) k (placeOf other) q) ⌝ }
 {
-    if k == q {
-        return false;
+    match causal_order(own, k, other, q) {
+        CausalOrder::Same => false,
+        CausalOrder::Before => true,
+        CausalOrder::After => false,
+        CausalOrder::Apart => false,
     }
-    if bitset::has(other.ancestors, k) {
-        return false;
+}
+
+// Whether the places are one, or one is before the other.
+fn comparable(own: Place, k: usize, other: Place, q: usize) -> bool
+    ensures { λ r. ⌜ r ≡ not (isApart (placeOrder (placeOf own) k (placeOf other) q)) ⌝ }
+{
+    match causal_order(own, k, other, q) {
+        CausalOrder::Same => true,
+        CausalOrder::Before => true,
+        CausalOrder::After => true,
+        CausalOrder::Apart => false,
     }
-    !bitset::has(own.ancestors, q)
 }
 
 // Whether the places are apart and of one author.
@@ -38,57 +54,49 @@ fn forks(store: &[u8], own: Place, k: usize, other: Place, q: usize) -> bool
     requires { ⌜ TwoPlaces k q ⌝ }
     ensures { λ r. ⌜ r ≡ forks (now (store .entry)) (placeOf own) k (placeOf other) q ⌝ }
 {
-    if apart(own, k, other, q) {
-        let author = update_fields::author_of(stored(store, k, own.length));
-        author == update_fields::author_of(stored(store, q, other.length))
-    } else {
-        false
+    if comparable(own, k, other, q) {
+        return false;
     }
+    let author = update_fields::author_of(stored(store, k, own.length));
+    author == update_fields::author_of(stored(store, q, other.length))
 }
 
-// Whether the other place, q, stands so to the own place, k.
-fn related(store: &[u8], relation: Relation, own: Place, k: usize, other: Place, q: usize) -> bool
+// Whether the other place, q, does so to the own place, k.
+fn affects(store: &[u8], effect: Effect, own: Place, k: usize, other: Place, q: usize) -> bool
     requires { ⌜ TwoPlaces k q ⌝ }
-    ensures { λ r. ⌜ r ≡ relates (now (store .entry)) relation (placeOf own) k (placeOf other) q ⌝ }
+    ensures { λ r. ⌜ r ≡ affects (now (store .entry)) effect (placeOf own) k (placeOf other) q ⌝ }
 {
     let id = own.id;
-    match relation {
-        Relation::Covers => bitset::has(other.ancestors, k),
-        Relation::Forks => forks(store, own, k, other, q),
-        Relation::Removes => update_fields::removes(stored(store, q, other.length), &id),
-        Relation::Deletes => update_fields::erases(stored(store, q, other.length), &id),
+    match effect {
+        Effect::Covers => covers(own, k, other, q),
+        Effect::Forks => forks(store, own, k, other, q),
+        Effect::Removes => update_fields::removes(stored(store, q, other.length), &id),
+        Effect::Deletes => update_fields::erases(stored(store, q, other.length), &id),
     }
 }
 
-// Whether the other place, q, is held and stands so to the own place, k.
-fn held_related(
-    store: &[u8],
-    relation: Relation,
-    own: Place,
-    k: usize,
-    other: Place,
-    q: usize,
-) -> bool
+// Whether the other place, q, is held and does so to the own place, k.
+fn held_affects(store: &[u8], effect: Effect, own: Place, k: usize, other: Place, q: usize) -> bool
     requires { ⌜ TwoPlaces k q ⌝ }
-    ensures { λ r. ⌜ r ≡ heldRelates (now (store .entry)) relation (placeOf own) k (placeOf other) q ⌝ }
+    ensures { λ r. ⌜ r ≡ heldAffects (now (store .entry)) effect (placeOf own) k (placeOf other) q ⌝ }
 {
     if has_standing(other, Standing::Held) {
-        related(store, relation, own, k, other, q)
+        affects(store, effect, own, k, other, q)
     } else {
         false
     }
 }
 
-// Whether some held place stands so to place k.
-fn some_held(l: Ledger, store: &[u8], relation: Relation, k: usize) -> bool
+// Whether some held place does so to place k.
+fn some_held(l: Ledger, store: &[u8], effect: Effect, k: usize) -> bool
     requires { ⌜ PlaceIn (bookOf l) k ⌝ }
-    ensures { λ r. ⌜ r ≡ someHeld (bookOf l) (now (store .entry)) relation k ⌝ }
+    ensures { λ r. ⌜ r ≡ someHeld (bookOf l) (now (store .entry)) effect k ⌝ }
 {
     let used = l.used;
     let own = l.places[k];
     let mut q: usize = 0;
     while q < used {
-        if held_related(store, relation, own, k, l.places[q], q) {
+        if held_affects(store, effect, own, k, l.places[q], q) {
             return true;
         }
         q += 1;
@@ -102,7 +110,7 @@ pub fn is_head(l: Ledger, store: &[u8], k: usize) -> bool
     ensures { λ r. ⌜ r ≡ headAt (bookOf l) (now (store .entry)) k ⌝ }
 {
     if has_standing(l.places[k], Standing::Held) {
-        !some_held(l, store, Relation::Covers, k)
+        !some_held(l, store, Effect::Covers, k)
     } else {
         false
     }
@@ -114,7 +122,7 @@ pub fn is_forked(l: Ledger, store: &[u8], k: usize) -> bool
     ensures { λ r. ⌜ r ≡ forkedAt (bookOf l) (now (store .entry)) k ⌝ }
 {
     if has_standing(l.places[k], Standing::Held) {
-        some_held(l, store, Relation::Forks, k)
+        some_held(l, store, Effect::Forks, k)
     } else {
         false
     }
@@ -130,7 +138,7 @@ pub fn is_present(l: Ledger, store: &[u8], k: usize) -> bool
         return false;
     }
     if update_fields::is_add(stored(store, k, p.length)) {
-        !some_held(l, store, Relation::Removes, k)
+        !some_held(l, store, Effect::Removes, k)
     } else {
         false
     }
@@ -141,7 +149,7 @@ pub fn is_shown(l: Ledger, store: &[u8], k: usize) -> bool
     requires { ⌜ PlaceIn (bookOf l) k ⌝ }
     ensures { λ r. ⌜ r ≡ shownAt (bookOf l) (now (store .entry)) k ⌝ }
 {
-    !some_held(l, store, Relation::Deletes, k)
+    !some_held(l, store, Effect::Deletes, k)
 }
 
 // Whether the place, k, holds a held Insert with n ancestors.

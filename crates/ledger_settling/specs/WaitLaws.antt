@@ -8,12 +8,11 @@ use mathlib.Core.List.{List, [], _∷_}
 use mathlib.Core.Option.{Option, none, some}
 use mathlib.Core.Bool.{Bool, true, false, cond, false≢true}
 use lib.ListN.{length}
-use lib.Dec.{eqb}
 use Rattle.bytes_order.specs.BoolLaws.{true-false}
 use Rattle.bytes_order.specs.Order.{same}
 use Rattle.update_format.specs.Update.{Id, Operation, Update, maxLength}
 use Rattle.update_format.specs.Decode.{Decoded, refused, update, decode, slice}
-use Rattle.bitset.specs.Bits.{including, join, meet}
+use Rattle.bitset.specs.Bits.{including, join}
 use Rattle.bitset.specs.BelowLaws.{firstBelow-some→, firstBelow-some←, firstBelow-none→}
 use Rattle.ledger_state.specs.declared.Standing.{Standing}
 use Rattle.ledger_state.specs.declared.Standing.the-variants.{Held, Waiting, Void}
@@ -23,6 +22,7 @@ use Rattle.ledger_judging.specs.declared.Judgement.the-variants.{Holds as Judge
 use Rattle.bytes_copy.specs.Overwritten.{overwritten}
 use Rattle.bytes_copy.specs.OverwrittenLaws.{overwritten-before}
 use Rattle.ledger_state.specs.State.{places, Place, Book, placeAt, storedAt, withTaken, findIn}
+use Rattle.ledger_judging.specs.Antichain.{antichainAt}
 use Rattle.ledger_judging.specs.Judge.{nothingGathered, gatherBy, gatherAt, gather, valid, judgeReady, judgeGathered, judgeDecoded, judgeAt}
 use Rattle.ledger_settling.specs.Settle.{isWaits, OthersWait}
 use Rattle.ledger_state.specs.Stands.{Stands}
@@ -45,7 +45,7 @@ waits-judged l s us stands k h q = by (judgeAt l s k) refl
 module _ (l m : Book) (s t : List ℕ) where
   ready-decides : (o : Operation) (d a : ℕ) → isWaits (judgeReady l s o d a) ≡ false
   unfolding judgeReady isWaits
-  ready-decides o d a = by (eqb (meet d a) 0) (valid l s (join d a) o)
+  ready-decides o d a = by (antichainAt l d) (valid l s (join d a) o)
     where
       by : (x y : Bool) → isWaits (cond x (cond y (Judged-holds (join d a)) Fails) Fails) ≡ false
       by true true = refl

@@ -11,7 +11,7 @@ use Rattle.bitset.specs.Below.{upTo}
 use Rattle.update_fields.specs.Fields.{tagIn}
 use Rattle.ledger_state.specs.State.{places, Place, Book, placeAt}
 use Rattle.ledger_relations.specs.PlaceTests.{presentAt, idOrder}
-use Rattle.ledger_relations.specs.Related.{decodedIn}
+use Rattle.ledger_relations.specs.Effects.{decodedIn}
 use Rattle.ledger_sorting.specs.declared.Places.{Places}
 use Rattle.ledger_sorting.specs.declared.Key.{Key}
 use Rattle.ledger_sorting.specs.declared.Key.the-variants.{Id, Tag}

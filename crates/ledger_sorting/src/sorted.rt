@@ -9,7 +9,7 @@ ghost use Rattle.ledger_state.specs.State.{places};
 ghost use Rattle.ledger_state.specs.View.{placeOf, bookOf};
 ghost use Rattle.ledger_state.specs.Bounds.{PlaceIn, TwoPlaces};
 ghost use Rattle.ledger_sorting.specs.PlaceLists.{placesIn, Lists, RoomFor, RoomIn, keyIn, keyOf, candidate, sortedBy};
-ghost use Rattle.ledger_relations.specs.Related.{decodedIn};
+ghost use Rattle.ledger_relations.specs.Effects.{decodedIn};
 use crate::Key;
 use crate::Places;
 use bytes_order::Order;

@@ -1,2 +1,3 @@
 pub mod FindLaws
+pub mod Ordering
 pub mod Owning

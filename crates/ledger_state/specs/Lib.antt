@@ -2,6 +2,7 @@ pub mod State
 pub mod Bounds
 pub mod BookLaws
 pub mod View
+pub mod PlaceOrder
 pub mod ViewLaws
 pub mod Methods
 pub mod Number
@@ -14,3 +15,4 @@ pub mod FindLaws
 pub mod Verdicts
 pub mod TakeLaws
 pub mod CountLaws
+pub mod PlaceOrderLaws

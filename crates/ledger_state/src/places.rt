@@ -1,10 +1,13 @@
-// One place or two: how a place stands, and how the ids of two compare.
+// One place or two: how a place stands, how the ids of two compare, and the causal order of two.
 ghost use mathlib.Core.Path.{_≡_};
 ghost use Rattle.bytes_order.specs.Compare.{orderOf};
 ghost use Rattle.ledger_state.specs.Number.{standingNumber, hasStanding};
+ghost use Rattle.ledger_state.specs.PlaceOrder.{placeOrder};
+ghost use Rattle.ledger_state.specs.View.{placeOf};
 use crate::Place;
 use crate::Standing;
 use bytes_order::Order;
+use rules::CausalOrder;
 
 // A number for each standing.
 fn number_of(standing: Standing) -> u8
@@ -32,4 +35,27 @@ pub fn compare_ids(own: Place, other: Place) -> Order
     let a = own.id;
     let b = other.id;
     bytes_order::compare(&a, &b)
+}
+
+// How the own place, k, stands to the other, q: document 02, E4. For any two places and any ancestor words: a place that is among its own ancestors is the same as
+// itself, and two that are among each other's are apart.
+pub fn causal_order(own: Place, k: usize, other: Place, q: usize) -> CausalOrder
+    ensures { λ r. ⌜ r ≡ placeOrder (placeOf own) k (placeOf other) q ⌝ }
+{
+    if k == q {
+        return CausalOrder::Same;
+    }
+    let before = bitset::has(other.ancestors, k);
+    let after = bitset::has(own.ancestors, q);
+    if before {
+        if after {
+            return CausalOrder::Apart;
+        }
+        return CausalOrder::Before;
+    }
+    if after {
+        CausalOrder::After
+    } else {
+        CausalOrder::Apart
+    }
 }

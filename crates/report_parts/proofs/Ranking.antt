@@ -16,7 +16,7 @@ use Rattle.bytes_order.specs.MemberLaws.{keep-append, keep-length}
 use Rattle.rules.specs.Standing.{beginning}
 use Rattle.ledger_state.specs.State.{places, Book, placeAt}
 use Rattle.ledger_relations.specs.PlaceTests.{decodedAt, heldAt, rankAt, idOrder}
-use Rattle.ledger_relations.specs.Related.{rankedIn}
+use Rattle.ledger_relations.specs.Effects.{rankedIn}
 use Rattle.report_parts.specs.PlaceParts.{insertAt, byRank, after, putBy, putEntry, putAll, entriesOf}
 use Rattle.update_fields.specs.Fields.{anchorIn}
 use Rattle.ledger_sorting.specs.declared.Places.{Places}

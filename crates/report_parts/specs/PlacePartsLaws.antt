@@ -78,7 +78,7 @@ module _ {l : Book} {s : List ℕ} {us : List Update} (stands : Stands l s us) w
   unfolding marks
   marks-part =
       sym (ap (sort (λ (a : ℕ). a ∷ []))
-      (rows-agree (λ (r : Row). r .update .author) (λ (r : Row). heldRow r && any (forkedBy r) (settledTable ident us)) (authorAt l s) (forkedAt l s)
+      (rows-agree (λ (r : Row). r .update .author) (λ (r : Row). heldRow r && any (forkedBy (settledTable ident us) r) (settledTable ident us)) (authorAt l s) (forkedAt l s)
       (λ k h. author-agrees stands h) (fork-agrees stands))
       ∙ sort-unique (λ (a : ℕ). a ∷ []) (λ x y m n e. head-eq-of-cons-eq e) marks-ascending (record { forth = λ a m. marked→ m; back = λ a m. →marked m }))
 

@@ -5,7 +5,7 @@ use mathlib.Core.Bool.{Bool}
 use lib.ListN.{length}
 use Rattle.bytes_order.specs.Member.{keep}
 use Rattle.ledger_state.specs.State.{places, Book, placeAt}
-use Rattle.ledger_relations.specs.Related.{rankedIn}
+use Rattle.ledger_relations.specs.Effects.{rankedIn}
 use Rattle.ledger_sorting.specs.declared.Places.{Places}
 use Rattle.ledger_sorting.specs.PlaceLists.{placesIn, PlaceList}
 

@@ -7,7 +7,7 @@ ghost use Rattle.bytes_print.specs.Page.{Prints};
 ghost use Rattle.ledger_state.specs.View.{placeOf, bookOf};
 ghost use Rattle.ledger_state.specs.Bounds.{PlaceIn};
 ghost use Rattle.report_text.specs.Parts.{maxLines, maxPart, LineAt, ShownLine, ListOnPage, listedIn, lineOf, partLines, partOf};
-ghost use Rattle.ledger_relations.specs.Related.{decodedIn};
+ghost use Rattle.ledger_relations.specs.Effects.{decodedIn};
 ghost use Rattle.report_wording.specs.Lines.{maxReportLine, lineBy};
 ghost use Rattle.ledger_sorting.specs.PlaceLists.{placesIn};
 use bytes_print::put;

@@ -10,21 +10,24 @@ use mathlib.Core.Bool.{Bool, true, false, cond, not, _&&_}
 use lib.ListN.{length, take, length-take}
 use lib.Dec.{leb, eqb}
 use borrow.Author.Tests.{leb-true, leb-false, eqb-true, eq-eqb}
-use Rattle.bytes_order.specs.Order.{before, same}
+use Rattle.bytes_order.specs.Order.{before}
 use Rattle.bytes_order.specs.Member.{_∈_, member, keep}
-use Rattle.bytes_order.specs.BoolLaws.{true-false, or-true→, or-left, or-right}
-use Rattle.bytes_order.specs.OrderLaws.{same→eq, eq→same, before→ne, before-first}
+use Rattle.bytes_order.specs.BoolLaws.{true-false}
+use Rattle.bytes_order.specs.OrderLaws.{before→ne, before-first}
 use Rattle.bytes_order.specs.MemberLaws.{∈-cast, ∈-append-left, ∈-append-right, append-∈, map-∈, ∈→member, member→∈, ∈-keep, keep-∈, take-∈, front-∈, some-taken}
 use Rattle.bytes_order.specs.Distinct.{Distinct, Identifies}
 use Rattle.bytes_order.specs.Ascending.{Ascending}
 use Rattle.bytes_order.specs.Sort.{sort}
 use Rattle.bytes_order.specs.SortLaws.{ascending-keep, sort-∈, ∈-sort, sort-ascending, sort-length, sort-key, greatest-first}
 use Rattle.update_format.specs.Update.{Id, maxPredecessors, Update}
+use Rattle.rules.specs.declared.CausalOrder.the-variants.{Same, Before}
 use Rattle.rules.specs.Standing.{Ancestor}
 use Rattle.rules.specs.ReadOff.{Marked}
-use Rattle.rules.specs.Settle.{Row, Table, heldRow, covered, heads, rank, rankKey}
+use Rattle.rules.specs.CausalOrder.{isBefore, sameOrBefore}
+use Rattle.rules.specs.Settle.{Row, Table, orderIn, heldRow, covered, heads, rank, rankKey}
 use Rattle.rules.specs.Decides.{Decides}
-use Rattle.rules.specs.TableLaws.{HeldRow, any-held→, keep-held→, →keep-held, row-eq, row-held, row-id, ancestor→above, above-trans, rank-bound, rank-less}
+use Rattle.rules.specs.CausalLaws.{isBefore→, sameOrBefore→}
+use Rattle.rules.specs.TableLaws.{HeldRow, any-held→, keep-held→, →keep-held, row-eq, row-held, row-id, ancestor→above, above→ancestor, row-order, above-trans, rank-bound, rank-less}
 use Rattle.rules.specs.Writing.{heldBy, ranked, atOrAbove, firstHeads, others, chosenFrom, chosen}
 
 abbrev pub rowId : Row → Id
@@ -32,17 +35,18 @@ rowId r = r .id
 
 -- the first heads
 
-first-heads-∈ : (hs ts : Table) {r : Row} → r ∈ firstHeads hs ts → r ∈ hs
-unfolding firstHeads
-first-heads-∈ hs [] m = absurd (List·Memᴰ·not-nil m)
-first-heads-∈ hs (t ∷ ts) m = keep-∈ (atOrAbove t) hs (take-∈ 1 (keep (atOrAbove t) hs) m) .0
+module _ (T : Table) where
+  first-heads-∈ : (hs ts : Table) {r : Row} → r ∈ firstHeads T hs ts → r ∈ hs
+  unfolding firstHeads
+  first-heads-∈ hs [] m = absurd (List·Memᴰ·not-nil m)
+  first-heads-∈ hs (t ∷ ts) m = keep-∈ (atOrAbove T t) hs (take-∈ 1 (keep (atOrAbove T t) hs) m) .0
 
-first-heads-few : (hs ts : Table) → length (firstHeads hs ts) ≤ maxPredecessors
-unfolding firstHeads
-first-heads-few hs [] = omega arith
-first-heads-few hs (t ∷ ts) =
-    let n = length (keep (atOrAbove t) hs) in
-    le-trans (subst (λ (k : ℕ). k ≤ 1) (sym (length-take 1 (keep (atOrAbove t) hs))) (min-le-left 1 n)) (omega arith)
+  first-heads-few : (hs ts : Table) → length (firstHeads T hs ts) ≤ maxPredecessors
+  unfolding firstHeads
+  first-heads-few hs [] = omega arith
+  first-heads-few hs (t ∷ ts) =
+      let n = length (keep (atOrAbove T t) hs) in
+      le-trans (subst (λ (k : ℕ). k ≤ 1) (sym (length-take 1 (keep (atOrAbove T t) hs))) (min-le-left 1 n)) (omega arith)
 
 -- what is chosen of the heads hs
 module _ (hs first : Table) (among : (r : Row) → r ∈ first → r ∈ hs) where
@@ -110,10 +114,10 @@ module _ (hs first : Table) (among : (r : Row) → r ∈ first → r ∈ hs) whe
 -- the same, of the heads of a table
 module _ (T : Table) (a : ℕ) where
   abbrev first : Table
-  first = firstHeads (heads T) (ranked (heldBy T a))
+  first = firstHeads T (heads T) (ranked (heldBy T a))
 
   first-among : (r : Row) → r ∈ first → r ∈ heads T
-  first-among r = first-heads-∈ (heads T) (ranked (heldBy T a))
+  first-among r = first-heads-∈ T (heads T) (ranked (heldBy T a))
 
   pub chosen-all : length (heads T) ≤ maxPredecessors → chosen T a ≡ heads T
   unfolding chosen
@@ -145,17 +149,22 @@ module _ {ident : Update → Id} {S : List Update} {T : Table} (distinct : Disti
   abbrev pub AtOrAbove : Row → Row → Type 0
   AtOrAbove t h = (h .id ≡ t .id) ⊎ (t .id ∈ h .above)
 
-  atOrAbove→ : (t h : Row) → atOrAbove t h ≡ true → AtOrAbove t h
+  atOrAbove→ : {t h : Row} → HeldRow T t → HeldRow T h → atOrAbove T t h ≡ true → AtOrAbove t h
   unfolding atOrAbove
-  atOrAbove→ t h e =
-      ⊎-elim (λ (i : same (h .id) (t .id) ≡ true). inl (same→eq (h .id) (t .id) i))
-      (λ (i : member (t .id) (h .above) ≡ true). inr (member→∈ (t .id) (h .above) i)) (or-true→ (same (h .id) (t .id)) (member (t .id) (h .above)) e)
+  atOrAbove→ {t} {h} k l e =
+      ⊎-elim
+      (λ (o : orderIn T (t .id) (h .id) ≡ Same).
+      inl (row-id distinct decides l ∙ ap ident (sym (row-order distinct decides k l .right Same o)) ∙ sym (row-id distinct decides k)))
+      (λ (o : orderIn T (t .id) (h .id) ≡ Before). inr (ancestor→above distinct decides k l (row-order distinct decides k l .right Before o)))
+      (sameOrBefore→ (orderIn T (t .id) (h .id)) e)
 
-  →atOrAbove : (t h : Row) → AtOrAbove t h → atOrAbove t h ≡ true
-  unfolding atOrAbove
-  →atOrAbove t h c =
-      ⊎-elim (λ (e : h .id ≡ t .id). or-left (same (h .id) (t .id)) (member (t .id) (h .above)) (eq→same (h .id) (t .id) e))
-      (λ (m : t .id ∈ h .above). or-right (same (h .id) (t .id)) (member (t .id) (h .above)) (∈→member m)) c
+  →atOrAbove : {t h : Row} → HeldRow T t → HeldRow T h → AtOrAbove t h → atOrAbove T t h ≡ true
+  unfolding atOrAbove sameOrBefore
+  →atOrAbove {t} {h} k l c =
+      ⊎-elim
+      (λ (e : h .id ≡ t .id).
+      ap sameOrBefore (row-order distinct decides k l .all Same (ap (λ (r : Row). r .update) (row-eq distinct decides (k .row-in) (l .row-in) (sym e)))))
+      (λ (m : t .id ∈ h .above). ap sameOrBefore (row-order distinct decides k l .all Before (above→ancestor distinct decides k l m))) c
 
   atOrAbove-trans : (t : Row) {q h : Row} → HeldRow T q → HeldRow T h → AtOrAbove t q → AtOrAbove q h → AtOrAbove t h
   atOrAbove-trans t kq kh c (inl e) = subst (AtOrAbove t) (row-eq distinct decides (kq .row-in) (kh .row-in) (sym e)) c
@@ -171,8 +180,9 @@ module _ {ident : Update → Id} {S : List Update} {T : Table} (distinct : Disti
       step : (c : Bool) → covered T t ≡ c → ((q : Row) → HeldRow T q → length T ≤ rank q + n → (h : Row) × (h ∈ heads T) × AtOrAbove q h)
           → (h : Row) × (h ∈ heads T) × AtOrAbove t h
       step true e below =
-          let f = any-held→ T (λ (q : Row). member (t .id) (q .above)) e in
-          let m : t .id ∈ f .0 .above = member→∈ (t .id) (f .0 .above) (f .2) in
+          let f = any-held→ T (λ (q : Row). isBefore (orderIn T (t .id) (q .id))) e in
+          let m : t .id ∈ f .0 .above =
+          ancestor→above distinct decides k (f .1) (row-order distinct decides k (f .1) .right Before (isBefore→ (orderIn T (t .id) (f .0 .id)) (f .2))) in
           let l : rank t < rank (f .0) = rank-less distinct decides k (f .1) m in
           let g = below (f .0) (f .1) (omega arith) in
           (g .0, g .1, atOrAbove-trans t (f .1) (head-row (g .1)) (inr m) (g .2))
@@ -255,12 +265,12 @@ module _ {ident : Update → Id} {S : List Update} {T : Table} (distinct : Disti
     named n {r} k e =
         let t = top n k e in
         let g = some-head (t .3) in
-        let f = some-taken 0 (∈-keep (atOrAbove (t .0)) (g .1) (→atOrAbove (t .0) (g .0) (g .2))) in
-        let h = keep-∈ (atOrAbove (t .0)) (heads T) (take-∈ 1 (keep (atOrAbove (t .0)) (heads T)) (f .1)) in
+        let f = some-taken 0 (∈-keep (atOrAbove T (t .0)) (g .1) (→atOrAbove (t .3) (head-row (g .1)) (g .2))) in
+        let h = keep-∈ (atOrAbove T (t .0)) (heads T) (take-∈ 1 (keep (atOrAbove T (t .0)) (heads T)) (f .1)) in
         let m : f .0 ∈ first T a =
-        subst (λ (ts : Table). f .0 ∈ firstHeads (heads T) ts) (sym (t .2)) (f .1) in (
+        subst (λ (ts : Table). f .0 ∈ firstHeads T (heads T) ts) (sym (t .2)) (f .1) in (
           f .0,
-          from-first (heads T) (first T a) (first-among T a) heads-one (first-heads-few (heads T) (ranked (heldBy T a))) m,
+          from-first (heads T) (first T a) (first-among T a) heads-one (first-heads-few T (heads T) (ranked (heldBy T a))) m,
           head-row (h .0),
-          atOrAbove-trans r (t .3) (head-row (h .0)) (t .4) (atOrAbove→ (t .0) (f .0) (h .1)),
+          atOrAbove-trans r (t .3) (head-row (h .0)) (t .4) (atOrAbove→ (t .3) (head-row (h .0)) (h .1)),
         )

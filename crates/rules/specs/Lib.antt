@@ -1,11 +1,13 @@
 pub mod Standing
 pub mod ReadOff
+pub mod CausalOrder
 pub mod Parts
 pub mod Settle
 pub mod Report
 pub mod Small
 pub mod Decides
 pub mod LeastSets
+pub mod CausalLaws
 pub mod Growth
 pub mod SettlingTable
 pub mod Settling

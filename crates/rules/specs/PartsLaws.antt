@@ -1,5 +1,5 @@
 -- For a set with distinct ids the parts of the report, as they are computed, are exactly those that `Standing` and `ReadOff` define, and only one choice of
--- parts is.
+-- parts is. Of two held updates the causal order, as it is computed, is exactly that of `CausalOrder`.
 use Prim.Native.Nat.{ℕ}
 use mathlib.Core.Path.{_≡_, refl, sym, subst, subst₂}
 use mathlib.Core.List.{List, [], _∷_}
@@ -13,13 +13,15 @@ use Rattle.bytes_order.specs.SortLaws.{ascending-distinct, ascending-keep, asce
 use Rattle.update_format.specs.Update.{Id, Update}
 use Rattle.rules.specs.Standing.{Held, Void, Waiting}
 use Rattle.rules.specs.ReadOff.{Head, Marked, Present}
+use Rattle.rules.specs.CausalOrder.{OrderExactly, turned}
 use Rattle.rules.specs.Parts.{Parts, Exactly, ReadFrom}
-use Rattle.rules.specs.Settle.{Verdict, held, waiting, void, Row, Table, isHeld, isWaiting, isVoid, heldRow, covered, heads, marks, tags, updatesIn, partsIn, partsOf}
+use Rattle.rules.specs.Settle.{Verdict, held, waiting, void, Row, Table, isHeld, isWaiting, isVoid, heldRow, covered, heads, marks, tags, updatesIn, partsIn, partsOf, settledTable, causalOrder}
 use Rattle.rules.specs.Decides.{Decides}
 use Rattle.rules.specs.LeastSets.{VerdictSays}
+use Rattle.rules.specs.CausalLaws.{order-turned}
 use Rattle.rules.specs.SettlingTable.{isHeld→, isWaiting→, isVoid→}
 use Rattle.rules.specs.Settling.{settled-decides, settled-ascending}
-use Rattle.rules.specs.TableLaws.{row-says, says-row}
+use Rattle.rules.specs.TableLaws.{row-says, says-row, held-order}
 use Rattle.rules.specs.ReadOffLaws.{head-right, head-all, mark-right, mark-all, tag-right, tag-all, list-right, listed-unique}
 
 -- a part has each of its elements once, and its definition determines it
@@ -115,3 +117,14 @@ read-unique ident S distinct f g =
     let s = exactly-unique (f .set) (g .set) in
     let l = listed-unique ident S distinct (f .list) (g .list) in
     λ i. record { held = h i; heads = t i; waiting = w i; void = v i; marks = m i; set = s i; list = l i }
+
+-- Document 02, E4: the answer for two held updates of a set is exactly theirs
+pub causal-order-right : (ident : Update → Id) (S : List Update) → Distinct ident S → {u v : Update} → Held ident S u → Held ident S v
+    → OrderExactly ident S u v (causalOrder ident S u v)
+unfolding causalOrder
+causal-order-right ident S distinct h k = held-order distinct (settled-decides ident S distinct) h k
+
+-- and for any two updates, held or not, the pair turned round has the answer turned
+pub causal-order-turned : (ident : Update → Id) (S : List Update) (u v : Update) → causalOrder ident S v u ≡ turned (causalOrder ident S u v)
+unfolding causalOrder
+causal-order-turned ident S u v = order-turned (settledTable ident S) (ident u) (ident v)

@@ -7,27 +7,27 @@ use mathlib.Core.Bool.{Bool, true, not, _&&_}
 use lib.ListN.{length}
 use lib.Dec.{eqb}
 use borrow.Author.Tests.{eqb-true, eq-eqb}
-use Rattle.bytes_order.specs.Order.{same}
-use Rattle.bytes_order.specs.Member.{_∈_, member, keep, any, concatMap}
-use Rattle.bytes_order.specs.MemberLaws.{∈-cast, ∈-map, map-∈, member→∈, ∈→member, ∈-concatMap, concatMap-∈}
-use Rattle.bytes_order.specs.BoolLaws.{true-false}
-use Rattle.bytes_order.specs.OrderLaws.{same→eq, eq→same}
+use Rattle.bytes_order.specs.Member.{_∈_, keep, any, concatMap}
+use Rattle.bytes_order.specs.MemberLaws.{∈-cast, ∈-map, map-∈, ∈-concatMap, concatMap-∈}
+use Rattle.bytes_order.specs.BoolLaws.{true-false, and-true→, and-true}
+use Rattle.bytes_order.specs.OrderLaws.{same→eq}
 use Rattle.bytes_order.specs.SortLaws.{sort-∈, ∈-sort}
 use Rattle.bytes_order.specs.Distinct.{Distinct}
 use Rattle.update_format.specs.Update.{Id, Update}
+use Rattle.rules.specs.declared.CausalOrder.the-variants.{Before, Apart}
 use Rattle.rules.specs.Standing.{beginning, Ancestor, Held}
 use Rattle.rules.specs.ReadOff.{Head, Marked, Removed, Present, Rank, InsertAt, Walk, Shown, Listed}
-use Rattle.rules.specs.Settle.{Row, Table, held, heldRow, covered, heads, forkedBy, marks, removed, names, tagsOf, tags, list, entries, rank, updatesIn}
+use Rattle.rules.specs.CausalOrder.{Causal, isBefore, isApart}
+use Rattle.rules.specs.Settle.{Row, Table, held, orderIn, heldRow, covered, heads, forkedBy, marks, removed, names, tagsOf, tags, list, entries, rank, updatesIn}
 use Rattle.rules.specs.Decides.{Decides}
-use Rattle.rules.specs.TableLaws.{not-true→, not-true, all-four→, →all-four, tagsOf-∈, ∈-tagsOf, names→, →names, HeldRow, any-held→, →any-held, keep-held→, →keep-held, row-held, row-id, row-rank, held-row, ancestor→above, above→ancestor, rank-bound}
+use Rattle.rules.specs.CausalLaws.{isBefore→, isApart→, marked→order, order→marked}
+use Rattle.rules.specs.TableLaws.{not-true→, not-true, tagsOf-∈, ∈-tagsOf, names→, →names, HeldRow, any-held→, →any-held, keep-held→, →keep-held, row-held, row-id, row-rank, held-row, row-order, rank-bound}
 use Rattle.rules.specs.WalkLaws.{Entry, atBeginning, firstRows, siblings-∈, walk-entry, walk-all, walk-distinct}
 use Rattle.rules.specs.ListedLaws.{first-right, walk-right, shown-right, siblings-unique, walk-unique, shown-unique}
 
 -- the test of `forkedBy` on a held row
-forked : Row → Row → Bool
-forked r q =
-    eqb (r .update .author) (q .update .author)
-    && (not (same (r .id) (q .id)) && (not (member (r .id) (q .above)) && not (member (q .id) (r .above))))
+forked : Table → Row → Row → Bool
+forked T r q = eqb (r .update .author) (q .update .author) && isApart (orderIn T (r .id) (q .id))
 
 module _ (ident : Update → Id) (S : List Update) (T : Table) (distinct : Distinct ident S) (decides : Decides ident S T) where
   -- heads
@@ -35,15 +35,15 @@ module _ (ident : Update → Id) (S : List Update) (T : Table) (distinct : Disti
   covered→ : (r : Row) → HeldRow T r → covered T r ≡ true → (v : Update) × Held ident S v × Ancestor ident S (r .update) v
   unfolding covered
   covered→ r h e =
-      let f = any-held→ T (λ (q : Row). member (r .id) (q .above)) e in
-      (f .0 .update, row-held distinct decides (f .1), above→ancestor distinct decides h (f .1) (member→∈ (r .id) (f .0 .above) (f .2)))
+      let f = any-held→ T (λ (q : Row). isBefore (orderIn T (r .id) (q .id))) e in
+      (f .0 .update, row-held distinct decides (f .1), row-order distinct decides h (f .1) .right Before (isBefore→ (orderIn T (r .id) (f .0 .id)) (f .2)))
 
   →covered : (r : Row) → HeldRow T r → (v : Update) → Held ident S v → Ancestor ident S (r .update) v → covered T r ≡ true
-  unfolding covered
+  unfolding covered isBefore
   →covered r h v k a =
       let f = held-row distinct decides k in
-      →any-held T (λ (q : Row). member (r .id) (q .above)) (f .1)
-      (∈→member (ancestor→above distinct decides h (f .1) (subst (Ancestor ident S (r .update)) (sym (f .2)) a)))
+      →any-held T (λ (q : Row). isBefore (orderIn T (r .id) (q .id))) (f .1)
+      (ap isBefore (row-order distinct decides h (f .1) .all Before (subst (Ancestor ident S (r .update)) (sym (f .2)) a)))
 
   pub head-right : (r : Row) → r ∈ heads T → Head ident S (r .update)
   unfolding heads
@@ -63,57 +63,48 @@ module _ (ident : Update → Id) (S : List Update) (T : Table) (distinct : Disti
 
   -- marks
 
-  apart→ : {r q : Row} → HeldRow T r → HeldRow T q → not (member (r .id) (q .above)) ≡ true → Ancestor ident S (r .update) (q .update) → ⊥
-  apart→ {r} {q} h k e a = true-false (∈→member (ancestor→above distinct decides h k a)) (not-true→ (member (r .id) (q .above)) e)
-
-  →apart : {r q : Row} → HeldRow T r → HeldRow T q → (Ancestor ident S (r .update) (q .update) → ⊥) → not (member (r .id) (q .above)) ≡ true
-  →apart {r} {q} h k n = not-true (member (r .id) (q .above)) (λ e. n (above→ancestor distinct decides h k (member→∈ (r .id) (q .above) e)))
-
-  forked→ : {r q : Row} → HeldRow T r → HeldRow T q → forked r q ≡ true → Marked ident S (r .update .author)
+  forked→ : {r q : Row} → HeldRow T r → HeldRow T q → forked T r q ≡ true → Marked ident S (r .update .author)
   unfolding forked
   forked→ {r} {q} h k e =
-      let t = all-four→ (eqb (r .update .author) (q .update .author)) (not (same (r .id) (q .id))) (not (member (r .id) (q .above))) (not (member (q .id) (r .above))) e in
-      record {
+      let t = and-true→ (eqb (r .update .author) (q .update .author)) (isApart (orderIn T (r .id) (q .id))) e in
+      order→marked ident S distinct
+      (record {
         one = r .update;
         other = q .update;
         one-held = row-held distinct decides h;
         other-held = row-held distinct decides k;
         one-by = refl;
         other-by = sym (eqb-true (r .update .author) (q .update .author) (t .0));
-        two = λ i. true-false (eq→same (r .id) (q .id) (row-id distinct decides h ∙ i ∙ sym (row-id distinct decides k))) (not-true→ (same (r .id) (q .id)) (t .1));
-        one-apart = apart→ h k (t .2);
-        other-apart = apart→ k h (t .3);
-      }
+        are-apart = row-order distinct decides h k .right Apart (isApart→ (orderIn T (r .id) (q .id)) (t .1));
+      })
 
-  →forked : {r q : Row} → HeldRow T r → HeldRow T q → r .update .author ≡ q .update .author → (ident (r .update) ≡ ident (q .update) → ⊥)
-      → (Ancestor ident S (r .update) (q .update) → ⊥) → (Ancestor ident S (q .update) (r .update) → ⊥) → forked r q ≡ true
-  unfolding forked
-  →forked {r} {q} h k by two one-apart other-apart =
-      →all-four (eqb (r .update .author) (q .update .author)) (not (same (r .id) (q .id))) (not (member (r .id) (q .above))) (not (member (q .id) (r .above)))
-      (eq-eqb (r .update .author) (q .update .author) by)
-      (not-true (same (r .id) (q .id)) (λ e. two (sym (row-id distinct decides h) ∙ same→eq (r .id) (q .id) e ∙ row-id distinct decides k))) (→apart h k one-apart) (→apart k h other-apart)
+  →forked : {r q : Row} → HeldRow T r → HeldRow T q → r .update .author ≡ q .update .author → Causal ident S Apart (r .update) (q .update) → forked T r q ≡ true
+  unfolding forked isApart
+  →forked {r} {q} h k by c =
+      and-true (eqb (r .update .author) (q .update .author)) (isApart (orderIn T (r .id) (q .id))) (eq-eqb (r .update .author) (q .update .author) by)
+      (ap isApart (row-order distinct decides h k .all Apart c))
 
   pub mark-right : (a : ℕ) → a ∈ marks T → Marked ident S a
   unfolding marks forkedBy forked
   mark-right a m =
-      let p : Row → Bool = λ (r : Row). any (forkedBy r) T in
+      let p : Row → Bool = λ (r : Row). any (forkedBy T r) T in
       let k = map-∈ (λ (r : Row). r .update .author) (keep (λ (r : Row). heldRow r && p r) T) (sort-∈ (λ (a : ℕ). a ∷ []) (map (λ (r : Row). r .update .author) (keep (λ (r : Row). heldRow r && p r) T)) m) in
       let f = keep-held→ T p (k .1) in
-      let g = any-held→ T (forked (k .0)) (f .1) in
+      let g = any-held→ T (forked T (k .0)) (f .1) in
       subst (Marked ident S) (k .2) (forked→ (f .0) (g .1) (g .2))
 
   pub mark-all : (a : ℕ) → Marked ident S a → a ∈ marks T
   unfolding marks forkedBy forked
   mark-all a h =
-      let f = held-row distinct decides (h .one-held) in
-      let g = held-row distinct decides (h .other-held) in
-      let by : f .0 .update .author ≡ a = ap (λ (u : Update). u .author) (f .2) ∙ h .one-by in
-      let by′ : g .0 .update .author ≡ a = ap (λ (u : Update). u .author) (g .2) ∙ h .other-by in
-      let e : forked (f .0) (g .0) ≡ true =
-      →forked (f .1) (g .1) (by ∙ sym by′) (λ i. h .two (ap ident (sym (f .2)) ∙ i ∙ ap ident (g .2))) (λ x. h .one-apart (subst₂ (Ancestor ident S) (f .2) (g .2) x))
-      (λ x. h .other-apart (subst₂ (Ancestor ident S) (g .2) (f .2) x)) in
+      let m = marked→order ident S h in
+      let f = held-row distinct decides (m .one-held) in
+      let g = held-row distinct decides (m .other-held) in
+      let by : f .0 .update .author ≡ a = ap (λ (u : Update). u .author) (f .2) ∙ m .one-by in
+      let by′ : g .0 .update .author ≡ a = ap (λ (u : Update). u .author) (g .2) ∙ m .other-by in
+      let e : forked T (f .0) (g .0) ≡ true =
+      →forked (f .1) (g .1) (by ∙ sym by′) (subst₂ (Causal ident S Apart) (sym (f .2)) (sym (g .2)) (m .are-apart)) in
       ∈-sort (λ (a : ℕ). a ∷ []) (λ x y m n e. head-eq-of-cons-eq e)
-      (∈-cast (sym by) (∈-map (λ (r : Row). r .update .author) (→keep-held T (λ (r : Row). any (forkedBy r) T) (f .1) (→any-held T (forked (f .0)) (g .1) e))))
+      (∈-cast (sym by) (∈-map (λ (r : Row). r .update .author) (→keep-held T (λ (r : Row). any (forkedBy T r) T) (f .1) (→any-held T (forked T (f .0)) (g .1) e))))
 
   -- tags
 

@@ -9,7 +9,9 @@ use Rattle.bytes_order.specs.Order.{same}
 use Rattle.bytes_order.specs.Member.{member, keep, any, all, concatMap}
 use Rattle.bytes_order.specs.Sort.{sort}
 use Rattle.update_format.specs.Update.{Id, Operation, Add, Remove, Insert, Delete, Update}
+use Rattle.rules.specs.declared.CausalOrder.{CausalOrder}
 use Rattle.rules.specs.Standing.{beginning}
+use Rattle.rules.specs.CausalOrder.{orderBy, isBefore, isApart, beforeOrAfter}
 use Rattle.rules.specs.Parts.{Parts}
 
 pub data Verdict : Type 0 where
@@ -74,15 +76,19 @@ insertIn T i = any (λ (r : Row). same (r .id) i && isInsert (r .update .op)) T
 unfoldable pub aboveIn : Table → Id → Id → Bool
 aboveIn T x i = any (λ (r : Row). same (r .id) i && member x (r .above)) T
 
+-- document 02, E4: how the update with the id i stands to that with the id j
+unfoldable pub orderIn : Table → Id → Id → CausalOrder
+orderIn T i j = orderBy (same i j) (aboveIn T i j) (aboveIn T j i)
+
 -- the ids of a table's rows that are predecessors of u or ancestors of one
 unfoldable pub ancestorsOf : Table → Update → List Id
 ancestorsOf T u =
     map (λ (r : Row). r .id)
     (keep (λ (r : Row). member (r .id) (u .preds) || any (λ (p : Id). aboveIn T (r .id) p) (u .preds)) T)
 
--- no predecessor is an ancestor of another
+-- no predecessor is before or after another
 unfoldable pub antichain : Table → List Id → Bool
-antichain T ps = all (λ (p : Id). all (λ (q : Id). not (aboveIn T p q)) ps) ps
+antichain T ps = all (λ (p : Id). all (λ (q : Id). not (beforeOrAfter (orderIn T p q))) ps) ps
 
 -- the operation is valid, for an update with these ancestors
 unfoldable pub validOp : Table → List Id → Operation → Bool
@@ -143,23 +149,21 @@ settledTable ident S = rounds (length S) (startAll ident S)
 unfoldable pub heldRow : Row → Bool
 heldRow r = isHeld (r .verdict)
 
--- a held row has r's update above it
+-- r's update is before a held one
 unfoldable pub covered : Table → Row → Bool
-covered T r = any (λ (q : Row). heldRow q && member (r .id) (q .above)) T
+covered T r = any (λ (q : Row). heldRow q && isBefore (orderIn T (r .id) (q .id))) T
 
 unfoldable pub heads : Table → Table
 heads T = keep (λ (r : Row). heldRow r && not (covered T r)) T
 
--- q is another held update of r's author, neither an ancestor of the other
-unfoldable pub forkedBy : Row → Row → Bool
-forkedBy r q =
-    heldRow q && (eqb (r .update .author) (q .update .author)
-    && (not (same (r .id) (q .id)) && (not (member (r .id) (q .above)) && not (member (q .id) (r .above)))))
+-- q is a held update of r's author, and the two are apart
+unfoldable pub forkedBy : Table → Row → Row → Bool
+forkedBy T r q = heldRow q && (eqb (r .update .author) (q .update .author) && isApart (orderIn T (r .id) (q .id)))
 
 unfoldable pub marks : Table → List ℕ
 marks T =
     sort (λ (a : ℕ). a ∷ [])
-    (map (λ (r : Row). r .update .author) (keep (λ (r : Row). heldRow r && any (forkedBy r) T) T))
+    (map (λ (r : Row). r .update .author) (keep (λ (r : Row). heldRow r && any (forkedBy T r) T) T))
 
 unfoldable pub names : Id → Operation → Bool
 names i (Add t) = false
@@ -253,3 +257,7 @@ partsIn T =
 
 unfoldable pub partsOf : (Update → Id) → List Update → Parts
 partsOf ident S = partsIn (settledTable ident S)
+
+-- document 02, E4: how two updates of a set stand to each other
+unfoldable pub causalOrder : (Update → Id) → List Update → Update → Update → CausalOrder
+causalOrder ident S u v = orderIn (settledTable ident S) (ident u) (ident v)

@@ -1,6 +1,6 @@
 -- What holds of a table while it settles: there is one row for each update of the set, and every verdict given so far is right. The tests
 -- of such a table then mean what `Standing` says, so a row judged by it is right too.
-use mathlib.Core.Path.{_≡_, refl, sym, _∙_, ap, subst, subst₂}
+use mathlib.Core.Path.{_≡_, refl, sym, _∙_, ap, ap₂, subst, subst₂}
 use mathlib.Core.Logic.{_⊎_, inl, inr, ⊎-elim}
 use mathlib.Core.List.{List, [], map}
 use mathlib.Core.Bool.{Bool, true, false, not, _&&_, _||_, true≢false, false≢true}
@@ -13,10 +13,14 @@ use Rattle.bytes_order.specs.OrderLaws.{same→eq, eq→same}
 use Rattle.bytes_order.specs.MemberLaws.{∈-cast, ∈-map, map-∈, ∈→member, member→∈, ∈-keep, keep-∈, any→∈, ∈→any, all→∈, ∈→all}
 use Rattle.bytes_order.specs.DistinctLaws.{distinct-eq, distinct-keep, distinct-keys, distinct-map}
 use Rattle.update_format.specs.Update.{Id, Operation, Add, Remove, Insert, Delete, Update}
-use Rattle.rules.specs.Standing.{beginning, Ancestor, InsertAncestor, Valid, Known, Fine, Held, Void}
+use Rattle.rules.specs.declared.CausalOrder.{CausalOrder}
+use Rattle.rules.specs.declared.CausalOrder.the-variants.{Before, After}
+use Rattle.rules.specs.Standing.{beginning, Ancestor, InsertAncestor, Valid, Known, Antichain, Fine, Held, Void}
+use Rattle.rules.specs.CausalOrder.{OrderExactly, beforeOrAfter}
 use Rattle.rules.specs.Settle.{Verdict, held, waiting, void, Row, Table, isHeld, isWaiting, isVoid, isAdd, isInsert, heldIn, voidIn}
-use Rattle.rules.specs.Settle.{addIn, insertIn, aboveIn, ancestorsOf, antichain, validOp, fineBy, ruled, judgeFine, judgeKnown, judgeBy, judgeFrom, judge, round}
-use Rattle.rules.specs.LeastSets.{ancestor-stored, ancestor-cases}
+use Rattle.rules.specs.Settle.{addIn, insertIn, aboveIn, orderIn, ancestorsOf, antichain, validOp, fineBy, ruled, judgeFine, judgeKnown, judgeBy, judgeFrom, judge, round}
+use Rattle.rules.specs.LeastSets.{ancestor-stored, ancestor-cases, held-stored}
+use Rattle.rules.specs.CausalLaws.{beforeOrAfter→, tells-exactly}
 
 module _ (ident : Update → Id) (S : List Update) where
   -- these are the ids of u's ancestors, each once
@@ -175,6 +179,54 @@ module _ {ident : Update → Id} {S : List Update} {T : Table} (sound : SoundTab
   pub right-as : {r : Row} {u : Update} (v : Verdict) → r ∈ T → r .update ≡ u → r .verdict ≡ v → Right ident S v u (r .above)
   right-as {r} v m e d = subst₂ (λ (w : Verdict) (x : Update). Right ident S w x (r .above)) d e (sound .rows r m .right)
 
+  -- the row of a held update
+  pub record HeldRowOf (v : Update) : Type 0 where
+    pub row : Row
+    pub row-in : row ∈ T
+    pub has-id : row .id ≡ ident v
+    pub is-held : Held ident S v
+    pub ancestors : AncestorIds ident S v (row .above)
+
+  pub held-row-of : {v : Update} {r : Row} → v ∈ S → r ∈ T → r .id ≡ ident v → r .verdict ≡ held → HeldRowOf v
+  held-row-of {r = r} k m e d =
+      let h = right-as held m (update-of m k e) d in record { row = r; row-in = m; has-id = e; is-held = h .0; ancestors = h .1 }
+
+  -- aboveIn, at the id of a held update: an ancestor of it
+  above-ancestor : {v : Update} → HeldRowOf v → (x : Id) → aboveIn T x (ident v) ≡ true → (a : Update) × Ancestor ident S a v × (ident a ≡ x)
+  unfolding aboveIn
+  above-ancestor {v} r x e =
+      let q = row-with (λ (r : Row). member x (r .above)) T (ident v) e in
+      let m : member x (r .row .above) ≡ true = ap (λ (r : Row). member x (r .above)) (one-row (r .row-in) (q .1) (r .has-id ∙ sym (q .2))) ∙ q .3 in
+      r .ancestors .only x (member→∈ x (r .row .above) m)
+
+  ancestor-above : {x v : Update} → HeldRowOf v → Ancestor ident S x v → aboveIn T (ident x) (ident v) ≡ true
+  unfolding aboveIn
+  ancestor-above {x} r a = with-row (λ (r : Row). member (ident x) (r .above)) (r .row-in) (r .has-id) (∈→member (r .ancestors .each x a))
+
+  -- orderIn, at the ids of two held updates: how the one stands to the other
+  one-update : {u v : Update} → u ∈ S → v ∈ S → ident u ≡ ident v → u ≡ v
+  one-update m k e = let r = row-of m in sym (r .3) ∙ update-of (r .1) k (r .2 ∙ e)
+
+  above→ : {u v : Update} → u ∈ S → HeldRowOf v → aboveIn T (ident u) (ident v) ≡ true → Ancestor ident S u v
+  above→ {v = v} m r e =
+      let a = above-ancestor r _ e in
+      subst (λ (x : Update). Ancestor ident S x v) (one-update (ancestor-stored ident S (a .1)) m (a .2)) (a .1)
+
+  pub order-exactly : {u v : Update} → HeldRowOf u → HeldRowOf v → OrderExactly ident S u v (orderIn T (ident u) (ident v))
+  unfolding orderIn
+  order-exactly {u} {v} r q =
+      let m = held-stored ident S (r .is-held) in
+      let k = held-stored ident S (q .is-held) in
+      tells-exactly ident S (same (ident u) (ident v)) (aboveIn T (ident u) (ident v)) (aboveIn T (ident v) (ident u)) (r .is-held)
+      (record {
+        one→ = λ e. one-update m k (same→eq (ident u) (ident v) e);
+        →one = λ e. eq→same (ident u) (ident v) (ap ident e);
+        first→ = above→ m q;
+        →first = ancestor-above q;
+        second→ = above→ k r;
+        →second = ancestor-above r;
+      })
+
   module _ {u : Update} (ready : PredecessorsHeld T u) where
     pub preds-known : Known ident S u
     preds-known =
@@ -183,31 +235,11 @@ module _ {ident : Update → Id} {S : List Update} {T : Table} (sound : SoundTab
         }
 
     -- the row of a predecessor
-    pred-row : {v : Update} → v ∈ S → ident v ∈ u .preds
-        → (r : Row) × (r ∈ T) × (r .id ≡ ident v) × Held ident S v × AncestorIds ident S v (r .above)
-    pred-row {v} k p =
-        let r = ready .held-row (ident v) p in
-        let h = right-as held (r .1) (update-of (r .1) k (r .2)) (r .3) in
-        (r .0, r .1, r .2, h .0, h .1)
+    pred-row : {v : Update} → v ∈ S → ident v ∈ u .preds → HeldRowOf v
+    pred-row {v} k p = let r = ready .held-row (ident v) p in held-row-of k (r .1) (r .2) (r .3)
 
     pub preds-held : (v : Update) → v ∈ S → ident v ∈ u .preds → Held ident S v
-    preds-held v k p = pred-row k p .3
-
-    -- aboveIn, at a predecessor's id: an ancestor of the predecessor
-    above-ancestor : (x i : Id) → i ∈ u .preds → aboveIn T x i ≡ true
-        → (v : Update) × (a : Update) × (v ∈ S) × (ident v ≡ i) × Ancestor ident S a v × (ident a ≡ x)
-    unfolding aboveIn
-    above-ancestor x i p e =
-        let v = preds-known .found i p in
-        let r = pred-row (v .1) (∈-cast (v .2) p) in
-        let q = row-with (λ (r : Row). member x (r .above)) T i e in
-        let m : member x (r .0 .above) ≡ true = ap (λ (r : Row). member x (r .above)) (one-row (r .1) (q .1) (r .2 ∙ v .2 ∙ sym (q .2))) ∙ q .3 in
-        let a = r .4 .only x (member→∈ x (r .0 .above) m) in
-        (v .0, a .0, v .1, v .2, a .1, a .2)
-
-    ancestor-above : {x v : Update} → v ∈ S → ident v ∈ u .preds → Ancestor ident S x v → aboveIn T (ident x) (ident v) ≡ true
-    unfolding aboveIn
-    ancestor-above {x} k p a = let r = pred-row k p in with-row (λ (r : Row). member (ident x) (r .above)) (r .1) (r .2) (∈→member (r .4 .each x a))
+    preds-held v k p = pred-row k p .is-held
 
     -- ancestorsOf: the rows of u's ancestors
     reaches : Row → Bool
@@ -228,8 +260,10 @@ module _ {ident : Update → Id} {S : List Update} {T : Table} (sound : SoundTab
             (r .update, Ancestor.direct (s .of-set) (∈-cast (sym (s .has-id)) (member→∈ (r .id) (u .preds) h)), sym (s .has-id) ∙ e)
         step r k e (inr h) =
             let p = any→∈ (λ (p : Id). aboveIn T (r .id) p) (u .preds) h in
-            let a = above-ancestor (r .id) (p .0) (p .1) (p .2) in
-            (a .1, Ancestor.further (a .2) (∈-cast (a .3) (p .1)) (a .4), a .5 ∙ e)
+            let v = preds-known .found (p .0) (p .1) in
+            let m = ∈-cast (v .2) (p .1) in
+            let a = above-ancestor (pred-row (v .1) m) (r .id) (ap (aboveIn T (r .id)) (v .2) ∙ p .2) in
+            (a .0, Ancestor.further (v .1) m (a .1), a .2 ∙ e)
 
     ancestors-each : (x : Update) → Ancestor ident S x u → ident x ∈ ancestorsOf T u
     unfolding ancestorsOf reaches
@@ -243,7 +277,7 @@ module _ {ident : Update → Id} {S : List Update} {T : Table} (sound : SoundTab
         step r e (inl h) = or-left (member (r .id) (u .preds)) (any (λ (p : Id). aboveIn T (r .id) p) (u .preds)) (∈→member (∈-cast e (h .1)))
         step r e (inr h) =
             or-right (member (r .id) (u .preds)) (any (λ (p : Id). aboveIn T (r .id) p) (u .preds))
-            (∈→any (λ (p : Id). aboveIn T (r .id) p) (h .2) (ap (λ (i : Id). aboveIn T i (ident (h .0))) e ∙ ancestor-above (h .1) (h .2) (h .3)))
+            (∈→any (λ (p : Id). aboveIn T (r .id) p) (h .2) (ap (λ (i : Id). aboveIn T i (ident (h .0))) e ∙ ancestor-above (pred-row (h .1) (h .2)) (h .3)))
 
     ancestors-right : AncestorIds ident S u (ancestorsOf T u)
     unfolding ancestorsOf reaches
@@ -251,26 +285,34 @@ module _ {ident : Update → Id} {S : List Update} {T : Table} (sound : SoundTab
         record { only = ancestors-only; each = ancestors-each; once = distinct-keys (λ (r : Row). r .id) (distinct-keep reaches (sound .once)) }
 
     -- antichain: no predecessor is an ancestor of another
-    Antichain : Type 0
-    Antichain = (x y : Update) → x ∈ S → y ∈ S → ident x ∈ u .preds → ident y ∈ u .preds → Ancestor ident S x y → ⊥
+    abbrev unordered : Id → Id → Bool
+    unordered p q = not (beforeOrAfter (orderIn T p q))
 
-    antichain→ : antichain T (u .preds) ≡ true → Antichain
-    unfolding antichain Antichain
+    antichain→ : antichain T (u .preds) ≡ true → Antichain ident S u
+    unfolding antichain beforeOrAfter
     antichain→ e x y mx my px py a =
-        let h = all→∈ (λ (p : Id). all (λ (q : Id). not (aboveIn T p q)) (u .preds)) (u .preds) e (ident x) px in
-        true-false (all→∈ (λ (q : Id). not (aboveIn T (ident x) q)) (u .preds) h (ident y) py) (ap not (ancestor-above my py a))
+        let h = all→∈ (λ (p : Id). all (unordered p) (u .preds)) (u .preds) e (ident x) px in
+        let b : orderIn T (ident x) (ident y) ≡ Before = order-exactly (pred-row mx px) (pred-row my py) .all Before a in
+        true-false (all→∈ (unordered (ident x)) (u .preds) h (ident y) py) (ap (λ (o : CausalOrder). not (beforeOrAfter o)) b)
 
-    →antichain : Antichain → antichain T (u .preds) ≡ true
-    unfolding antichain Antichain
+    →antichain : Antichain ident S u → antichain T (u .preds) ≡ true
+    unfolding antichain
     →antichain n =
-        ∈→all (λ (p : Id). all (λ (q : Id). not (aboveIn T p q)) (u .preds)) (u .preds)
-        λ p mp. ∈→all (λ (q : Id). not (aboveIn T p q)) (u .preds)
-        λ q mq. ap not (not-true→false (aboveIn T p q) (apart p q mp mq))
+        ∈→all (λ (p : Id). all (unordered p) (u .preds)) (u .preds)
+        λ p mp. ∈→all (unordered p) (u .preds)
+        λ q mq. ap not (not-true→false (beforeOrAfter (orderIn T p q)) (ordered p q mp mq))
       where
-        apart : (p q : Id) → p ∈ u .preds → q ∈ u .preds → aboveIn T p q ≡ true → ⊥
-        apart p q mp mq e =
-            let h = above-ancestor p q mq e in
-            n (h .1) (h .0) (ancestor-stored ident S (h .4)) (h .2) (∈-cast (h .5) mp) (∈-cast (h .3) mq) (h .4)
+        ordered : (p q : Id) → p ∈ u .preds → q ∈ u .preds → beforeOrAfter (orderIn T p q) ≡ true → ⊥
+        ordered p q mp mq e =
+            let x = preds-known .found p mp in
+            let y = preds-known .found q mq in
+            let px = ∈-cast (x .2) mp in
+            let py = ∈-cast (y .2) mq in
+            let order = order-exactly (pred-row (x .1) px) (pred-row (y .1) py) in
+            let so : orderIn T (ident (x .0)) (ident (y .0)) ≡ orderIn T p q = ap₂ (orderIn T) (x .2) (y .2) in
+            ⊎-elim (λ (b : orderIn T p q ≡ Before). n (x .0) (y .0) (x .1) (y .1) px py (order .right Before (so ∙ b)))
+            (λ (b : orderIn T p q ≡ After). n (y .0) (x .0) (y .1) (x .1) py px (order .right After (so ∙ b)))
+            (beforeOrAfter→ (orderIn T p q) e)
 
     -- validOp: an ancestor with the id i whose operation passes a test
     ancestor-row : (i : Id) (q : Operation → Bool) → member i (ancestorsOf T u) ≡ true
@@ -327,13 +369,13 @@ module _ {ident : Update → Id} {S : List Update} {T : Table} (sound : SoundTab
 
     -- both conditions
     fine→ : fineBy T (ancestorsOf T u) u ≡ true → Fine ident S u
-    unfolding fineBy Antichain
+    unfolding fineBy
     fine→ e =
         let h = and-true→ (antichain T (u .preds)) (validOp T (ancestorsOf T u) (u .op)) e in
         record { antichain = antichain→ (h .0); valid = valid→ (u .op) (h .1) }
 
     →fine : Fine ident S u → fineBy T (ancestorsOf T u) u ≡ true
-    unfolding fineBy Antichain
+    unfolding fineBy
     →fine f =
         and-true (antichain T (u .preds)) (validOp T (ancestorsOf T u) (u .op)) (→antichain (f .antichain)) (→valid (u .op) (f .valid))
 

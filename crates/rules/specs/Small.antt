@@ -1,5 +1,5 @@
 -- Document 01, "Sixteen small ledgers": small sets with short stand-in ids, as a table, and the rules computed on it. The theorem that covers the table is
--- `small-ledgers` of `SmallLaws`.
+-- `small-ledgers` of `SmallLaws`. At the end document 02's four answers, computed.
 --
 -- The stand-in ids are chosen so that the careless rules of "Where a careful hand goes wrong" fail here:
 --   a Remove judged by the whole set: 10 (it would be held, and remove a);
@@ -16,9 +16,12 @@ use Rattle.bytes_order.specs.Order.{same, before}
 use Rattle.bytes_order.specs.Member.{member, keep, any, all, concatMap}
 use Rattle.bytes_order.specs.Sort.{insert, sort}
 use Rattle.update_format.specs.Update.{Id, Operation, Add, Remove, Insert, Delete, Update, encode, encodeOperation}
+use Rattle.rules.specs.declared.CausalOrder.{CausalOrder}
+use Rattle.rules.specs.declared.CausalOrder.the-variants.{Same, Before, After, Apart}
 use Rattle.rules.specs.Standing.{beginning}
 use Rattle.rules.specs.Parts.{Parts}
-use Rattle.rules.specs.Settle.{isHeld, isWaiting, isVoid, isAdd, isInsert, heldIn, voidIn, addIn, insertIn, aboveIn, ancestorsOf, antichain, validOp, fineBy, ruled, judgeFine, judgeKnown, judgeBy, judgeFrom, judge, round, rounds, start, startAll, settledTable, heldRow, covered, heads, forkedBy, marks, names, removed, tagsOf, tags, rank, anchored, siblings, under, walk, entries, deletes, deleted, valuesOf, list, partsIn, partsOf}
+use Rattle.rules.specs.CausalOrder.{orderBy, isBefore, isApart, beforeOrAfter}
+use Rattle.rules.specs.Settle.{held, Table, isHeld, isWaiting, isVoid, isAdd, isInsert, heldIn, voidIn, addIn, insertIn, aboveIn, orderIn, ancestorsOf, antichain, validOp, fineBy, ruled, judgeFine, judgeKnown, judgeBy, judgeFrom, judge, round, rounds, start, startAll, settledTable, heldRow, covered, heads, forkedBy, marks, names, removed, tagsOf, tags, rank, anchored, siblings, under, walk, entries, deletes, deleted, valuesOf, list, partsIn, partsOf, causalOrder}
 
 -- an update with its stand-in id
 pub record Named : Type 0 where
@@ -314,7 +317,7 @@ abbrev pub smallLedgers : List Small
 smallLedgers = sixteen ++ further
 
 pub computed : map (λ (c : Small). partsOf (identOf c) (smallSet c)) smallLedgers ≡ map (λ (c : Small). c .gives) smallLedgers
-unfolding sixteen further expect by nameIn encode encodeOperation same before member keep any all concatMap insert sort isHeld isWaiting isVoid isAdd isInsert heldIn voidIn addIn insertIn aboveIn ancestorsOf antichain validOp fineBy ruled judgeFine judgeKnown judgeBy judgeFrom judge round rounds start startAll settledTable heldRow covered heads forkedBy marks names removed tagsOf tags rank anchored siblings under walk entries deletes deleted valuesOf list partsIn partsOf a b a′ d e e′ r r′ c p q q′ i x m f g w z y i′ x′ v u k
+unfolding sixteen further expect by nameIn encode encodeOperation same before member keep any all concatMap insert sort isHeld isWaiting isVoid isAdd isInsert heldIn voidIn addIn insertIn aboveIn orderIn orderBy isBefore isApart beforeOrAfter ancestorsOf antichain validOp fineBy ruled judgeFine judgeKnown judgeBy judgeFrom judge round rounds start startAll settledTable heldRow covered heads forkedBy marks names removed tagsOf tags rank anchored siblings under walk entries deletes deleted valuesOf list partsIn partsOf a b a′ d e e′ r r′ c p q q′ i x m f g w z y i′ x′ v u k
 computed = refl
 
 -- no id stands twice
@@ -325,3 +328,25 @@ apart (i ∷ is) = not (member i is) && apart is
 pub ids-apart : all (λ (c : Small). apart (map (identOf c) (smallSet c))) smallLedgers ≡ true
 unfolding sixteen further by nameIn encode encodeOperation same member all concatMap apart a b a′ d e e′ r r′ c p q q′ i x m f g w z y i′ x′ v u k
 ids-apart = refl
+
+-- Document 02, E4: the four answers, of the set a, b after a, and another root
+abbrev pub threeNamed : List Named
+threeNamed = a ∷ b ∷ a′ ∷ []
+
+abbrev pub orderNamed : Named → Named → CausalOrder
+orderNamed n m = causalOrder (nameIn threeNamed) (namedUpdates threeNamed) (n .update) (m .update)
+
+pub orders-computed : (orderNamed a a ∷ orderNamed a b ∷ orderNamed b a ∷ orderNamed a a′ ∷ orderNamed a′ b ∷ []) ≡ (Same ∷ Before ∷ After ∷ Apart ∷ Apart ∷ [])
+unfolding by nameIn encode encodeOperation same before member keep any all concatMap insert sort isHeld isWaiting isVoid isAdd isInsert heldIn voidIn addIn insertIn aboveIn orderIn orderBy isBefore isApart beforeOrAfter ancestorsOf antichain validOp fineBy ruled judgeFine judgeKnown judgeBy judgeFrom judge round rounds start startAll settledTable causalOrder a b a′
+orders-computed = refl
+
+-- and of a table that no set has, in which the first is an ancestor of itself, and each of the other
+abbrev pub crossedRows : Table
+crossedRows =
+    record { id = #a; update = record { author = 1; preds = []; op = Add t }; verdict = held; above = #a ∷ #b ∷ [] }
+    ∷ record { id = #b; update = record { author = 1; preds = []; op = Add t′ }; verdict = held; above = #a ∷ [] }
+    ∷ []
+
+pub orders-crossed : (orderIn crossedRows #a #a ∷ orderIn crossedRows #a #b ∷ orderIn crossedRows #b #a ∷ []) ≡ (Same ∷ Apart ∷ Apart ∷ [])
+unfolding same member any aboveIn orderIn orderBy
+orders-crossed = refl

@@ -46,9 +46,13 @@ module _ (ident : Update → Id) (S : List Update) where
   pub record Known (u : Update) : Type 0 where
     pub found : (i : Id) → i ∈ u .preds → (v : Update) × (v ∈ S) × (ident v ≡ i)
 
+  -- the antichain rule: "no predecessor is an ancestor of another"
+  abbrev pub Antichain : Update → Type 0
+  Antichain u = (x y : Update) → x ∈ S → y ∈ S → ident x ∈ u .preds → ident y ∈ u .preds → Ancestor x y → ⊥
+
   -- "no predecessor is an ancestor of another, and the operation is valid"
   pub record Fine (u : Update) : Type 0 where
-    pub antichain : (x y : Update) → x ∈ S → y ∈ S → ident x ∈ u .preds → ident y ∈ u .preds → Ancestor x y → ⊥
+    pub antichain : Antichain u
     pub valid : Valid u (u .op)
 
   -- "Held: all predecessors are held, no predecessor is an ancestor of another, and the operation is valid."

@@ -1,6 +1,6 @@
 -- The held rows of a table that decides its set, and the tests and lists that the read-offs are computed with.
 use Prim.Native.Nat.{ℕ, _<_}
-use mathlib.Core.Path.{_≡_, refl, sym, _∙_, ap, subst}
+use mathlib.Core.Path.{_≡_, refl, sym, _∙_, ap, subst, subst₂}
 use mathlib.Core.Logic.{_⊎_}
 use mathlib.Core.List.{List, [], _∷_, map, List·Memᴰ·head, List·Memᴰ·not-nil}
 use mathlib.Core.Bool.{Bool, true, false, not, _&&_, false≢true}
@@ -14,11 +14,13 @@ use Rattle.bytes_order.specs.DistinctLaws.{distinct-eq, distinct-length-lt}
 use Rattle.update_format.specs.Update.{Id, Operation, Add, Remove, Insert, Delete, Update}
 use Rattle.rules.specs.Standing.{beginning, Ancestor, Fine, Held, Valid, InsertAncestor}
 use Rattle.rules.specs.ReadOff.{Rank}
-use Rattle.rules.specs.Settle.{Verdict, held, waiting, void, Row, Table, isHeld, heldRow, rank, tagsOf, names, deletes, anchored, valuesOf}
+use Rattle.rules.specs.CausalOrder.{OrderExactly}
+use Rattle.rules.specs.Settle.{Verdict, held, waiting, void, Row, Table, isHeld, orderIn, heldRow, rank, tagsOf, names, deletes, anchored, valuesOf}
 use Rattle.rules.specs.Decides.{Decides}
 use Rattle.rules.specs.LeastSets.{ancestor-stored, ancestor-trans, held-acyclic, held-ancestors, VerdictSays, says-stored, one-verdict}
+use Rattle.rules.specs.SettlingTable.{Right, SoundTable, HeldRowOf, held-row-of, order-exactly}
 
--- a negated test, and four tests
+-- a negated test
 
 pub not-true→ : (b : Bool) → not b ≡ true → b ≡ false
 not-true→ true e = absurd (false≢true e)
@@ -26,16 +28,6 @@ not-true→ false e = refl
 
 pub not-true : (b : Bool) → (b ≡ true → ⊥) → not b ≡ true
 not-true b n = ap not (not-true→false b n)
-
-pub all-four→ : (a b c d : Bool) → (a && (b && (c && d))) ≡ true → (a ≡ true) × (b ≡ true) × (c ≡ true) × (d ≡ true)
-all-four→ a b c d e =
-    let f = and-true→ a (b && (c && d)) e in
-    let g = and-true→ b (c && d) (f .1) in
-    let h = and-true→ c d (g .1) in
-    (f .0, g .0, h .0, h .1)
-
-pub →all-four : (a b c d : Bool) → a ≡ true → b ≡ true → c ≡ true → d ≡ true → (a && (b && (c && d))) ≡ true
-→all-four a b c d p q r s = and-true a (b && (c && d)) p (and-true b (c && d) q (and-true c d r s))
 
 -- tests of an operation
 
@@ -150,6 +142,20 @@ module _ (T : Table) (p : Row → Bool) where
 pub held-fine : {ident : Update → Id} {S : List Update} {u : Update} → Held ident S u → Fine ident S u
 held-fine (Held.held m k hs f) = f
 
+-- a table that decides its set is sound
+pub decides-sound : {ident : Update → Id} {S : List Update} {T : Table} → Decides ident S T → SoundTable ident S T
+decides-sound {ident} {S} {T} d =
+    record {
+      rows = λ r m. record { of-set = d .of-set r m; has-id = d .has-id r m; right = right r m (r .verdict) refl };
+      row-for = d .row-for;
+      once = d .once;
+    }
+  where
+    right : (r : Row) → r ∈ T → (v : Verdict) → r .verdict ≡ v → Right ident S v (r .update) (r .above)
+    right r m held e = (d .held-right r m e, record { only = d .above-right r m e; each = d .above-all r m e; once = d .above-once r m e })
+    right r m waiting e = tt
+    right r m void e = d .void-right r m e
+
 module _ {ident : Update → Id} {S : List Update} {T : Table} (distinct : Distinct ident S) (decides : Decides ident S T) where
   pub row-eq : {r q : Row} → r ∈ T → q ∈ T → r .id ≡ q .id → r ≡ q
   row-eq m k e = distinct-eq (decides .once) m k e
@@ -184,6 +190,22 @@ module _ {ident : Update → Id} {S : List Update} {T : Table} (distinct : Disti
       let f = decides .above-right q (k .row-in) (k .ruled-held) (r .id) m in
       let e : f .0 ≡ r .update = distinct-eq distinct (ancestor-stored ident S (f .1)) (decides .of-set r (h .row-in)) (f .2 ∙ row-id h) in
       subst (λ (x : Update). Ancestor ident S x (q .update)) e (f .1)
+
+  -- how a held row stands to another, and a held update
+  row-of-held : {r : Row} → HeldRow T r → HeldRowOf (decides-sound decides) (r .update)
+  row-of-held {r} h = held-row-of (decides-sound decides) (decides .of-set r (h .row-in)) (h .row-in) (row-id h) (h .ruled-held)
+
+  pub row-order : {r q : Row} → HeldRow T r → HeldRow T q → OrderExactly ident S (r .update) (q .update) (orderIn T (r .id) (q .id))
+  row-order {r} {q} h k =
+      subst₂ (λ (i j : Id). OrderExactly ident S (r .update) (q .update) (orderIn T i j)) (sym (row-id h)) (sym (row-id k))
+      (order-exactly (decides-sound decides) (row-of-held h) (row-of-held k))
+
+  pub held-order : {u v : Update} → Held ident S u → Held ident S v → OrderExactly ident S u v (orderIn T (ident u) (ident v))
+  held-order h k =
+      let r = held-row h in
+      let q = held-row k in
+      subst₂ (λ (x y : Update). OrderExactly ident S x y (orderIn T (ident x) (ident y))) (r .2) (q .2)
+      (order-exactly (decides-sound decides) (row-of-held (r .1)) (row-of-held (q .1)))
 
   pub above-irreflexive : {r : Row} → HeldRow T r → r .id ∈ r .above → ⊥
   above-irreflexive h m = held-acyclic ident S (row-held h) (above→ancestor h h m)

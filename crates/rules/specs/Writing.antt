@@ -1,14 +1,14 @@
 -- Document 01, "Writing": the predecessors that a new update names, and the update written.
 use Prim.Native.Nat.{ℕ}
 use mathlib.Core.List.{List, [], _∷_, _++_, map, reverse}
-use mathlib.Core.Bool.{Bool, cond, not, _&&_, _||_}
+use mathlib.Core.Bool.{Bool, cond, not, _&&_}
 use lib.ListN.{length, take}
 use lib.Dec.{leb, eqb}
-use Rattle.bytes_order.specs.Order.{same}
 use Rattle.bytes_order.specs.Member.{member, keep}
 use Rattle.bytes_order.specs.Sort.{sort}
 use Rattle.update_format.specs.Update.{Id, maxPredecessors, Operation, Update}
-use Rattle.rules.specs.Settle.{Row, Table, heldRow, heads, rankKey, ancestorsOf, validOp, settledTable}
+use Rattle.rules.specs.CausalOrder.{sameOrBefore}
+use Rattle.rules.specs.Settle.{Row, Table, orderIn, heldRow, heads, rankKey, ancestorsOf, validOp, settledTable}
 
 -- the held updates of an author
 unfoldable pub heldBy : Table → ℕ → Table
@@ -18,14 +18,14 @@ heldBy T a = keep (λ (r : Row). heldRow r && eqb (r .update .author) a) T
 unfoldable pub ranked : Table → Table
 ranked rs = reverse (sort rankKey rs)
 
--- the head h is at or above the update of the row t
-unfoldable pub atOrAbove : Row → Row → Bool
-atOrAbove t h = same (h .id) (t .id) || member (t .id) (h .above)
+-- the head h is at or above the update of the row t: this is the same or before it
+unfoldable pub atOrAbove : Table → Row → Row → Bool
+atOrAbove T t h = sameOrBefore (orderIn T (t .id) (h .id))
 
 -- "first .. the lowest head at or above" it: the first of the ascending heads that is
-unfoldable pub firstHeads : Table → Table → Table
-firstHeads hs [] = []
-firstHeads hs (t ∷ ts) = take 1 (keep (atOrAbove t) hs)
+unfoldable pub firstHeads : Table → Table → Table → Table
+firstHeads T hs [] = []
+firstHeads T hs (t ∷ ts) = take 1 (keep (atOrAbove T t) hs)
 
 -- "then the lowest others"
 unfoldable pub others : Table → Table → Table
@@ -38,7 +38,7 @@ chosenFrom hs first =
     cond (leb (length hs) maxPredecessors) hs (sort (λ (r : Row). r .id) (take maxPredecessors (first ++ others hs first)))
 
 unfoldable pub chosen : Table → ℕ → Table
-chosen T a = chosenFrom (heads T) (firstHeads (heads T) (ranked (heldBy T a)))
+chosen T a = chosenFrom (heads T) (firstHeads T (heads T) (ranked (heldBy T a)))
 
 unfoldable pub writtenIn : Table → ℕ → Operation → Update
 writtenIn T a o = record { author = a; preds = map (λ (r : Row). r .id) (chosen T a); op = o }

@@ -14,30 +14,16 @@ use Rattle.bytes_order.specs.SortLaws.{Ascending→ascending}
 use Rattle.update_format.specs.Update.{Id, idLength, maxAuthor, maxPredecessors, Operation, Add, Update, Bounded, BoundedOperation}
 use Rattle.rules.specs.Standing.{Ancestor, Known, Fine, Held, Void}
 use Rattle.rules.specs.ReadOff.{Head, Marked}
-use Rattle.rules.specs.Settle.{Verdict, held, waiting, void, Row, Table, settledTable, heads, validOp}
+use Rattle.rules.specs.Settle.{held, Row, Table, settledTable, heads, validOp}
 use Rattle.rules.specs.Decides.{Decides}
 use Rattle.rules.specs.LeastSets.{held-stored, held-not-void}
 use Rattle.rules.specs.Growth.{extended, added-more, PredsHeld, grow-ready, grow-broken, held-kept}
-use Rattle.rules.specs.SettlingTable.{Right, SoundTable, PredecessorsHeld, preds-known, preds-held, valid→, →valid}
+use Rattle.rules.specs.SettlingTable.{PredecessorsHeld, preds-known, preds-held, valid→, →valid}
 use Rattle.rules.specs.Settling.{settled-ascending, settled-decides}
-use Rattle.rules.specs.TableLaws.{row-eq, row-id, held-row, above→ancestor}
+use Rattle.rules.specs.TableLaws.{decides-sound, row-eq, row-id, held-row, above→ancestor}
 use Rattle.rules.specs.ReadOffLaws.{head-right, head-all}
 use Rattle.rules.specs.ChoiceLaws.{rowId, chosen-all, chosen-few, chosen-ascending, chosen-head, chosen-some, head-row, some-head, named}
 use Rattle.rules.specs.Writing.{chosen, writtenIn, writableIn, writtenOf, writableOf}
-
--- a table that decides its set is sound
-decides-sound : {ident : Update → Id} {S : List Update} {T : Table} → Decides ident S T → SoundTable ident S T
-decides-sound {ident} {S} {T} d =
-    record {
-      rows = λ r m. record { of-set = d .of-set r m; has-id = d .has-id r m; right = right r m (r .verdict) refl };
-      row-for = d .row-for;
-      once = d .once;
-    }
-  where
-    right : (r : Row) → r ∈ T → (v : Verdict) → r .verdict ≡ v → Right ident S v (r .update) (r .above)
-    right r m held e = (d .held-right r m e, record { only = d .above-right r m e; each = d .above-all r m e; once = d .above-once r m e })
-    right r m waiting e = tt
-    right r m void e = d .void-right r m e
 
 module _ (ident : Update → Id) (S : List Update) (distinct : Distinct ident S) (a : ℕ) (o : Operation) where
   abbrev table : Table

@@ -10,6 +10,7 @@ use ledger::Ledger;
 use ledger::Reported;
 use ledger::Wrote;
 use ledger_state::PLACES;
+use ledger_state::places::causal_order;
 use test_script::byte;
 use test_script::bytes_of;
 use test_script::number;
@@ -118,4 +119,17 @@ pub fn changed(l: Ledger, line: &[u8]) -> Ledger {
         next.places[k] = p;
     }
     next
+}
+
+// How the update at one place stands to that at another, where there are such places.
+pub fn order(l: Ledger, line: &[u8]) {
+    let k = number(word(line, 1));
+    let q = number(word(line, 2));
+    if PLACES <= k {
+        return;
+    }
+    if PLACES <= q {
+        return;
+    }
+    show::ordered(causal_order(l.places[k], k, l.places[q], q));
 }

@@ -32,12 +32,14 @@ pub const COMPARE: usize = 13;
 
 pub const READ: usize = 14;
 
+pub const ORDER: usize = 15;
+
 // A line without words, or that is a comment; a heading; a line that is none of these.
-pub const NOTHING: usize = 15;
+pub const NOTHING: usize = 16;
 
-pub const HEADING: usize = 16;
+pub const HEADING: usize = 17;
 
-pub const UNREAD: usize = 17;
+pub const UNREAD: usize = 18;
 
 // The command of a line.
 pub fn command(line: &[u8]) -> usize {
@@ -46,7 +48,7 @@ pub fn command(line: &[u8]) -> usize {
         b'#' => HEADING,
         _ => {
             let c = test_script::command(
-                b"store:-n buffer:-n other-store:-n other-buffer:-n let:ps fresh:- offer:ss ask:-s write:ps new:ps report:- change:-nnnn view:- compare:-ll read:-s",
+                b"store:-n buffer:-n other-store:-n other-buffer:-n let:ps fresh:- offer:ss ask:-s write:ps new:ps report:- change:-nnnn view:- compare:-ll read:-s order:-nn",
                 line,
             );
             if c <= NOTHING { c } else { UNREAD }

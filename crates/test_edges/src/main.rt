@@ -11,6 +11,7 @@ use commands::CHANGE;
 use commands::FRESH;
 use commands::NEW;
 use commands::OFFER;
+use commands::ORDER;
 use commands::REPORT;
 use commands::STORE;
 use commands::VIEW;
@@ -34,7 +35,8 @@ use test_script::word;
 const NEWLINE: u8 = 10;
 
 // The commands that look at the ledger.
-fn look(l: Ledger, store: &[u8], slots: &mut [u8], out: &mut [u8], c: usize, s: usize) {
+fn look(l: Ledger, store: &[u8], slots: &mut [u8], out: &mut [u8], c: usize, line: &[u8]) {
+    let s = slot(word(line, 1));
     match c {
         BUFFER => fill(out),
         ASK => calls::ask(l, store, bytes_of(slots, s)),
@@ -42,6 +44,7 @@ fn look(l: Ledger, store: &[u8], slots: &mut [u8], out: &mut [u8], c: usize, s: 
         NEW => calls::write(ledger::fresh(), store, slots, out, s),
         REPORT => calls::report(l, store, out),
         VIEW => show::view(store, out),
+        ORDER => calls::order(l, line),
         _ => {}
     }
 }
@@ -68,7 +71,7 @@ fn call(
     c: usize,
     line: &[u8],
 ) -> Ledger {
-    look(l, store, slots, out, c, slot(word(line, 1)));
+    look(l, store, slots, out, c, line);
     change(l, store, slots, c, line)
 }
 

@@ -5,6 +5,7 @@ use ledger::Refusal;
 use ledger::Standing;
 use libc::STDOUT_FILENO;
 use replicas_check::Compared;
+use rules::CausalOrder;
 use update_format::ParseResult;
 
 pub fn text(s: &[u8]) {
@@ -62,6 +63,16 @@ pub fn asked(a: Asked) {
         Asked::Refused(r) => refused(r),
     }
     text(b")\n");
+}
+
+// How one update stands to another.
+pub fn ordered(o: CausalOrder) {
+    match o {
+        CausalOrder::Same => text(b"(same)\n"),
+        CausalOrder::Before => text(b"(before)\n"),
+        CausalOrder::After => text(b"(after)\n"),
+        CausalOrder::Apart => text(b"(apart)\n"),
+    }
 }
 
 // What two copies that are compared answer.

@@ -5,7 +5,6 @@ use mathlib.Core.List.{List}
 use mathlib.Core.Option.{Option, none, some}
 use mathlib.Core.Bool.{Bool, true, false, cond, _&&_, _||_}
 use lib.ListN.{length}
-use borrow.Author.Tests.{eq-eqb}
 use Rattle.bytes_order.specs.Order.{same}
 use Rattle.bytes_order.specs.Member.{_∈_, member, keep, any}
 use Rattle.bytes_order.specs.BoolLaws.{not-true→false, test-ext, and-true→, and-true}
@@ -20,17 +19,19 @@ use Rattle.rules.specs.Settle.{Row, Table, isAdd, isInsert, addIn, insertIn, ab
 use Rattle.rules.specs.LeastSets.{held-stored, held-not-void}
 use Rattle.rules.specs.TableLaws.{row-eq}
 use Rattle.rules.specs.ChoiceLaws.{rowId}
-use Rattle.bitset.specs.Bits.{has, join, meet}
-use Rattle.bitset.specs.BitsLaws.{has-join, meet-none←}
+use Rattle.bitset.specs.Bits.{has, join}
+use Rattle.bitset.specs.BitsLaws.{has-join}
 use Rattle.ledger_state.specs.declared.Standing.{Standing}
 use Rattle.ledger_state.specs.declared.Standing.the-variants.{Held as IsHeld, Waiting as IsWaiting, Void as IsVoid}
 use Rattle.ledger_judging.specs.declared.Gathered.{Gathered}
 use Rattle.ledger_judging.specs.declared.Judgement.the-variants.{Holds, Fails, Waits}
 use Rattle.ledger_state.specs.State.{Book, placeAt, findIn, isHeld}
+use Rattle.ledger_judging.specs.Antichain.{antichainAt}
+use Rattle.ledger_judging.specs.AntichainLaws.{→antichain-at}
 use Rattle.ledger_judging.specs.Judge.{nothingGathered, gather, namesAt, namesAncestor, valid, judgeReady, judgeGathered, judgeDecoded}
 use Rattle.ledger_state.specs.Stands.{ident, updateAt, Stands}
 use Rattle.ledger_state.specs.FindLaws.{find-right, find-none}
-use Rattle.ledger_judging.specs.GatherLaws.{AllHeld, gathered-taken, gathered-void→, gathered-ready←, gathered-direct→, gathered-direct←, gathered-above→, gathered-above←}
+use Rattle.ledger_judging.specs.GatherLaws.{AllHeld, gathered-void→, gathered-ready←, gathered-direct→, gathered-direct←, gathered-above→, gathered-above←}
 use Rattle.ledger_relations.specs.PlaceTests.{heldAt}
 use Rattle.ledger_relations.specs.PlaceLaws.{place-in, place-of, place-id, place-test}
 use Rattle.ledger_relations.specs.RowLaws.{rowAt, row-id, above-agrees, op-agrees}
@@ -106,16 +107,16 @@ module _ {l : Book} {s : List ℕ} {us : List Update} (stands : Stands l s us) w
     ready : gathered .ready ≡ true
     ready = gathered-ready← l s us (stands .holds) (w .preds) all-held
 
-    apart : meet (gathered .direct) (gathered .above) ≡ 0
+    direct-held : (j : ℕ) → has (gathered .direct) j ≡ true → (j < length us) × (placeAt l j .standing ≡ IsHeld)
+    direct-held j e = let d = gathered-direct→ l s us (stands .holds) (w .preds) j e in (d .0, pred-standing (d .0) (d .1))
+
+    apart : antichainAt l (gathered .direct) ≡ true
     apart =
-        meet-none← (l .used) (gathered .above)
-        (gathered-taken l s us (stands .holds) (w .preds))
-        (λ j g e. not-true→false (has (gathered .above) j)
-        (λ t.
-        let d = gathered-direct→ l s us (stands .holds) (w .preds) j e in
-        let r = gathered-above→ l s us (stands .holds) (w .preds) j t in
-        pred-head (d .0) (d .1) .on-top (updateAt us (r .0)) (stands .truthful .held-right (r .0) (r .1) (r .3))
-        (stands .truthful .above-right (r .0) j (r .1) (d .0) (r .3) (r .4))))
+        →antichain-at (stands .holds) (stands .truthful) (gathered .direct) direct-held
+        (λ j k x y a.
+        let d = gathered-direct→ l s us (stands .holds) (w .preds) j x in
+        let e = gathered-direct→ l s us (stands .holds) (w .preds) k y in
+        pred-head (d .0) (d .1) .on-top (updateAt us k) (pred-head (e .0) (e .1) .is-held) a)
 
     -- its ancestor word
     unfoldable pub ancestorWord : ℕ
@@ -202,4 +203,4 @@ module _ {l : Book} {s : List ℕ} {us : List Update} (stands : Stands l s us) w
     judged = λ i.
         cond (not-void i) Fails
         (cond (ready i)
-        (cond (eq-eqb (meet (gathered .direct) (gathered .above)) 0 apart i) (cond (valid-agrees (w .op) i) (Holds ancestorWord) Fails) Fails) Waits)
+        (cond (apart i) (cond (valid-agrees (w .op) i) (Holds ancestorWord) Fails) Fails) Waits)

@@ -3,20 +3,21 @@ use Prim.Native.Nat.{ℕ, _+_, _-_, _≤_, _<_}
 use mathlib.Core.Path.{_≡_, refl, sym, ap, ap₂, _∙_}
 use mathlib.Core.List.{List, [], _∷_, _++_}
 use mathlib.Core.Option.{Option, none, some}
-use mathlib.Core.Bool.{Bool, true, false, cond, _||_}
+use mathlib.Core.Bool.{Bool, true, false, cond}
 use native.Mathlib.Omega.{arith}
-use borrow.Author.Tests.{lt-ltb, le-ltb, le-leb, lt-leb, eq-eqb, ne-eqb}
-use lib.Dec.{ltb, leb, eqb}
+use borrow.Author.Tests.{lt-ltb, le-ltb, le-leb, lt-leb}
+use lib.Dec.{ltb, leb}
 use lib.ListN.{length, getD, take}
 use lib.Seq.{getD-take, take-take, take-all}
 use Rattle.bytes_order.specs.Member.{keep}
 use Rattle.bytes_order.specs.MemberLaws.{keep-append, all→∈, ∈→all, take-∈}
 use Rattle.update_format.specs.Update.{maxPredecessors}
+use Rattle.rules.specs.CausalOrder.{sameOrBefore}
 use Rattle.bitset.specs.Below.{firstBelow, orElse}
 use Rattle.bitset.specs.BelowLaws.{firstBelow-more, firstBelow-some→, firstBelow-some←, firstBelow-none→}
-use Rattle.bitset.specs.Bits.{has}
 use Rattle.ledger_state.specs.declared.Found.the-variants.{At, Nowhere}
-use Rattle.ledger_state.specs.State.{places, Book, placeAt, foundOf}
+use Rattle.ledger_state.specs.State.{places, Book, foundOf}
+use Rattle.ledger_state.specs.PlaceOrder.{orderAt}
 use Rattle.ledger_state.proofs.FindLaws.{found-at}
 use Rattle.ledger_sorting.specs.declared.Places.{Places}
 use Rattle.ledger_relations.specs.PlaceTests.{headAt, idOrder}
@@ -45,13 +46,6 @@ module _ (l : Book) (s : List ℕ) (o : Places) (is-list : PlaceList o) where
 
 -- a head at or above a place
 
-pub above-same : (l : Book) (t h : ℕ) → h ≡ t → true ≡ (eqb h t || has (placeAt l h .ancestors) t)
-above-same l t h e = ap (λ (b : Bool). b || has (placeAt l h .ancestors) t) (sym (eq-eqb h t e))
-
-pub above-other : (l : Book) (t h : ℕ) {b : Bool} → (h ≡ t → ⊥) → b ≡ has (placeAt l h .ancestors) t
-    → b ≡ (eqb h t || has (placeAt l h .ancestors) t)
-above-other l t h n f = f ∙ ap (λ (b : Bool). b || has (placeAt l h .ancestors) t) (sym (ne-eqb h t n))
-
 module _ (l : Book) (s : List ℕ) (o : Places) (lists : Lists o (headsOf l s)) (t : ℕ) where
   heads-length : length (headsOf l s) ≡ o .count
   heads-length = ap length (sym (lists .are)) ∙ length-is o (lists .is-list)
@@ -59,21 +53,21 @@ module _ (l : Book) (s : List ℕ) (o : Places) (lists : Lists o (headsOf l s)) 
   pub head-is : (i : ℕ) → i < o .count → getD (headsOf l s) i 0 ≡ getD (o .items) i 0
   head-is i h = ap (λ (xs : List ℕ). getD xs i 0) (sym (lists .are)) ∙ getD-take (o .count) (o .items) i 0 h
 
-  test-above : (i : ℕ) → i < o .count → {b : Bool} → b ≡ (eqb (getD (o .items) i 0) t || has (placeAt l (getD (o .items) i 0) .ancestors) t)
+  test-above : (i : ℕ) → i < o .count → {b : Bool} → b ≡ sameOrBefore (orderAt l t (getD (o .items) i 0))
       → aboveAt l s t i ≡ b
   unfolding aboveAt
-  test-above i h e = ap (λ (k : ℕ). eqb k t || has (placeAt l k .ancestors) t) (head-is i h) ∙ sym e
+  test-above i h e = ap (λ (k : ℕ). sameOrBefore (orderAt l t k)) (head-is i h) ∙ sym e
 
   pub above-start : firstBelow 0 (aboveAt l s t) ≡ none
   unfolding firstBelow
   above-start = refl
 
-  pub above-more : (i : ℕ) → i < o .count → {b : Bool} → b ≡ (eqb (getD (o .items) i 0) t || has (placeAt l (getD (o .items) i 0) .ancestors) t)
+  pub above-more : (i : ℕ) → i < o .count → {b : Bool} → b ≡ sameOrBefore (orderAt l t (getD (o .items) i 0))
       → b ≡ false → firstBelow i (aboveAt l s t) ≡ none → firstBelow (i + 1) (aboveAt l s t) ≡ none
   unfolding orElse
   above-more i h e f n = rw (firstBelow-more, n, test-above i h e, f)
 
-  pub above-found : (i : ℕ) → i < o .count → {b : Bool} → b ≡ (eqb (getD (o .items) i 0) t || has (placeAt l (getD (o .items) i 0) .ancestors) t)
+  pub above-found : (i : ℕ) → i < o .count → {b : Bool} → b ≡ sameOrBefore (orderAt l t (getD (o .items) i 0))
       → b ≡ true → firstBelow i (aboveAt l s t) ≡ none → At i ≡ foundOf (firstBelow (length (headsOf l s)) (aboveAt l s t))
   above-found i h e f n =
       ap foundOf

@@ -3,14 +3,15 @@
 use Prim.Native.Nat.{ℕ, _-_, _≤_, _<_}
 use mathlib.Core.List.{List, [], _∷_, _++_}
 use mathlib.Core.Option.{Option, none, some}
-use mathlib.Core.Bool.{Bool, cond, _||_}
+use mathlib.Core.Bool.{Bool, cond}
 use lib.ListN.{length, getD, take}
-use lib.Dec.{leb, ltb, eqb}
+use lib.Dec.{leb, ltb}
 use Rattle.bytes_order.specs.Member.{keep}
 use Rattle.update_format.specs.Update.{maxPredecessors}
+use Rattle.rules.specs.CausalOrder.{sameOrBefore}
 use Rattle.bitset.specs.Below.{firstBelow}
-use Rattle.bitset.specs.Bits.{has}
-use Rattle.ledger_state.specs.State.{Book, placeAt}
+use Rattle.ledger_state.specs.State.{places, Book}
+use Rattle.ledger_state.specs.PlaceOrder.{orderAt}
 use Rattle.ledger_relations.specs.PlaceTests.{headAt, idOrder}
 use Rattle.write_highest.specs.Top.{topBelow}
 use Rattle.ledger_sorting.specs.declared.Places.{Places}
@@ -23,7 +24,7 @@ module _ (l : Book) (s : List ℕ) where
 
   -- the head at index j of the heads is at or above place t
   unfoldable pub aboveAt : ℕ → ℕ → Bool
-  aboveAt t j = eqb (getD headsOf j 0) t || has (placeAt l (getD headsOf j 0) .ancestors) t
+  aboveAt t j = sameOrBefore (orderAt l t (getD headsOf j 0))
 
   -- eight of more than eight heads, with the one at index j among them
   unfoldable pub eightWith : Option ℕ → List ℕ
@@ -38,9 +39,14 @@ module _ (l : Book) (s : List ℕ) where
   unfoldable pub chosenPlaces : ℕ → List ℕ
   chosenPlaces a = cond (leb (length headsOf) maxPredecessors) headsOf (eightFor (topBelow l s a (l .used)))
 
-  -- the list has the heads, more than an update names
-  pub record ManyHeads (o : Places) : Type 0 where
+  -- the list has the heads, and t is a place
+  pub record HeadsFor (o : Places) (t : ℕ) : Type 0 where
     pub heads-listed : Lists o headsOf
+    pub place-within : t < places
+
+  -- and they are more than an update names
+  pub record ManyHeads (o : Places) (t : ℕ) : Type 0 where
+    pub heads-for : HeadsFor o t
     pub over-most : maxPredecessors < o .count
 
 -- it is a list of n places or more

@@ -6,7 +6,7 @@ use mathlib.Core.List.{List, [], _∷_, _++_, map, map-map, map-append, List·Me
 use mathlib.Core.Option.{Option, none, some}
 use mathlib.Core.Bool.{Bool, true, false, cond, not, _&&_, _||_}
 use lib.ListN.{length, getD, take, length-map}
-use lib.Dec.{leb, eqb}
+use lib.Dec.{leb}
 use Rattle.bytes_order.specs.Member.{_∈_, member, keep}
 use Rattle.bytes_order.specs.Sort.{sort}
 use Rattle.bytes_order.specs.BoolLaws.{and-true→}
@@ -14,16 +14,17 @@ use Rattle.bytes_order.specs.OrderLaws.{same-refl, ne→same-false}
 use Rattle.bytes_order.specs.MemberLaws.{append-∈, keep-∈, keep-map, keep-cong, keep-all, map-cong, take-∈}
 use Rattle.bytes_order.specs.SortLaws.{sort-∈, sort-sorted, sort-map, sort-cong}
 use Rattle.update_format.specs.Update.{Id, maxPredecessors, Update}
+use Rattle.rules.specs.CausalOrder.{sameOrBefore}
 use Rattle.rules.specs.Settle.{Row, Table, heldRow, covered, heads, settledTable}
 use Rattle.rules.specs.ChoiceLaws.{rowId}
 use Rattle.rules.specs.Writing.{heldBy, ranked, atOrAbove, firstHeads, others, chosenFrom, chosen}
 use Rattle.bitset.specs.Below.{firstBelow}
 use Rattle.bitset.specs.BelowLaws.{firstBelow-some→, firstBelow-none→}
-use Rattle.bitset.specs.Bits.{has}
-use Rattle.ledger_state.specs.State.{Book, placeAt}
+use Rattle.ledger_state.specs.State.{Book}
+use Rattle.ledger_state.specs.PlaceOrder.{orderAt}
 use Rattle.ledger_state.specs.Stands.{ident, Stands}
 use Rattle.ledger_relations.specs.PlaceTests.{idAt, heldAt, coveredAt, headAt, idOrder}
-use Rattle.ledger_relations.specs.RowLaws.{rowAt, row-id, order-∈, table-rows, above-agrees, head-agrees, same-agrees}
+use Rattle.ledger_relations.specs.RowLaws.{rowAt, row-id, order-∈, table-rows, order-agrees, head-agrees}
 use Rattle.write_highest.specs.Top.{topBelow}
 use Rattle.write_highest.specs.TopLaws.{RankedBy, top-right}
 use Rattle.write_predecessors.specs.Choose.{headsOf, aboveAt, eightWith, eightFor, chosenPlaces}
@@ -55,13 +56,13 @@ module _ {l : Book} {s : List ℕ} {us : List Update} (stands : Stands l s us) w
       isHead : Row → Bool
       isHead r = heldRow r && not (covered T r)
 
-  -- place k is place t or has it as an ancestor
+  -- place k is at or above place t
   upAt : ℕ → ℕ → Bool
-  upAt t k = eqb k t || has (placeAt l k .ancestors) t
+  upAt t k = sameOrBefore (orderAt l t k)
 
-  up-agrees : {t k : ℕ} → t < length us → k < length us → heldAt l s k ≡ true → atOrAbove (row t) (row k) ≡ upAt t k
+  up-agrees : {t k : ℕ} → t < length us → k < length us → heldAt l s t ≡ true → heldAt l s k ≡ true → atOrAbove T (row t) (row k) ≡ upAt t k
   unfolding atOrAbove upAt
-  up-agrees g h e = ap₂ _||_ (same-agrees stands h g) (above-agrees stands g h e)
+  up-agrees g h d e = ap sameOrBefore (order-agrees stands g h d e)
 
   -- the first head, by its place
   firstOf : Option ℕ → List ℕ
@@ -73,14 +74,14 @@ module _ {l : Book} {s : List ℕ} {us : List Update} (stands : Stands l s us) w
   first-∈ none m = absurd (List·Memᴰ·not-nil m)
   first-∈ (some t) m = keep-∈ (upAt t) H (take-∈ 1 (keep (upAt t) H) m) .0
 
-  first-agrees : (rs : Table) (o : Option ℕ) → RankedBy stands rs o → firstHeads (heads T) rs ≡ map row (firstOf o)
+  first-agrees : (rs : Table) (o : Option ℕ) → RankedBy stands rs o → firstHeads T (heads T) rs ≡ map row (firstOf o)
   unfolding firstOf firstHeads RankedBy
-  first-agrees rs none e = ap (firstHeads (heads T)) e
+  first-agrees rs none e = ap (firstHeads T (heads T)) e
   first-agrees rs (some t) e =
-      ap (firstHeads (heads T)) (e .3) ∙ ap (λ (hs : Table). take 1 (keep (atOrAbove (row t)) hs)) heads-rows
+      ap (firstHeads T (heads T)) (e .3) ∙ ap (λ (hs : Table). take 1 (keep (atOrAbove T (row t)) hs)) heads-rows
       ∙ ap (take 1)
-      (keep-map (atOrAbove (row t)) row H
-      ∙ ap (map row) (keep-cong (λ (k : ℕ). atOrAbove (row t) (row k)) (upAt t) H (λ k m. let f = head-at m in up-agrees (e .0) (f .0) (f .1))))
+      (keep-map (atOrAbove T (row t)) row H
+      ∙ ap (map row) (keep-cong (λ (k : ℕ). atOrAbove T (row t) (row k)) (upAt t) H (λ k m. let f = head-at m in up-agrees (e .0) (f .0) (e .1) (f .1))))
       ∙ take-map row 1 (keep (upAt t) H)
 
   -- what is chosen with these first places

@@ -1,25 +1,27 @@
 // The predecessors of a new update, as places.
 ghost use mathlib.Core.Path.{_≡_};
-ghost use mathlib.Core.Bool.{_||_};
 ghost use mathlib.Core.Option.{some};
 ghost use mathlib.Core.List.{[], _∷_, _++_};
 ghost use Prim.Native.Nat.{_+_, _≤_, _<_};
-ghost use lib.Dec.{eqb};
 ghost use lib.ListN.{length, take};
 ghost use Rattle.bytes_order.specs.Member.{keep};
 ghost use Rattle.update_format.specs.Update.{maxPredecessors};
 ghost use Rattle.bitset.specs.Below.{firstBelow};
-ghost use Rattle.bitset.specs.Bits.{has};
-ghost use Rattle.ledger_state.specs.State.{places, placeAt, foundOf};
+ghost use Rattle.rules.specs.CausalOrder.{sameOrBefore};
+ghost use Rattle.ledger_state.specs.State.{places, foundOf};
 ghost use Rattle.ledger_state.specs.View.{bookOf};
+ghost use Rattle.ledger_state.specs.Bounds.{TwoPlaces};
+ghost use Rattle.ledger_state.specs.PlaceOrder.{orderAt};
 ghost use Rattle.ledger_relations.specs.PlaceTests.{headAt};
 ghost use Rattle.ledger_sorting.specs.PlaceLists.{placesIn, Lists, RoomIn};
-ghost use Rattle.write_predecessors.specs.Choose.{headsOf, aboveAt, eightFor, chosenPlaces, ManyHeads, FirstOf};
+ghost use Rattle.write_predecessors.specs.Choose.{headsOf, aboveAt, eightFor, chosenPlaces, HeadsFor, ManyHeads, FirstOf};
 use ledger_sorting::Key;
 use ledger_sorting::Places;
 use ledger_sorting::sorted;
 use ledger_state::Found;
 use ledger_state::Ledger;
+use ledger_state::places::causal_order;
+use rules::CausalOrder;
 use update_format::bounds::MAX_PREDECESSORS;
 use write_highest::top;
 
@@ -56,21 +58,22 @@ fn heads(l: Ledger, store: &[u8]) -> Places
     places
 }
 
-// Whether place h is place t or above it.
+// Whether place h is at or above place t: this is the same or before it.
 fn is_above(l: Ledger, t: usize, h: usize) -> bool
-    requires { ⌜ h < places ⌝ }
-    ensures { λ r. ⌜ r ≡ eqb h t || has (placeAt (bookOf l) h .ancestors) t ⌝ }
+    requires { ⌜ TwoPlaces t h ⌝ }
+    ensures { λ r. ⌜ r ≡ sameOrBefore (orderAt (bookOf l) t h) ⌝ }
 {
-    if h == t {
-        return true;
+    match causal_order(l.places[t], t, l.places[h], h) {
+        CausalOrder::Same => true,
+        CausalOrder::Before => true,
+        CausalOrder::After => false,
+        CausalOrder::Apart => false,
     }
-    let p = l.places[h];
-    bitset::has(p.ancestors, t)
 }
 
 // The index of the first head at or above place t.
 fn first_above(l: Ledger, store: &[u8], heads: Places, t: usize) -> Found
-    requires { ⌜ Lists heads (headsOf (bookOf l) (now store)) ⌝ }
+    requires { ⌜ HeadsFor (bookOf l) (now store) heads t ⌝ }
     ensures { λ r. ⌜ r ≡ foundOf (firstBelow (length (headsOf (bookOf l) (now (store .entry)))) (aboveAt (bookOf l) (now (store .entry)) t)) ⌝ }
 {
     let count = heads.count;
@@ -96,7 +99,7 @@ fn first(places: Places, n: usize) -> Places
 
 // Eight of more than eight heads, with the first at or above place t among them.
 fn eight_above(l: Ledger, store: &[u8], heads: Places, t: usize) -> Places
-    requires { ⌜ ManyHeads (bookOf l) (now store) heads ⌝ }
+    requires { ⌜ ManyHeads (bookOf l) (now store) heads t ⌝ }
     ensures { λ r. ⌜ Lists r (eightFor (bookOf l) (now (store .entry)) (some t)) × (r .count ≤ maxPredecessors) ⌝ }
 {
     match first_above(l, store, heads, t) {

@@ -3,7 +3,7 @@ use borrow.Author.Needs.{needs}
 use Rattle.ledger_state.specs.State.{placeAt}
 use Rattle.ledger_state.specs.View.{bookOf}
 use Rattle.ledger_relations.specs.PlaceTests.{forkedAt, forkedWith, authorAt, heldAt}
-use Rattle.ledger_relations.specs.Related.{someHeld}
+use Rattle.ledger_relations.specs.Effects.{someHeld}
 use Rattle.ledger_relations.proofs.Testing.{held-and, held-not}
 use Rattle.ledger_relations.proofs.is_forked.Statement.{statement}
 use Rattle.ledger_relations.proofs.is_forked.Tie as tie

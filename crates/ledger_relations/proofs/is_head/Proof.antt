@@ -5,7 +5,7 @@ use borrow.Author.Needs.{needs}
 use Rattle.ledger_state.specs.State.{placeAt}
 use Rattle.ledger_state.specs.View.{bookOf}
 use Rattle.ledger_relations.specs.PlaceTests.{headAt, coveredAt, heldAt}
-use Rattle.ledger_relations.specs.Related.{someHeld}
+use Rattle.ledger_relations.specs.Effects.{someHeld}
 use Rattle.ledger_relations.proofs.Testing.{held-and, held-not}
 use Rattle.ledger_relations.proofs.is_head.Statement.{statement}
 use Rattle.ledger_relations.proofs.is_head.Tie as tie

@@ -6,6 +6,7 @@ use denote.Ref.{now}
 use Rattle.ledger_state.proofs.FindLaws.{found-at, found-nowhere}
 use Rattle.ledger_sorting.proofs.Inserting.{renamed}
 use Rattle.write_highest.specs.Top.{topBelow}
+use Rattle.write_highest.proofs.Scanning.{top-inside}
 use Rattle.ledger_state.specs.View.{bookOf}
 use Rattle.write_predecessors.proofs.Choosing.{chosen-few, chosen-many, chosen-lowest}
 use Rattle.write_predecessors.proofs.chosen.Statement.{statement}
@@ -50,11 +51,21 @@ enum-known-t c = search needs
 
 eight-above-requires : tie.Need-eight-above-requires
 eight-above-requires c κs =
-    let in-else1 = (t→top (c .before)) .before in
+    let at-t = c .before in
+    let at-top = t→top at-t in
+    let in-else1 = at-top .before in
     let at-heads = else1→heads in-else1 in
-    let heads = at-heads .heads in
-    let if1 = in-else1 .if1 in
-    record { heads-listed = heads .ensures; over-most = if1 .left }
+    let at-start = heads→start at-heads in
+    let args = at-start .args in
+    let l = bookOf (args .l) in
+    let found = found-at (topBelow l (now (args .store)) (args .author) (args .l .used)) _ (sym (at-top .top .ensures) ∙ at-t .t .given .1) in
+    record {
+      heads-for = record {
+        heads-listed = at-heads .heads .ensures;
+        place-within = omega (arith, top-inside l (now (args .store)) (args .author) (args .l .used) _ found, at-start .pre);
+      };
+      over-most = in-else1 .if1 .left;
+    }
 
 enum-told : tie.Need-enum-told
 enum-told c = search needs

@@ -35,7 +35,7 @@ first2→else1 c = c .before .before
 first-above-requires : tie.Need-first-above-requires
 first-above-requires c κs =
     let at-start = c .before in
-    at-start .pre .heads-listed
+    at-start .pre .heads-for
 
 enum-known-j : tie.Need-enum-known-j
 enum-known-j c = search needs
@@ -44,7 +44,7 @@ first-requires : tie.Need-first-requires
 first-requires c κs =
     let at-start = first-above→start (j→first-above (then1→j c)) in
     let pre = at-start .pre in
-    record { is-list = pre .heads-listed .is-list; count-within = omega (arith, pre .over-most) }
+    record { is-list = pre .heads-for .heads-listed .is-list; count-within = omega (arith, pre .over-most) }
 
 mul-h : tie.Need-mul-h
 mul-h c =
@@ -55,8 +55,8 @@ mul-h c =
     let pre = at-start .pre in
     let first-above = at-first-above .first-above in
     let j = at-j .j in
-    let g = found-below (bookOf (args .l)) (now (args .store)) (args .t3) (pre .heads-listed) (args .t) (sym (first-above .ensures) ∙ j .given .1) in
-    omega (arith, g, pre .heads-listed .is-list .room)
+    let g = found-below (bookOf (args .l)) (now (args .store)) (args .t3) (pre .heads-for .heads-listed) (args .t) (sym (first-above .ensures) ∙ j .given .1) in
+    omega (arith, g, pre .heads-for .heads-listed .is-list .room)
 
 element-copy-out-h : tie.Need-element-copy-out-h
 element-copy-out-h c =
@@ -67,8 +67,8 @@ element-copy-out-h c =
     let pre = at-start .pre in
     let first-above = at-first-above .first-above in
     let j = at-j .j in
-    let g = found-below (bookOf (args .l)) (now (args .store)) (args .t3) (pre .heads-listed) (args .t) (sym (first-above .ensures) ∙ j .given .1) in
-    omega (arith, g, pre .heads-listed .is-list .room, pre .heads-listed .is-list .whole)
+    let g = found-below (bookOf (args .l)) (now (args .store)) (args .t3) (pre .heads-for .heads-listed) (args .t) (sym (first-above .ensures) ∙ j .given .1) in
+    omega (arith, g, pre .heads-for .heads-listed .is-list .room, pre .heads-for .heads-listed .is-list .whole)
 
 sub-first : tie.Need-sub-first
 sub-first c = search needs
@@ -77,7 +77,7 @@ first-requires-2 : tie.Need-first-requires-2
 first-requires-2 c κs =
     let at-start = first-above→start (j→first-above (else1→j (c .before))) in
     let pre = at-start .pre in
-    record { is-list = pre .heads-listed .is-list; count-within = omega (arith, pre .over-most) }
+    record { is-list = pre .heads-for .heads-listed .is-list; count-within = omega (arith, pre .over-most) }
 
 sub-insert : tie.Need-sub-insert
 sub-insert c = search needs
@@ -92,9 +92,9 @@ insert-requires c κs =
     let first-above = at-first-above .first-above in
     let j = at-j .j in
     let first2 = c .first2 in
-    let g = found-below (bookOf (args .l)) (now (args .store)) (args .t3) (pre .heads-listed) (args .t) (sym (first-above .ensures) ∙ j .given .1) in
+    let g = found-below (bookOf (args .l)) (now (args .store)) (args .t3) (pre .heads-for .heads-listed) (args .t) (sym (first-above .ensures) ∙ j .given .1) in
     record {
-      room-for = record { is-list = first2 .ensures .0 .is-list; room = omega (arith, first2 .ensures .1); place-within = below (args .t3) (pre .heads-listed .is-list) _ g };
+      room-for = record { is-list = first2 .ensures .0 .is-list; room = omega (arith, first2 .ensures .1); place-within = below (args .t3) (pre .heads-for .heads-listed .is-list) _ g };
       index-within = omega (arith, first2 .ensures .1);
     }
 
@@ -105,7 +105,7 @@ first-requires-3 : tie.Need-first-requires-3
 first-requires-3 c κs =
     let at-start = first-above→start (enum-told→first-above c) in
     let pre = at-start .pre in
-    record { is-list = pre .heads-listed .is-list; count-within = omega (arith, pre .over-most) }
+    record { is-list = pre .heads-for .heads-listed .is-list; count-within = omega (arith, pre .over-most) }
 
 returns : tie.Need-returns
 returns c =
@@ -118,7 +118,7 @@ returns c =
     let first-above = at-first-above .first-above in
     let j = at-j .j in
     let first = c .first in
-    (renamed (eight-low (bookOf (args .l)) (now (args .store)) (args .t3) (pre .heads-listed) (args .t) _ (found-at (firstBelow (length (headsOf (bookOf (args .l)) (now (args .store)))) (aboveAt (bookOf (args .l)) (now (args .store)) (args .t))) _ (sym (first-above .ensures) ∙ j .given .1)) (in-then1 .if1 .taken)) (first .ensures .0), omega (arith, first .ensures .1))
+    (renamed (eight-low (bookOf (args .l)) (now (args .store)) (args .t3) (pre .heads-for .heads-listed) (args .t) _ (found-at (firstBelow (length (headsOf (bookOf (args .l)) (now (args .store)))) (aboveAt (bookOf (args .l)) (now (args .store)) (args .t))) _ (sym (first-above .ensures) ∙ j .given .1)) (in-then1 .if1 .taken)) (first .ensures .0), omega (arith, first .ensures .1))
 
 returns-2 : tie.Need-returns-2
 returns-2 c =
@@ -134,8 +134,8 @@ returns-2 c =
     let if1 = in-else1 .if1 in
     let first2 = at-first2 .first2 in
     let insert = c .insert in
-    let g = found-below (bookOf (args .l)) (now (args .store)) (args .t3) (pre .heads-listed) (args .t) (sym (first-above .ensures) ∙ j .given .1) in
-    (renamed (eight-high (bookOf (args .l)) (now (args .store)) (args .t3) (pre .heads-listed) (args .t) _ (found-at (firstBelow (length (headsOf (bookOf (args .l)) (now (args .store)))) (aboveAt (bookOf (args .l)) (now (args .store)) (args .t))) _ (sym (first-above .ensures) ∙ j .given .1)) (if1 .left) g (first2 .ensures .0) (first2 .ensures .1)) (insert .ensures .0), omega (arith, insert .ensures .1, first2 .ensures .1))
+    let g = found-below (bookOf (args .l)) (now (args .store)) (args .t3) (pre .heads-for .heads-listed) (args .t) (sym (first-above .ensures) ∙ j .given .1) in
+    (renamed (eight-high (bookOf (args .l)) (now (args .store)) (args .t3) (pre .heads-for .heads-listed) (args .t) _ (found-at (firstBelow (length (headsOf (bookOf (args .l)) (now (args .store)))) (aboveAt (bookOf (args .l)) (now (args .store)) (args .t))) _ (sym (first-above .ensures) ∙ j .given .1)) (if1 .left) g (first2 .ensures .0) (first2 .ensures .1)) (insert .ensures .0), omega (arith, insert .ensures .1, first2 .ensures .1))
 
 returns-3 : tie.Need-returns-3
 returns-3 c =
@@ -146,7 +146,7 @@ returns-3 c =
     let pre = at-start .pre in
     let first-above = at-first-above .first-above in
     let first3 = c .first3 in
-    (renamed (eight-none (bookOf (args .l)) (now (args .store)) (args .t3) (pre .heads-listed) (args .t) (found-nowhere (firstBelow (length (headsOf (bookOf (args .l)) (now (args .store)))) (aboveAt (bookOf (args .l)) (now (args .store)) (args .t))) (sym (first-above .ensures) ∙ at-enum-told .enum-told .given .1))) (first3 .ensures .0), omega (arith, first3 .ensures .1))
+    (renamed (eight-none (bookOf (args .l)) (now (args .store)) (args .t3) (pre .heads-for .heads-listed) (args .t) (found-nowhere (firstBelow (length (headsOf (bookOf (args .l)) (now (args .store)))) (aboveAt (bookOf (args .l)) (now (args .store)) (args .t))) (sym (first-above .ensures) ∙ at-enum-told .enum-told .given .1))) (first3 .ensures .0), omega (arith, first3 .ensures .1))
 
 pub eight-above-spec : {M : Type 1} → statement M
 eight-above-spec =

@@ -32,7 +32,7 @@ loop-holds : tie.Need-loop-holds Inv-loop μ-loop
 loop-holds c =
     let at-start = c .before in
     let args = at-start .args in
-    (search needs, above-start (bookOf (args .l)) (now (args .store)) (args .t3) (at-start .pre) (args .t))
+    (search needs, above-start (bookOf (args .l)) (now (args .store)) (args .t3) (at-start .pre .heads-listed) (args .t))
 
 mul-h : tie.Need-mul-h Inv-loop μ-loop
 mul-h c = search needs
@@ -47,7 +47,7 @@ is-above-requires c κs =
     let args = at-start .args in
     let pre = at-start .pre in
     let loop = at-loop .loop in
-    below (args .t3) (pre .is-list) (loop .i) (search needs)
+    record { first-within = pre .place-within; second-within = below (args .t3) (pre .heads-listed .is-list) (loop .i) (search needs) }
 
 returns : tie.Need-returns Inv-loop μ-loop
 returns c =
@@ -55,7 +55,7 @@ returns c =
     let at-loop = is-above→loop at-is-above in
     let at-start = loop→start at-loop in
     let args = at-start .args in
-    let pre = at-start .pre in
+    let pre = at-start .pre .heads-listed in
     let loop = at-loop .loop in
     above-found (bookOf (args .l)) (now (args .store)) (args .t3) (pre) (args .t) (loop .i) (search needs) (at-is-above .is-above .ensures) (c .if1 .taken) (loop .inv .1)
 
@@ -71,7 +71,7 @@ loop-again c =
     let at-loop = is-above→loop at-is-above in
     let at-start = loop→start at-loop in
     let args = at-start .args in
-    let pre = at-start .pre in
+    let pre = at-start .pre .heads-listed in
     let loop = at-loop .loop in
     (search needs, above-more (bookOf (args .l)) (now (args .store)) (args .t3) (pre) (args .t) (loop .i) (search needs) (at-is-above .is-above .ensures) (c .if1 .left) (loop .inv .1))
 
@@ -80,7 +80,7 @@ returns-2 c =
     let at-loop = c .before in
     let at-start = loop→start at-loop in
     let args = at-start .args in
-    let pre = at-start .pre in
+    let pre = at-start .pre .heads-listed in
     let loop = at-loop .loop in
     above-none (bookOf (args .l)) (now (args .store)) (args .t3) (pre) (args .t) (loop .i) (search needs) (search needs) (loop .inv .1)
 

@@ -1,38 +1,68 @@
--- `is_above` meets its contract.
+-- `is_above` meets its contract, by the order of the two places.
+use mathlib.Core.Path.{sym, ap, _∙_}
 use borrow.Author.Needs.{needs}
-use Rattle.ledger_state.specs.View.{bookOf}
-use Rattle.write_predecessors.proofs.Choosing.{above-same, above-other}
+use Rattle.rules.specs.CausalOrder.{sameOrBefore}
 use Rattle.write_predecessors.proofs.is_above.Statement.{statement}
 use Rattle.write_predecessors.proofs.is_above.Tie as tie
 
 -- places of the code, each from a later one
-abbrev has→else1 : tie.After-has → tie.Else1
-has→else1 c = c .before .before
+abbrev enum-told→causal-order : tie.After-enum-told → tie.After-causal-order
+enum-told→causal-order c = c .before .before
+
+abbrev enum-told2→causal-order : tie.After-enum-told2 → tie.After-causal-order
+enum-told2→causal-order c = c .before .before
+
+abbrev enum-told3→causal-order : tie.After-enum-told3 → tie.After-causal-order
+enum-told3→causal-order c = c .before .before
+
+abbrev enum-told4→causal-order : tie.After-enum-told4 → tie.After-causal-order
+enum-told4→causal-order c = c .before .before
+
+mul-causal-order : tie.Need-mul-causal-order
+mul-causal-order c = search needs
+
+element-copy-out-causal-order : tie.Need-element-copy-out-causal-order
+element-copy-out-causal-order c = search needs
+
+mul-causal-order-2 : tie.Need-mul-causal-order-2
+mul-causal-order-2 c = search needs
+
+element-copy-out-causal-order-2 : tie.Need-element-copy-out-causal-order-2
+element-copy-out-causal-order-2 c = search needs
+
+causal-order-requires : tie.Need-causal-order-requires
+causal-order-requires c κs = search needs
+
+enum-told : tie.Need-enum-told
+enum-told c = search needs
+
+enum-told-2 : tie.Need-enum-told-2
+enum-told-2 c = search needs
+
+enum-told-3 : tie.Need-enum-told-3
+enum-told-3 c = search needs
+
+enum-told-4 : tie.Need-enum-told-4
+enum-told-4 c = search needs
 
 returns : tie.Need-returns
-returns c =
-    let at-start = c .before in
-    let args = at-start .args in
-    above-same (bookOf (args .t1)) (args .t) (args .h) (c .if1 .taken)
-
-mul-p : tie.Need-mul-p
-mul-p c = search needs
-
-element-copy-out-p : tie.Need-element-copy-out-p
-element-copy-out-p c = search needs
-
-has-requires : tie.Need-has-requires
-has-requires c κs = search needs
+unfolding sameOrBefore
+returns c = ap sameOrBefore (sym (c .enum-told .given .1) ∙ enum-told→causal-order c .causal-order .ensures)
 
 returns-2 : tie.Need-returns-2
-returns-2 c =
-    let in-else1 = has→else1 c in
-    let at-start = in-else1 .before in
-    let args = at-start .args in
-    let if1 = in-else1 .if1 in
-    above-other (bookOf (args .t1)) (args .t) (args .h) (if1 .left) (c .has .ensures)
+unfolding sameOrBefore
+returns-2 c = ap sameOrBefore (sym (c .enum-told2 .given .1) ∙ enum-told2→causal-order c .causal-order .ensures)
+
+returns-3 : tie.Need-returns-3
+unfolding sameOrBefore
+returns-3 c = ap sameOrBefore (sym (c .enum-told3 .given .1) ∙ enum-told3→causal-order c .causal-order .ensures)
+
+returns-4 : tie.Need-returns-4
+unfolding sameOrBefore
+returns-4 c = ap sameOrBefore (sym (c .enum-told4 .given .1) ∙ enum-told4→causal-order c .causal-order .ensures)
 
 pub is-above-spec : {M : Type 1} → statement M
 is-above-spec =
     tie.close
-    (tie.spec returns mul-p element-copy-out-p has-requires returns-2)
+    (tie.spec mul-causal-order element-copy-out-causal-order mul-causal-order-2 element-copy-out-causal-order-2 causal-order-requires enum-told
+    enum-told-2 enum-told-3 enum-told-4 returns returns-2 returns-3 returns-4)

@@ -1,4 +1,4 @@
--- `related` meets its contract, by the relation.
+-- `affects` meets its contract, by the effect.
 use Prim.Native.Nat.{ℕ}
 use mathlib.Core.Path.{sym, ap, _∙_}
 use mathlib.Core.List.{List}
@@ -8,10 +8,10 @@ use Rattle.update_format.specs.Decode.{decode}
 use Rattle.rules.specs.Settle.{names, deletes}
 use Rattle.update_fields.specs.Fields.{testOf}
 use Rattle.ledger_state.specs.View.{placeOf}
-use Rattle.ledger_relations.specs.declared.Relation.{Relation}
-use Rattle.ledger_relations.specs.Related.{relates}
-use Rattle.ledger_relations.proofs.related.Statement.{statement}
-use Rattle.ledger_relations.proofs.related.Tie as tie
+use Rattle.ledger_relations.specs.declared.Effect.{Effect}
+use Rattle.ledger_relations.specs.Effects.{affects}
+use Rattle.ledger_relations.proofs.affects.Statement.{statement}
+use Rattle.ledger_relations.proofs.affects.Tie as tie
 
 -- places of the code, each from a later one
 abbrev enum-told→start : tie.After-enum-told → tie.Start
@@ -35,8 +35,8 @@ erases→stored2 c = c .before .before
 enum-told : tie.Need-enum-told
 enum-told c = search needs
 
-has-requires : tie.Need-has-requires
-has-requires c κs = search needs
+covers-requires : tie.Need-covers-requires
+covers-requires c κs = search needs
 
 enum-told-2 : tie.Need-enum-told-2
 enum-told-2 c = search needs
@@ -73,14 +73,14 @@ returns c =
     let at-enum-told = c .before in
     let at-start = enum-told→start at-enum-told in
     let args = at-start .args in
-    c .has .ensures ∙ ap (λ (r : Relation). relates (now (args .store)) r (placeOf (args .own)) (args .k) (placeOf (args .other)) (args .q)) (sym (at-enum-told .enum-told .given .1))
+    c .covers .ensures ∙ ap (λ (e : Effect). affects (now (args .store)) e (placeOf (args .own)) (args .k) (placeOf (args .other)) (args .q)) (sym (at-enum-told .enum-told .given .1))
 
 returns-2 : tie.Need-returns-2
 returns-2 c =
     let at-enum-told2 = c .before in
     let at-start = enum-told2→start at-enum-told2 in
     let args = at-start .args in
-    c .forks .ensures ∙ ap (λ (r : Relation). relates (now (args .store)) r (placeOf (args .own)) (args .k) (placeOf (args .other)) (args .q)) (sym (at-enum-told2 .enum-told2 .given .1))
+    c .forks .ensures ∙ ap (λ (e : Effect). affects (now (args .store)) e (placeOf (args .own)) (args .k) (placeOf (args .other)) (args .q)) (sym (at-enum-told2 .enum-told2 .given .1))
 
 returns-3 : tie.Need-returns-3
 returns-3 c =
@@ -88,7 +88,7 @@ returns-3 c =
     let at-enum-told3 = at-stored .before in
     let at-start = enum-told3→start at-enum-told3 in
     let args = at-start .args in
-    (c .removes .ensures ∙ ap (λ (b : List ℕ). testOf (names (args .own .id)) (decode b)) (at-stored .stored .ensures)) ∙ ap (λ (r : Relation). relates (now (args .store)) r (placeOf (args .own)) (args .k) (placeOf (args .other)) (args .q)) (sym (at-enum-told3 .enum-told3 .given .1))
+    (c .removes .ensures ∙ ap (λ (b : List ℕ). testOf (names (args .own .id)) (decode b)) (at-stored .stored .ensures)) ∙ ap (λ (e : Effect). affects (now (args .store)) e (placeOf (args .own)) (args .k) (placeOf (args .other)) (args .q)) (sym (at-enum-told3 .enum-told3 .given .1))
 
 returns-4 : tie.Need-returns-4
 returns-4 c =
@@ -96,10 +96,10 @@ returns-4 c =
     let at-enum-told4 = at-stored2 .before in
     let at-start = enum-told4→start at-enum-told4 in
     let args = at-start .args in
-    (c .erases .ensures ∙ ap (λ (b : List ℕ). testOf (deletes (args .own .id)) (decode b)) (at-stored2 .stored2 .ensures)) ∙ ap (λ (r : Relation). relates (now (args .store)) r (placeOf (args .own)) (args .k) (placeOf (args .other)) (args .q)) (sym (at-enum-told4 .enum-told4 .given .1))
+    (c .erases .ensures ∙ ap (λ (b : List ℕ). testOf (deletes (args .own .id)) (decode b)) (at-stored2 .stored2 .ensures)) ∙ ap (λ (e : Effect). affects (now (args .store)) e (placeOf (args .own)) (args .k) (placeOf (args .other)) (args .q)) (sym (at-enum-told4 .enum-told4 .given .1))
 
-pub related-spec : {M : Type 1} → statement M
-related-spec =
+pub affects-spec : {M : Type 1} → statement M
+affects-spec =
     tie.close
-    (tie.spec enum-told has-requires enum-told-2 forks-requires enum-told-3 stored-requires slice-aggregate-removes removes-requires enum-told-4
+    (tie.spec enum-told covers-requires enum-told-2 forks-requires enum-told-3 stored-requires slice-aggregate-removes removes-requires enum-told-4
     stored-requires-2 slice-aggregate-erases erases-requires returns returns-2 returns-3 returns-4)
