@@ -147,32 +147,31 @@ countBelow-one (suc n) p q k h a b f =
     later false true c d s e = absurd (false≢true s)
     later false false c d s e = e
 
--- where each number that passes p passes q, and k passes q alone, q counts more
 -- one number more adds one at most
 pub countBelow-with : (n : ℕ) (p : ℕ → Bool) (j : ℕ) → countBelow n (λ (k : ℕ). p k || eqb k j) ≤ countBelow n p + 1
 unfolding countBelow
 countBelow-with zero p j = zero-le
-countBelow-with (suc n) p j = step (eqb n j) refl (countBelow-with n p j)
+countBelow-with (suc n) p j = step (eqb n j) refl (p n) (countBelow-with n p j)
   where
     with-j : ℕ → Bool
     with-j k = p k || eqb k j
 
-    more : (b c : Bool) (x y : ℕ) → x ≤ y → cond (b || c) (x + 1) x ≤ cond b (y + 1) y + 1
-    more true c x y h = omega arith
-    more false true x y h = omega arith
-    more false false x y h = omega arith
+    -- below j nothing is added
+    below : n ≡ j → countBelow n with-j ≤ countBelow n p
+    below e =
+        countBelow-mono n with-j p
+        (λ k l t.
+        ⊎-elim (λ (q : p k ≡ true). q) (λ (q : eqb k j ≡ true). absurd (let same : k ≡ j = eqb-true k j q in omega (arith, same, e, l)))
+        (or-true→ (p k) (eqb k j) t))
 
-    stay : (b : Bool) (x y : ℕ) → x ≤ y + 1 → cond (b || false) (x + 1) x ≤ cond b (y + 1) y + 1
-    stay true x y h = omega arith
-    stay false x y h = omega arith
+    step : (c : Bool) → eqb n j ≡ c → (b : Bool) → countBelow n with-j ≤ countBelow n p + 1
+        → cond (b || c) (countBelow n with-j + 1) (countBelow n with-j) ≤ cond b (countBelow n p + 1) (countBelow n p) + 1
+    step true e true h = omega (arith, below (eqb-true n j e))
+    step true e false h = omega (arith, below (eqb-true n j e))
+    step false e true h = omega arith
+    step false e false h = omega arith
 
-    step : (c : Bool) → eqb n j ≡ c → countBelow n with-j ≤ countBelow n p + 1
-        → cond (p n || c) (countBelow n with-j + 1) (countBelow n with-j) ≤ cond (p n) (countBelow n p + 1) (countBelow n p) + 1
-    step true e h =
-        more (p n) true (countBelow n with-j) (countBelow n p)
-        (countBelow-mono n with-j p (λ k l t. ⊎-elim (λ (q : p k ≡ true). q) (λ (q : eqb k j ≡ true). absurd (let a = eqb-true k j q in let b = eqb-true n j e in omega (arith, a, b, l))) (or-true→ (p k) (eqb k j) t)))
-    step false e h = stay (p n) (countBelow n with-j) (countBelow n p) h
-
+-- where each number that passes p passes q, and k passes q alone, q counts more
 pub countBelow-lt : (n : ℕ) (p q : ℕ → Bool) → ((k : ℕ) → k < n → p k ≡ true → q k ≡ true)
     → (k : ℕ) → k < n → p k ≡ false → q k ≡ true → countBelow n p < countBelow n q
 countBelow-lt n p q f k h a b =

@@ -228,12 +228,20 @@ module _ (l : Book) (s : List ℕ) (us : List Update) (holds : Holds l s us) whe
             let r = h i m in
             ap (passes (waitingAt l) true) (ap (findIn l) (sym (r .2)) ∙ find-all l s us holds (r .0) (r .1)) ∙ ap isWaiting (r .3)
 
-    pub gathered-direct→ : (j : ℕ) → has (gathered .direct) j ≡ true → (j < length us) × (ident (updateAt us j) ∈ is)
+    pub gathered-direct→ : (j : ℕ) → has (gathered .direct) j ≡ true → (j < length us) × (ident (updateAt us j) ∈ is) × (placeAt l j .standing ≡ Held)
     unfolding directAt
     gathered-direct→ j e =
         let r = any-found→ (directAt l j) is (sym (gather-direct j is) ∙ e) in
-        let q : j ≡ r .0 = eqb-true j (r .0) (and-true→ (isHeld (placeAt l (r .0) .standing)) (eqb j (r .0)) (r .3) .1) in
-        (subst (λ (k : ℕ). k < length us) (sym q) (r .1), subst (λ (k : ℕ). ident (updateAt us k) ∈ is) (sym q) (r .2))
+        let d = and-true→ (isHeld (placeAt l (r .0) .standing)) (eqb j (r .0)) (r .3) in
+        let q : r .0 ≡ j = sym (eqb-true j (r .0) (d .1)) in (
+          subst (λ (k : ℕ). k < length us) q (r .1),
+          subst (λ (k : ℕ). ident (updateAt us k) ∈ is) q (r .2),
+          subst (λ (k : ℕ). placeAt l k .standing ≡ Held) q (isHeld→ (placeAt l (r .0) .standing) (d .0)),
+        )
+
+    -- they are held
+    pub gathered-held : (j : ℕ) → has (gathered .direct) j ≡ true → (j < length us) × (placeAt l j .standing ≡ Held)
+    gathered-held j e = let d = gathered-direct→ j e in (d .0, d .2)
 
     pub gathered-direct← : (j : ℕ) → j < length us → ident (updateAt us j) ∈ is → placeAt l j .standing ≡ Held → has (gathered .direct) j ≡ true
     unfolding directAt isHeld

@@ -33,7 +33,7 @@ use Rattle.ledger_judging.specs.AntichainLaws.{antichain-at→, →antic
 use Rattle.ledger_judging.specs.Judge.{nothingGathered, gather, namesAt, namesAncestor, valid, judgeReady, judgeGathered, judgeDecoded, judgeAt}
 use Rattle.ledger_state.specs.Stands.{ident, noUpdate, updateAt, Holds, Truthful}
 use Rattle.ledger_state.specs.FindLaws.{stored-at, place-of, find-right, find-all}
-use Rattle.ledger_judging.specs.GatherLaws.{AllHeld, gathered-void→, gathered-void←, gathered-ready→, gathered-ready←, gathered-direct→, gathered-direct←, gathered-above→, gathered-above←}
+use Rattle.ledger_judging.specs.GatherLaws.{AllHeld, gathered-void→, gathered-void←, gathered-ready→, gathered-ready←, gathered-direct→, gathered-direct←, gathered-held, gathered-above→, gathered-above←}
 
 -- what is read from a place is its update
 stored-update : (l : Book) (s : List ℕ) (us : List Update) → Holds l s us → (k : ℕ) → k < length us
@@ -173,21 +173,18 @@ module _ (l : Book) (s : List ℕ) (us : List Update) (holds : Holds l s us) whe
             }
 
         -- the antichain rule
-        direct-held : (j : ℕ) → has (gathered .direct) j ≡ true → (j < length us) × (placeAt l j .standing ≡ IsHeld)
-        direct-held j e = let d = gathered-direct→ l s us holds (u .preds) j e in (d .0, pred-held j (d .0) (d .1))
-
         antichain→ : antichainAt l (gathered .direct) ≡ true → Antichain ident us u
         antichain→ e x y mx my px py a =
             let r = place-of us mx in
             let q = place-of us my in
-            antichain-at→ holds truthful (gathered .direct) direct-held e (r .0) (q .0)
+            antichain-at→ holds truthful (gathered .direct) (gathered-held l s us holds (u .preds)) e (r .0) (q .0)
             (direct-has (r .0) (r .1) (∈-cast (ap ident (r .2)) px))
             (direct-has (q .0) (q .1) (∈-cast (ap ident (q .2)) py))
             (subst₂ (Ancestor ident us) (sym (r .2)) (sym (q .2)) a)
 
         →antichain : Antichain ident us u → antichainAt l (gathered .direct) ≡ true
         →antichain n =
-            →antichain-at holds truthful (gathered .direct) direct-held
+            →antichain-at holds truthful (gathered .direct) (gathered-held l s us holds (u .preds))
             (λ j k x y a.
             let d = gathered-direct→ l s us holds (u .preds) j x in
             let e = gathered-direct→ l s us holds (u .preds) k y in

@@ -1,3 +1,2 @@
 pub mod FindLaws
-pub mod Ordering
 pub mod Owning

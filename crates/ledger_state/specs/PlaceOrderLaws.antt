@@ -26,16 +26,25 @@ placeOrder-turned p j q k =
     (test-ext (eqb k j) (eqb j k) (λ e. eq-eqb j k (sym (eqb-true k j e))) (λ e. eq-eqb k j (sym (eqb-true j k e))))
     ∙ orderBy-turned (eqb j k) (has (q .ancestors) j) (has (p .ancestors) k)
 
--- a place is the same as itself, also where it is among its own ancestors
-pub placeOrder-own : (p q : Place) (k : ℕ) → placeOrder p k q k ≡ Same
-unfolding placeOrder orderBy
-placeOrder-own p q k = ap (λ (b : Bool). orderBy b (has (q .ancestors) k) (has (p .ancestors) k)) (eq-eqb k k refl)
+-- by the two numbers and what is in the words
+module _ (p : Place) (j : ℕ) (q : Place) (k : ℕ) where
+  pub placeOrder-one : j ≡ k → placeOrder p j q k ≡ Same
+  unfolding placeOrder orderBy
+  placeOrder-one e = ap (λ (b : Bool). orderBy b (has (q .ancestors) j) (has (p .ancestors) k)) (eq-eqb j k e)
 
--- two places that are among each other's ancestors are apart
+  pub placeOrder-two : (j ≡ k → ⊥) → (first second : Bool) → has (q .ancestors) j ≡ first → has (p .ancestors) k ≡ second → placeOrder p j q k ≡ orderBy false first second
+  unfolding placeOrder
+  placeOrder-two n first second x y =
+      ap (λ (b : Bool). orderBy b (has (q .ancestors) j) (has (p .ancestors) k)) (ne-eqb j k n) ∙ ap₂ (orderBy false) x y
+
+-- so a place is the same as itself, also where it is among its own ancestors
+pub placeOrder-own : (p q : Place) (k : ℕ) → placeOrder p k q k ≡ Same
+placeOrder-own p q k = placeOrder-one p k q k refl
+
+-- and two places that are among each other's ancestors are apart
 pub placeOrder-mutual : (p : Place) (j : ℕ) (q : Place) (k : ℕ) → (j ≡ k → ⊥) → has (q .ancestors) j ≡ true → has (p .ancestors) k ≡ true → placeOrder p j q k ≡ Apart
-unfolding placeOrder orderBy
-placeOrder-mutual p j q k n x y =
-    ap (λ (b : Bool). orderBy b (has (q .ancestors) j) (has (p .ancestors) k)) (ne-eqb j k n) ∙ ap₂ (orderBy false) x y
+unfolding orderBy
+placeOrder-mutual p j q k n x y = placeOrder-two p j q k n true true x y
 
 module _ {l : Book} {s : List ℕ} {us : List Update} (holds : Holds l s us) (truthful : Truthful l us) where
   pub order-at-exactly : (j k : ℕ) → j < length us → k < length us → placeAt l j .standing ≡ IsHeld → placeAt l k .standing ≡ IsHeld

@@ -31,7 +31,7 @@ use Rattle.ledger_judging.specs.AntichainLaws.{→antichain-at}
 use Rattle.ledger_judging.specs.Judge.{nothingGathered, gather, namesAt, namesAncestor, valid, judgeReady, judgeGathered, judgeDecoded}
 use Rattle.ledger_state.specs.Stands.{ident, updateAt, Stands}
 use Rattle.ledger_state.specs.FindLaws.{find-right, find-none}
-use Rattle.ledger_judging.specs.GatherLaws.{AllHeld, gathered-void→, gathered-ready←, gathered-direct→, gathered-direct←, gathered-above→, gathered-above←}
+use Rattle.ledger_judging.specs.GatherLaws.{AllHeld, gathered-void→, gathered-ready←, gathered-direct→, gathered-direct←, gathered-held, gathered-above→, gathered-above←}
 use Rattle.ledger_relations.specs.PlaceTests.{heldAt}
 use Rattle.ledger_relations.specs.PlaceLaws.{place-in, place-of, place-id, place-test}
 use Rattle.ledger_relations.specs.RowLaws.{rowAt, row-id, above-agrees, op-agrees}
@@ -107,12 +107,9 @@ module _ {l : Book} {s : List ℕ} {us : List Update} (stands : Stands l s us) w
     ready : gathered .ready ≡ true
     ready = gathered-ready← l s us (stands .holds) (w .preds) all-held
 
-    direct-held : (j : ℕ) → has (gathered .direct) j ≡ true → (j < length us) × (placeAt l j .standing ≡ IsHeld)
-    direct-held j e = let d = gathered-direct→ l s us (stands .holds) (w .preds) j e in (d .0, pred-standing (d .0) (d .1))
-
     apart : antichainAt l (gathered .direct) ≡ true
     apart =
-        →antichain-at (stands .holds) (stands .truthful) (gathered .direct) direct-held
+        →antichain-at (stands .holds) (stands .truthful) (gathered .direct) (gathered-held l s us (stands .holds) (w .preds))
         (λ j k x y a.
         let d = gathered-direct→ l s us (stands .holds) (w .preds) j x in
         let e = gathered-direct→ l s us (stands .holds) (w .preds) k y in

@@ -19,9 +19,6 @@ abbrev μ-loop : tie.MeasureT-loop
 μ-loop set k l q₀ q = k - q
 
 -- places of the code, each from a later one
-abbrev loop→start : tie.At-loop Inv-loop μ-loop → tie.Start Inv-loop μ-loop
-loop→start c = c .before
-
 abbrev has→loop : tie.After-has Inv-loop μ-loop → tie.At-loop Inv-loop μ-loop
 has→loop c = c .before .before
 
@@ -56,7 +53,7 @@ returns c =
     let in-then1 = unordered→then1 at-unordered in
     let at-has = in-then1 .before in
     let at-loop = has→loop at-has in
-    let a = loop→start at-loop .args in
+    let a = at-loop .before .args in
     let clear = clearWith (bookOf (a .t1)) (a .k) in
     all-left (a .k) (wherever (a .set) clear) (at-loop .loop .q) (search needs)
     (where-inside (a .set) clear (at-loop .loop .q) (at-has .has .ensures) (in-then1 .if1 .taken) (at-unordered .unordered .ensures) (not-true _ (c .if2 .taken)))
@@ -71,7 +68,7 @@ loop-again : tie.Need-loop-again Inv-loop μ-loop
 loop-again c =
     let at-has = c .before in
     let at-loop = has→loop at-has in
-    let a = loop→start at-loop .args in
+    let a = at-loop .before .args in
     let clear = clearWith (bookOf (a .t1)) (a .k) in
     let q = at-loop .loop .q in
     let passes : wherever (a .set) clear q ≡ true =
@@ -83,7 +80,7 @@ returns-2 : tie.Need-returns-2 Inv-loop μ-loop
 unfolding clearBelow
 returns-2 c =
     let at-loop = c .before in
-    let a = loop→start at-loop .args in
+    let a = at-loop .before .args in
     all-done (a .k) (wherever (a .set) (clearWith (bookOf (a .t1)) (a .k))) (at-loop .loop .q) (search needs) (search needs) (at-loop .loop .inv .1)
 
 pub clear-below-spec : {M : Type 1} → statement M
