@@ -218,8 +218,9 @@ impl Ledger {
         marks
     }
 
-    /// "Set: the tags with a held Add that no held Remove names."
-    fn set(&self) -> BTreeSet<Tag> {
+    /// "Set: the tags with a held Add that no held Remove names.", and document 02's E5: "Count a set
+    /// entry as the same only if tag and adding author both agree.", "ordered by tag, then author".
+    fn set(&self) -> BTreeSet<(Tag, u8)> {
         let held = self.with(Standing::Held);
         let mut removed: BTreeSet<Id> = BTreeSet::new();
         for &u in &held {
@@ -227,15 +228,15 @@ impl Ledger {
                 removed.extend(named);
             }
         }
-        let mut tags = BTreeSet::new();
+        let mut entries = BTreeSet::new();
         for &u in &held {
             if let Operation::Add { tag } = &self.stored[u].update.operation {
                 if !removed.contains(&self.stored[u].id) {
-                    tags.insert(*tag);
+                    entries.insert((*tag, self.stored[u].update.author));
                 }
             }
         }
-        tags
+        entries
     }
 
     /// "List: a tree, each Insert under its anchor"
@@ -290,8 +291,8 @@ impl Ledger {
             out += &format!("({author})\n");
         }
         out += ")\n(set\n";
-        for tag in self.set() {
-            out += &format!("({})\n", hex(&tag));
+        for (tag, author) in self.set() {
+            out += &format!("({} {author})\n", hex(&tag));
         }
         out += ")\n(list\n";
         for value in self.list() {

@@ -55,11 +55,12 @@ def line(x):
 
 
 def report(held=(), heads=(), waiting=(), void=(), marks=(), set=(), list=()):
+    """The set's entries are pairs of a tag and its adding author, in the order in which they are shown."""
     full = lambda us: ["%s %d" % (u.id.hex(), u.author) for u in sorted(us, key=lambda u: u.id)]
     out = ["(ledger 1"]
     for name, lines in [
         ("held", full(held)), ("heads", sorted(u.id.hex() for u in heads)), ("waiting", full(waiting)),
-        ("void", full(void)), ("marks", [str(m) for m in marks]), ("set", [t.hex() for t in set]),
+        ("void", full(void)), ("marks", [str(m) for m in marks]), ("set", ["%s %d" % (t.hex(), a) for t, a in set]),
         ("list", [v.hex() for v in list]),
     ]:
         out += ["(" + name] + ["(" + l + ")" for l in lines] + [")"]
@@ -87,25 +88,30 @@ session("only-newlines", [("", "unread"), ("", "unread"), ("", "unread")])
 a = add(1, [], T1)
 b = add(1, [a], T2)
 session("small-01", [])
-session("small-02", [(a, H1)], held=[a], heads=[a], set=[T1])
+session("small-02", [(a, H1)], held=[a], heads=[a], set=[(T1, 1)])
 session("small-03", [(b, W)], waiting=[b])
-session("small-04", [(b, W), (a, "taken held 2 0")], held=[a, b], heads=[b], set=[T1, T2])
+session("small-04", [(b, W), (a, "taken held 2 0")], held=[a, b], heads=[b], set=[(T1, 1), (T2, 1)])
 root = add(1, [], T2)
-session("small-05", [(a, H1), (root, H1)], held=[a, root], heads=[a, root], marks=[1], set=[T1, T2])
-session("small-06", [(a, H1), (b, H1)], held=[a, b], heads=[b], set=[T1, T2])
+session("small-05", [(a, H1), (root, H1)], held=[a, root], heads=[a, root], marks=[1],
+        set=[(T1, 1), (T2, 1)])
+session("small-06", [(a, H1), (b, H1)], held=[a, b], heads=[b], set=[(T1, 1), (T2, 1)])
 d = add(1, [a, b], T3)
 e = add(1, [d], T4)
-ab = dict(held=[a, b], heads=[b], set=[T1, T2])
+ab = dict(held=[a, b], heads=[b], set=[(T1, 1), (T2, 1)])
 session("small-07", [(a, H1), (b, H1), (d, V1)], void=[d], **ab)
 session("small-08", [(a, H1), (b, H1), (d, V1), (e, V1)], void=[d, e], **ab)
 e = add(1, [d, MISSING], T4)
 session("small-09", [(a, H1), (b, H1), (d, V1), (e, V1)], void=[d, e], **ab)
 r = remove(2, [], T1, [a])
-session("small-10", [(a, H1), (r, V1)], held=[a], heads=[a], void=[r], set=[T1])
+session("small-10", [(a, H1), (r, V1)], held=[a], heads=[a], void=[r], set=[(T1, 1)])
 r = remove(2, [a], T1, [a])
 session("small-11", [(a, H1), (r, H1)], held=[a, r], heads=[r])
-other = add(3, [], T1)
-session("small-12", [(a, H1), (r, H1), (other, H1)], held=[a, r, other], heads=[r, other], set=[T1])
+# The other Add by the same author, then by another one, then both.
+again, other = add(1, [a], T1), add(3, [], T1)
+session("small-12", [(a, H1), (r, H1), (again, H1)], held=[a, r, again], heads=[r, again], set=[(T1, 1)])
+session("small-12-another", [(a, H1), (r, H1), (other, H1)], held=[a, r, other], heads=[r, other], set=[(T1, 3)])
+session("small-12-both", [(a, H1), (r, H1), (other, H1), (again, H1)], held=[a, r, again, other],
+        heads=[r, again, other], set=[(T1, 1), (T1, 3)])
 p = insert(1, [], Z, T1)
 # The later one has the smaller id, so that ids alone would order them wrongly.
 q = next(u for i in range(99) if (u := insert(1, [p], Z, TAG(i))).id < p.id)
@@ -132,7 +138,7 @@ session("lengths",
         [(one.bytes[:19], "refused 2"), (one, H1), (most.bytes + b"\0", "refused 2"), (most, W)]
         + [(u, H1) for u in roots[:7]]
         + [(roots[7], "taken held 2 0"), (most, "known held"), (bytes(996), "refused 2")],
-        held=roots + [one, most], heads=[one, most], set=[T2])
+        held=roots + [one, most], heads=[one, most], set=[(T2, 9)])
 
 # Authors 15 and 16; marks in numeric order.
 two = {n: [add(n, [], T1), add(n, [], T2)] for n in (15, 10, 9, 2)}
@@ -141,7 +147,8 @@ pairs = [(u, H1) for us in two.values() for u in us]
 session("authors",
         pairs + [(add(16, [], T1), "refused 4"), (add(255, [], T1), "refused 4"), (zero, H1)],
         held=[u for us in two.values() for u in us] + [zero],
-        heads=[u for us in two.values() for u in us] + [zero], marks=[2, 9, 10, 15], set=[T1, T2, T3])
+        heads=[u for us in two.values() for u in us] + [zero], marks=[2, 9, 10, 15],
+        set=[(T1, 2), (T1, 9), (T1, 10), (T1, 15), (T2, 2), (T2, 9), (T2, 10), (T2, 15), (T3, 0)])
 
 # Counts n and m, 8 and 9.
 n8 = add(8, roots, T2)
@@ -152,7 +159,7 @@ far = add(8, [hashlib.sha256(bytes([i])).digest() for i in range(8)], T5)
 session("counts",
         [(u, H1) for u in roots]
         + [(n9, "refused 5"), (n8, H1), (m9, "refused 8"), (m8, H1), (far, W)],
-        held=roots + [n8, m8], heads=[m8], waiting=[far], set=[T2])
+        held=roots + [n8, m8], heads=[m8], waiting=[far], set=[(T2, 8)])
 
 # Each refusal from 2 to 9, and which of two faults is named.
 A, B, C = sorted(hashlib.sha256(bytes([i])).digest() for i in range(3))
@@ -197,13 +204,14 @@ session("full",
         + [(over, "refused 10"), (late, "refused 10"), (chain[0], "known held"), (vd, "known void"),
            (wt, "known waiting"), (last, "known held"), (over.bytes[:19], "refused 2"),
            (over.bytes + b"\0", "refused 8"), ("(offer", "unread"), (over, "refused 10"), (vc, "known void")],
-        held=chain + [last], heads=[chain[-1], last], waiting=[wt], void=[vd, vc], set=[T1], list=[T4])
+        held=chain + [last], heads=[chain[-1], last], waiting=[wt], void=[vd, vc], set=[(T1, 3)],
+        list=[T4])
 
 # The largest report: 64 roots of as many tags, authors 0 to 9 with two each, 10 to 15 with the rest.
 many = [add(i // 2 if i < 20 else 10 + i % 6, [], TAG(i)) for i in range(64)]
 session("largest", [(u, H1) for u in many], held=many, heads=many, marks=range(16),
-        set=[TAG(i) for i in range(64)])
-assert len(SESSIONS["largest"][1]) - 64 * len("(taken held 1 0)\n") == 11_130
+        set=[(TAG(i), i // 2 if i < 20 else 10 + i % 6) for i in range(64)])
+assert len(SESSIONS["largest"][1]) - 64 * len("(taken held 1 0)\n") == 11_302
 
 # A chain offered backwards; then one that ends in void updates.
 c = [add(7, [], T1)]
@@ -211,13 +219,13 @@ while len(c) < 6:
     c.append(add(7, [c[-1]], T1))
 session("chain-reversed",
         [(u, W) for u in c[:0:-1]] + [(c[0], "taken held 6 0"), (c[5], "known held"), (c[0], "known held")],
-        held=c, heads=[c[5]], set=[T1])
+        held=c, heads=[c[5]], set=[(T1, 7)])
 d = add(7, [c[1], c[3]], T2)
 e = add(7, [d], T2)
 session("chain-void",
         [(e, W), (d, W), (c[3], W), (d, "known waiting"), (c[2], W), (c[1], W), (c[0], "taken held 4 2"),
          (d, "known void"), (e, "known void"), (c[3], "known held")],
-        held=c[:4], heads=[c[3]], void=[d, e], set=[T1])
+        held=c[:4], heads=[c[3]], void=[d, e], set=[(T1, 7)])
 
 # Forks: two roots; two successors apart; none from a waiting or a void update, none in a chain.
 f1, f2 = add(1, [], T1), add(1, [], T2)
@@ -232,7 +240,7 @@ session("forks",
         [(f1, H1), (f2, H1), (c1, H1), (c2, H1), (g, H1), (h, H1), (x, H1), (y, W), (z1, H1), (z2, V1),
          (merge, H1)],
         held=[f1, f2, c1, c2, g, h, x, z1, merge], heads=[merge], waiting=[y], void=[z2], marks=[1, 3],
-        set=[T1, T2, T3, T5, T6], list=[T4])
+        set=[(T1, 1), (T1, 2), (T2, 1), (T3, 3), (T5, 5), (T6, 6)], list=[T4])
 
 # A void cascade, all at once when the root comes last.
 a = add(1, [], T1)
@@ -253,7 +261,7 @@ session("void-cascade",
         [(b, W), (d, W), (e, W), (f, W), (g, W), (h, W), (k, W), (i0, H1), (l, V1), (m, V1), (w, W),
          (w2, W), (w3, W), (a, "taken held 2 7"), (w2, "known void"), (w3, "known waiting"), (b, "known held")],
         held=[a, b, i0], heads=[b, i0], waiting=[w, w3], void=[d, e, f, g, h, k, l, m, w2],
-        set=[T1, T2], list=[T4])
+        set=[(T1, 1), (T2, 1)], list=[T4])
 
 # The list: rank before id among siblings, a deleted entry's children, deletes twice.
 p = insert(1, [], Z, T1)                                                  # rank 0
@@ -279,7 +287,8 @@ deep = insert(1, [c2], Z, T2)                                             # rank
 flat = [add(n, [], T1) for n in (2, 3, 4)]
 broad = insert(2, flat, Z, T3)                                            # rank 3
 session("list-rank", [(y, H1) for y in [c1, c2, deep] + flat + [broad]],
-        held=[c1, c2, deep, broad] + flat, heads=[deep, broad], set=[T1], list=[T3, T2])
+        held=[c1, c2, deep, broad] + flat, heads=[deep, broad],
+        set=[(T1, 1), (T1, 2), (T1, 3), (T1, 4)], list=[T3, T2])
 
 # The set: an Add survives a Remove that does not name it; m = 0; other tags and no ancestors.
 a1, a2 = add(1, [], T2), add(2, [], T2)
@@ -298,7 +307,27 @@ session("set",
         [(a1, H1), (a2, H1), (r1, H1), (a3, H1), (r2, H1), (r3, H1), (r4, H1), (a4, H1), (a5, H1), (r5, V1),
          (r6, V1), (a6, H1), (r7, H1), (r8, V1), (r9, V1)],
         held=[a1, a2, r1, a3, r2, r3, r4, a4, a5, a6, r7], heads=[a2, r1, r4, a4, a5, r7],
-        void=[r5, r6, r8, r9], set=[T1, T2, T3])
+        void=[r5, r6, r8, r9], set=[(T1, 3), (T2, 2), (T3, 5)])
+
+# Document 02, E5: entries by tag, then by author as a number. Author 2's Add of T1 is removed, author 10's two
+# stay, and show once; a Remove names two authors' Adds of T2 and leaves the third; of author 6's two Adds of T3
+# one is removed; T4 comes back by two others than who added and who removed it; 2 stands before 10 at T5.
+low = add(15, [], TAG(1))
+m2, m10 = add(2, [], T1), add(10, [], T1)
+n10 = add(10, [m10], T1)
+r1 = remove(3, [m2], T1, [m2])
+x4, x11, x12 = add(4, [], T2), add(11, [], T2), add(12, [], T2)
+r2 = remove(5, [x4, x11], T2, [x4, x11])
+y1 = add(6, [], T3)
+y2 = add(6, [y1], T3)
+r3 = remove(7, [y1], T3, [y1])
+z8 = add(8, [], T4)
+r4 = remove(13, [z8], T4, [z8])
+z9, z1 = add(9, [r4], T4), add(1, [r4], T4)
+w10, w2 = add(10, [n10], T5), add(2, [m2], T5)
+mills = [low, m2, m10, n10, r1, x4, x11, x12, r2, y1, y2, r3, z8, r4, z9, z1, w10, w2]
+session("two-mills", [(w, H1) for w in mills], held=mills, heads=[low, r1, x12, r2, y2, r3, z9, z1, w10, w2],
+        set=[(TAG(1), 15), (T1, 10), (T2, 12), (T3, 6), (T4, 1), (T4, 9), (T5, 2), (T5, 10)])
 
 # Zero ids: the beginning as an anchor, an ordinary id elsewhere.
 p = insert(1, [], Z, T1)
@@ -313,7 +342,7 @@ pv = insert(6, [p], p, TAG(0))
 session("zero-ids",
         [(p, H1), (q, W), (dz, V1), (dr, V1), (rz, V1), (az, H1), (ra, V1), (n2, W),
          (add(4, [Z, Z], T2), "refused 9"), (vz, V1), (pv, H1)],
-        held=[p, az, pv], heads=[az, pv], waiting=[q, n2], void=[dz, dr, rz, ra, vz], set=[TAG(0)],
+        held=[p, az, pv], heads=[az, pv], waiting=[q, n2], void=[dz, dr, rz, ra, vz], set=[(TAG(0), 3)],
         list=[T1, TAG(0)])
 
 # Lines of 2,000 characters and about it, the last one too long and without newline.
@@ -326,7 +355,7 @@ session("lines",
          (offer(1996), "unread"), ("x" * 1999, "unread"), ("x" * 2000, "unread"), ("x" * 2001, "unread"),
          ("(offer" + " " * 1994 + text, "unread"), ("(offer )" + " " * 1993 + text, "unread"),
          (" " * 2001 + text, "unread"), (" " * 20000 + text, "unread"), (a, H1), (offer(1994), "unread")],
-        end=b"", held=[a], heads=[a], set=[T1])
+        end=b"", held=[a], heads=[a], set=[(T1, 1)])
 
 # Lines that do not read as offers.
 body = text[7:-1]
@@ -339,7 +368,7 @@ session("garbage",
             text[:-1], text[1:], text + "\r", text + text, "(offer " + body.upper() + "AA)", "(offer " + body[1:] + ")",
             "(offer 0x" + body + ")", "(taken held 1 0)", "(ledger 1")]
         + [("(offer 00)", "refused 2"), (a, H1), (a, "known held"), ("(offer )", "refused 2")],
-        held=[a], heads=[a], set=[T1])
+        held=[a], heads=[a], set=[(T1, 1)])
 
 # Every byte but the newline: as a line, and in either place of a pair of digits. One byte is too short an
 # update, so the 16 digits give 2. Then runs of the bytes 0 and 255, the last one without newline.
@@ -354,16 +383,34 @@ session("every-byte",
         end=b"")
 
 # Last lines without newline: one of 2,000 characters; one that stops before its bracket.
-session("last-line-longest", [(a, H1), (offer(1992), "refused 2")], end=b"", held=[a], heads=[a], set=[T1])
+session("last-line-longest", [(a, H1), (offer(1992), "refused 2")], end=b"", held=[a], heads=[a], set=[(T1, 1)])
 session("last-line-cut", [(a, H1), (line(add(1, [a], T2)).decode()[:-1], "unread")], end=b"",
-        held=[a], heads=[a], set=[T1])
+        held=[a], heads=[a], set=[(T1, 1)])
 
 # An offer across byte 65,536 of the input, and one that begins at byte 131,072.
 b = add(1, [a], T2)
 blocks = [("x" * 65500, "unread"), (a, H1)]
 blocks.append(("x" * (131071 - sum(len(line(x)) + 1 for x, _ in blocks)), "unread"))
 assert [sum(len(line(x)) + 1 for x, _ in blocks[:n]) for n in (1, 2, 3)] == [65501, 65550, 131072]
-session("blocks", blocks + [(b, H1)], held=[a, b], heads=[b], set=[T1, T2])
+session("blocks", blocks + [(b, H1)], held=[a, b], heads=[b], set=[(T1, 1), (T2, 1)])
+
+# The session that the README explains line by line.
+text16 = lambda t: t.ljust(16, ".").encode()
+hours = add(1, [], text16("mon 08-10"))
+barley = insert(1, [hours], Z, text16("barley"))
+rye = insert(2, [barley], barley, text16("rye"))
+later = add(1, [hours], text16("mon 10-12"))
+oats = insert(3, [rye, later], Z, text16("oats"))
+gone = remove(2, [oats], text16("mon 08-10"), [hours])
+mill6 = add(6, [gone], text16("mon 10-12"))
+tue = add(4, [gone, b"\xab" * 32], text16("tue 08-10"))
+wrong = remove(5, [], text16("mon 08-10"), [hours])
+session("example",
+        [(barley, W), (hours, "taken held 2 0"), (rye, H1), (later, H1), (oats, H1), (gone, H1), (mill6, H1), (tue, W),
+         (wrong, V1), (hours, "known held"), (b"\1\2", "refused 2"), ("hello", "unread")],
+        held=[hours, barley, rye, later, oats, gone, mill6], heads=[mill6], waiting=[tue], void=[wrong], marks=[1],
+        set=[(text16("mon 10-12"), 1), (text16("mon 10-12"), 6)],
+        list=[text16("oats"), text16("barley"), text16("rye")])
 
 
 def read(path):

@@ -1,15 +1,17 @@
--- Digits as text: no digit is a separator, hexadecimal digits give back their bytes, how long the digits are, and the digits one after another.
+-- Digits as text: no digit is a separator, hexadecimal digits give back their bytes and decimal ones their number, how long the digits are, and the digits one
+-- after another.
 use Prim.Native.Nat.{ℕ, zero, suc, _+_, _*_, _/_, _%_, _≤_, _<_}
 use native.Mathlib.Numerals.{add-one}
 use native.Mathlib.Omega.{arith}
 use mathlib.Core.Path.{_≡_, refl, sym, _∙_, ap, subst}
-use mathlib.Core.Logic.{⊎-elim}
+use mathlib.Core.Logic.{_⊎_, inl, inr, ⊎-elim}
 use mathlib.Core.List.{List, [], _∷_, _++_, nil≢cons, cons≢nil, head-eq-of-cons-eq, tail-eq-of-cons-eq, List·Memᴰ·head, List·Memᴰ·tail, List·Memᴰ·not-nil}
 use mathlib.Core.Bool.{Bool, true, false, cond}
 use lib.ListN.{length, getD, drop, length-append, drop-of-length-le}
 use lib.Seq.{drop-cons}
 use lib.Dec.{ltb}
-use borrow.Author.Tests.{ltb-true, lt-ltb, le-ltb}
+use borrow.Author.Tests.{ltb-true, ltb-false, lt-ltb, le-ltb}
+use Rattle.bytes_order.specs.BoolLaws.{bool-cases}
 use Rattle.bytes_order.specs.Member.{_∈_, concatMap}
 use Rattle.bytes_order.specs.MemberLaws.{∈-cases, append-∈}
 use Rattle.bytes_ascii.specs.Ascii.{digit, hexByte, hex, decimalIn, decimal, twoDigits}
@@ -135,3 +137,17 @@ decimal-two n h g =
     sym
     (ap (λ (b : Bool). cond b (digit n ∷ []) (decimalIn 19 (n / 10) ++ (digit (n % 10) ∷ []))) (le-ltb n 10 h)
     ∙ ap (λ (b : Bool). cond b (digit (n / 10) ∷ []) (decimalIn 18 (n / 10 / 10) ++ (digit (n / 10 % 10) ∷ [])) ++ (digit (n % 10) ∷ [])) (lt-ltb (n / 10) 10 q))
+
+-- decimal digits, one or two, give back their number
+pub decimal-injective : (m n : ℕ) → m < twoDigits → n < twoDigits → decimal m ≡ decimal n → m ≡ n
+decimal-injective m n h g e = step (bool-cases (ltb m 10)) (bool-cases (ltb n 10))
+  where
+    step : (ltb m 10 ≡ true) ⊎ (ltb m 10 ≡ false) → (ltb n 10 ≡ true) ⊎ (ltb n 10 ≡ false) → m ≡ n
+    step (inl p) (inl q) = digit-injective m n (head-eq-of-cons-eq (decimal-one m (ltb-true m 10 p) ∙ e ∙ sym (decimal-one n (ltb-true n 10 q))))
+    step (inl p) (inr q) = absurd (nil≢cons (tail-eq-of-cons-eq (decimal-one m (ltb-true m 10 p) ∙ e ∙ sym (decimal-two n (ltb-false n 10 q) g))))
+    step (inr p) (inl q) = absurd (cons≢nil (tail-eq-of-cons-eq (decimal-two m (ltb-false m 10 p) h ∙ e ∙ sym (decimal-one n (ltb-true n 10 q)))))
+    step (inr p) (inr q) =
+        let d = decimal-two m (ltb-false m 10 p) h ∙ e ∙ sym (decimal-two n (ltb-false n 10 q) g) in
+        let a : m / 10 ≡ n / 10 = digit-injective (m / 10) (n / 10) (head-eq-of-cons-eq d) in
+        let b : m % 10 ≡ n % 10 = digit-injective (m % 10) (n % 10) (head-eq-of-cons-eq (tail-eq-of-cons-eq d)) in
+        omega arith

@@ -9,3 +9,9 @@ use Rattle.bytes_order.specs.declared.Order.the-variants.{Less, Equal, G
 -- Less where a comes before b, Equal where they are the same bytes, Greater otherwise
 unfoldable pub orderOf : List ℕ → List ℕ → Order
 orderOf a b = cond (before a b) Less (cond (same a b) Equal Greater)
+
+-- the first order where it tells two apart, else the second
+abbrev pub thenBy : Order → Order → Order
+thenBy Less o = Less
+thenBy Equal o = o
+thenBy Greater o = Greater

@@ -6,6 +6,7 @@ pub mod Ascending
 pub mod Compare
 pub mod BoolLaws
 pub mod OrderLaws
+pub mod CompareLaws
 pub mod MemberLaws
 pub mod DistinctLaws
 pub mod SortLaws

@@ -1,11 +1,12 @@
 -- `same` decides equality and `before` is a strict total order on byte strings.
 use Prim.Native.Nat.{ℕ, _<_, _≤_}
-use mathlib.Core.Path.{_≡_, refl, sym, _∙_, subst}
+use mathlib.Core.Path.{_≡_, refl, sym, _∙_, ap, subst}
 use mathlib.Core.Logic.{_⊎_, inl, inr, ⊎-elim}
-use mathlib.Core.List.{List, [], _∷_}
-use mathlib.Core.Bool.{Bool, true, false, _&&_, false≢true}
+use mathlib.Core.List.{List, [], _∷_, _++_}
+use mathlib.Core.Bool.{Bool, true, false, _&&_, _||_, false≢true}
 use native.Mathlib.Nat.{lt-irrefl, le-of-eq, le-of-lt}
 use native.Mathlib.Omega.{arith}
+use lib.ListN.{length}
 use lib.Dec.{ltb, eqb}
 use borrow.Author.Tests.{ltb-true, ltb-false, lt-ltb, eqb-true, eqb-false, eq-eqb}
 use Rattle.bytes_order.specs.Order.{before, same}
@@ -111,3 +112,29 @@ before-first m n xs ys e =
     ⊎-elim (λ (h : ltb m n ≡ true). le-of-lt (ltb-true m n h))
     (λ (h : (eqb m n && before xs ys) ≡ true). le-of-eq (eqb-true m n (and-true→ (eqb m n) (before xs ys) h .0)))
     (or-true→ (ltb m n) (eqb m n && before xs ys) e)
+
+-- two strings of one length, each followed by another: the first tell, and where they are the same, what follows
+pub before-append : (a b c d : List ℕ) → length a ≡ length b → before (a ++ c) (b ++ d) ≡ (before a b || (same a b && before c d))
+unfolding before same
+before-append [] [] c d h = refl
+before-append [] (y ∷ b) c d h = absurd (omega arith)
+before-append (x ∷ a) [] c d h = absurd (omega arith)
+before-append (x ∷ a) (y ∷ b) c d h =
+    ap (λ (r : Bool). ltb x y || (eqb x y && r)) (before-append a b c d (omega arith))
+    ∙ step (ltb x y) (eqb x y) (before a b) (same a b) (before c d)
+  where
+    step : (l e p s q : Bool) → (l || (e && (p || (s && q)))) ≡ ((l || (e && p)) || ((e && s) && q))
+    step true e p s q = refl
+    step false true p s q = refl
+    step false false p s q = refl
+
+pub same-append : (a b c d : List ℕ) → length a ≡ length b → same (a ++ c) (b ++ d) ≡ (same a b && same c d)
+unfolding same
+same-append [] [] c d h = refl
+same-append [] (y ∷ b) c d h = absurd (omega arith)
+same-append (x ∷ a) [] c d h = absurd (omega arith)
+same-append (x ∷ a) (y ∷ b) c d h = ap (λ (r : Bool). eqb x y && r) (same-append a b c d (omega arith)) ∙ step (eqb x y) (same a b) (same c d)
+  where
+    step : (e s q : Bool) → (e && (s && q)) ≡ ((e && s) && q)
+    step true s q = refl
+    step false s q = refl

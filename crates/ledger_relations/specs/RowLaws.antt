@@ -76,7 +76,7 @@ module _ {l : Book} {s : List ℕ} {us : List Update} (stands : Stands l s us) w
       ap (rowIn T) (sym (decides .has-id (f .0) (f .1) ∙ ap ident (f .2))) ∙ row-in (decides .once) (f .1) in
       (∈-cast e (f .1), ap (λ (r : Row). r .update) e ∙ f .2)
 
-  row-update : {k : ℕ} → k < length us → rowAt us k .update ≡ updateAt us k
+  pub row-update : {k : ℕ} → k < length us → rowAt us k .update ≡ updateAt us k
   row-update h = found h .1
 
   pub update-id : {k : ℕ} → k < length us → ident (rowAt us k .update) ≡ idAt l s k

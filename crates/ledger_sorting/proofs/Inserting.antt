@@ -105,10 +105,11 @@ module _ (o : Places) (s : PlaceList o) where
     pub ended : o .count ≤ i → drop i (placesIn o) ≡ []
     ended h = drop-of-length-le (placesIn o) {i = i} (omega (arith, length-is))
 
+    pub listed-passes : (p : ℕ → Bool) → all p (placesIn o) ≡ true → i < o .count → p nth ≡ true
+    listed-passes p a h = ap p (sym (getD-take (o .count) (o .items) i 0 h)) ∙ all-get p (placesIn o) i a (omega (arith, length-is))
+
     pub below : i < o .count → nth < places
-    below h =
-        let e = all-get (λ (j : ℕ). ltb j places) (placesIn o) i (s .inside) (omega (arith, length-is)) in
-        ltb-true nth places (ap (λ (x : ℕ). ltb x places) (sym (getD-take (o .count) (o .items) i 0 h)) ∙ e)
+    below h = ltb-true nth places (listed-passes (λ (j : ℕ). ltb j places) (s .inside) h)
 
   -- at the end
   pub ins-end : (k : ℕ) → ins (o .count) k (placesIn o) ≡ placesIn o ++ (k ∷ [])

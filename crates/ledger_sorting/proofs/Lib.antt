@@ -1,3 +1,4 @@
 pub mod Inserting
 pub mod Keeping
 pub mod Sorting
+pub mod Keys

@@ -8,13 +8,15 @@ use lib.Dec.{ltb}
 use Rattle.bytes_order.specs.Member.{keep, all}
 use Rattle.bytes_order.specs.Sort.{sort}
 use Rattle.bitset.specs.Below.{upTo}
-use Rattle.update_fields.specs.Fields.{tagIn}
+use Rattle.rules.specs.SetEntry.{entryKey}
+use Rattle.update_fields.specs.Fields.{testOf, isAnyAdd, setEntryIn}
 use Rattle.ledger_state.specs.State.{places, Place, Book, placeAt}
+use Rattle.ledger_state.specs.Bounds.{TwoPlaces}
 use Rattle.ledger_relations.specs.PlaceTests.{presentAt, idOrder}
 use Rattle.ledger_relations.specs.Effects.{decodedIn}
 use Rattle.ledger_sorting.specs.declared.Places.{Places}
 use Rattle.ledger_sorting.specs.declared.Key.{Key}
-use Rattle.ledger_sorting.specs.declared.Key.the-variants.{Id, Tag}
+use Rattle.ledger_sorting.specs.declared.Key.the-variants.{Id, SetEntry}
 
 -- the places of a list
 abbrev pub placesIn : Places → List ℕ
@@ -60,10 +62,21 @@ pub record InOrder (l : Book) (s : List ℕ) (o : Places) : Type 0 where
   pub used-within : l .used ≤ places
   pub order-listed : Lists o (idOrder l s)
 
--- what an ascending list goes by
+-- what an ascending list goes by: the id, or the key of the set entry
 abbrev pub keyIn : List ℕ → Key → Place → ℕ → List ℕ
 keyIn s Id p k = p .id
-keyIn s Tag p k = tagIn (decodedIn s p k)
+keyIn s SetEntry p k = entryKey (setEntryIn (decodedIn s p k))
+
+-- whether the place has one: each has an id, an Add a set entry
+abbrev pub hasKey : List ℕ → Key → Place → ℕ → Bool
+hasKey s Id p k = true
+hasKey s SetEntry p k = testOf isAnyAdd (decodedIn s p k)
+
+-- j and k are places, and both have such a key
+pub record TwoKeys (s : List ℕ) (y : Key) (own : Place) (j : ℕ) (other : Place) (k : ℕ) : Type 0 where
+  pub two-places : TwoPlaces j k
+  pub own-keyed : hasKey s y own j ≡ true
+  pub other-keyed : hasKey s y other k ≡ true
 
 module _ (l : Book) (s : List ℕ) where
   -- what an ascending list goes by, the places that it lists, and the list
@@ -72,7 +85,22 @@ module _ (l : Book) (s : List ℕ) where
 
   abbrev pub candidate : Key → ℕ → Bool
   candidate Id k = true
-  candidate Tag k = presentAt l s k
+  candidate SetEntry k = presentAt l s k
+
+  -- all of these places have the key
+  abbrev pub keyed : Key → List ℕ → Bool
+  keyed y xs = all (λ (k : ℕ). hasKey s y (placeAt l k) k) xs
+
+  -- the list has room for k, and k and all listed places have the key
+  pub record KeyedRoomFor (y : Key) (o : Places) (k : ℕ) : Type 0 where
+    pub room-for : RoomFor o k
+    pub own-keyed : hasKey s y (placeAt l k) k ≡ true
+    pub listed-keyed : keyed y (placesIn o) ≡ true
+
+  -- the same, but k may have none, and the bookkeeping has no more places taken than there are
+  pub record KeyedRoomIn (y : Key) (o : Places) (k : ℕ) : Type 0 where
+    pub room-in : RoomIn l o k
+    pub listed-keyed : keyed y (placesIn o) ≡ true
 
   unfoldable pub sortedBy : Key → List ℕ
   sortedBy y = sort (keyOf y) (keep (candidate y) (upTo (l .used)))

@@ -13,5 +13,5 @@ pub struct Places {
 // What an ascending list of places goes by.
 pub enum Key {
     Id,
-    Tag,
+    SetEntry,
 }

@@ -1,15 +1,17 @@
 // Ascending lists of places.
 ghost use mathlib.Core.Path.{_≡_};
 ghost use mathlib.Core.Bool.{cond};
+ghost use mathlib.Core.List.{[], _∷_};
 ghost use Prim.Native.Nat.{_+_, _≤_};
 ghost use Rattle.bytes_order.specs.Compare.{orderOf};
 ghost use Rattle.bytes_order.specs.Sort.{insert};
-ghost use Rattle.update_fields.specs.Fields.{tagIn};
+ghost use Rattle.update_fields.specs.Fields.{authorIn, tagIn};
 ghost use Rattle.ledger_state.specs.State.{places};
 ghost use Rattle.ledger_state.specs.View.{placeOf, bookOf};
 ghost use Rattle.ledger_state.specs.Bounds.{PlaceIn, TwoPlaces};
-ghost use Rattle.ledger_sorting.specs.PlaceLists.{placesIn, Lists, RoomFor, RoomIn, keyIn, keyOf, candidate, sortedBy};
+ghost use Rattle.ledger_sorting.specs.PlaceLists.{placesIn, Lists, keyIn, TwoKeys, keyOf, candidate, KeyedRoomFor, KeyedRoomIn, sortedBy};
 ghost use Rattle.ledger_relations.specs.Effects.{decodedIn};
+ghost use Rattle.ledger_sorting.specs.declared.Key.the-variants.{SetEntry};
 use crate::Key;
 use crate::Places;
 use bytes_order::Order;
@@ -27,20 +29,42 @@ fn compare_tags(store: &[u8], own: Place, j: usize, other: Place, k: usize) -> O
     bytes_order::compare(tag, update_fields::tag_of(stored(store, k, other.length)))
 }
 
+// How the author of the one place, j, stands to that of the other, k, as a number.
+fn compare_authors(store: &[u8], own: Place, j: usize, other: Place, k: usize) -> Order
+    requires { ⌜ TwoPlaces j k ⌝ }
+    ensures { λ r. ⌜ r ≡ orderOf (authorIn (decodedIn (now (store .entry)) (placeOf own) j) ∷ []) (authorIn (decodedIn (now (store .entry)) (placeOf other) k) ∷ []) ⌝ }
+{
+    let own_author = [update_fields::author_of(stored(store, j, own.length))];
+    let other_author = [update_fields::author_of(stored(store, k, other.length))];
+    bytes_order::compare(&own_author, &other_author)
+}
+
+// How the set entry of the one place, j, stands to that of the other, k: by tag, then by author.
+fn compare_entries(store: &[u8], own: Place, j: usize, other: Place, k: usize) -> Order
+    requires { ⌜ TwoKeys (now store) SetEntry (placeOf own) j (placeOf other) k ⌝ }
+    ensures { λ r. ⌜ r ≡ orderOf (keyIn (now (store .entry)) SetEntry (placeOf own) j) (keyIn (now (store .entry)) SetEntry (placeOf other) k) ⌝ }
+{
+    match compare_tags(store, own, j, other, k) {
+        Order::Less => Order::Less,
+        Order::Equal => compare_authors(store, own, j, other, k),
+        Order::Greater => Order::Greater,
+    }
+}
+
 // How the key of the one place, j, stands to that of the other, k.
 fn compare(store: &[u8], key: Key, own: Place, j: usize, other: Place, k: usize) -> Order
-    requires { ⌜ TwoPlaces j k ⌝ }
+    requires { ⌜ TwoKeys (now store) key (placeOf own) j (placeOf other) k ⌝ }
     ensures { λ r. ⌜ r ≡ orderOf (keyIn (now (store .entry)) key (placeOf own) j) (keyIn (now (store .entry)) key (placeOf other) k) ⌝ }
 {
     match key {
         Key::Id => compare_ids(own, other),
-        Key::Tag => compare_tags(store, own, j, other, k),
+        Key::SetEntry => compare_entries(store, own, j, other, k),
     }
 }
 
 // The list with place j among it, unless its key is there.
 fn insert(l: Ledger, store: &[u8], key: Key, places: Places, j: usize) -> Places
-    requires { ⌜ RoomFor places j ⌝ }
+    requires { ⌜ KeyedRoomFor (bookOf l) (now store) key places j ⌝ }
     ensures { λ r. ⌜ Lists r (insert (keyOf (bookOf l) (now (store .entry)) key) j (placesIn places)) × (r .count ≤ places .count + 1) ⌝ }
 {
     let count = places.count;
@@ -64,13 +88,13 @@ fn candidate(l: Ledger, store: &[u8], key: Key, k: usize) -> bool
 {
     match key {
         Key::Id => true,
-        Key::Tag => ledger_relations::is_present(l, store, k),
+        Key::SetEntry => ledger_relations::is_present(l, store, k),
     }
 }
 
 // The list with place k among it, if it is listed.
 fn insert_listed(l: Ledger, store: &[u8], key: Key, places: Places, k: usize) -> Places
-    requires { ⌜ RoomIn (bookOf l) places k ⌝ }
+    requires { ⌜ KeyedRoomIn (bookOf l) (now store) key places k ⌝ }
     ensures { λ r. ⌜ Lists r (cond (candidate (bookOf l) (now (store .entry)) key k) (insert (keyOf (bookOf l) (now (store .entry)) key) k (placesIn places)) (placesIn places)) × (r .count ≤ places .count + 1) ⌝ }
 {
     if candidate(l, store, key, k) {

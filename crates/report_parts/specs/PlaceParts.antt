@@ -9,9 +9,10 @@ use Rattle.bytes_order.specs.Member.{keep}
 use Rattle.bytes_order.specs.Sort.{sort}
 use Rattle.update_format.specs.Update.{Id, maxAuthor}
 use Rattle.rules.specs.Standing.{beginning}
+use Rattle.rules.specs.SetEntry.{SetEntry, entryKey}
 use Rattle.rules.specs.Settle.{isInsert}
 use Rattle.bitset.specs.Below.{anyBelow, upTo}
-use Rattle.update_fields.specs.Fields.{testOf, tagIn, valueIn, anchorIn}
+use Rattle.update_fields.specs.Fields.{testOf, setEntryIn, valueIn, anchorIn}
 use Rattle.ledger_state.specs.State.{places, Book}
 use Rattle.ledger_relations.specs.PlaceTests.{idAt, decodedAt, heldAt, authorAt, rankAt, idOrder, forkedAt, presentAt}
 
@@ -24,12 +25,12 @@ module _ (l : Book) (s : List ℕ) where
   unfoldable pub marksOf : List ℕ
   marksOf = keep markedAt (upTo (suc maxAuthor))
 
-  -- the set: the places of the Adds that no held Remove names, ascending by tag, of each tag one
-  unfoldable pub tagAt : ℕ → List ℕ
-  tagAt k = tagIn (decodedAt l s k)
+  -- the set: the places of the Adds that no held Remove names, ascending by the key of their entries, of each entry one
+  unfoldable pub setEntryAt : ℕ → SetEntry
+  setEntryAt k = setEntryIn (decodedAt l s k)
 
-  unfoldable pub tagOrder : List ℕ
-  tagOrder = sort tagAt (keep (presentAt l s) (upTo (l .used)))
+  unfoldable pub setOrder : List ℕ
+  setOrder = sort (λ (k : ℕ). entryKey (setEntryAt k)) (keep (presentAt l s) (upTo (l .used)))
 
   -- the list: the held Inserts, of lower rank first, then of smaller id; each put at the beginning or right after its anchor, so that a later one
   -- stands before the siblings put there earlier and all that hangs under them

@@ -14,19 +14,21 @@ use Rattle.bytes_order.specs.BoolLaws.{and-true→, and-true, and-agrees}
 use Rattle.bytes_order.specs.MemberLaws.{∈-cast, ∈-map, map-∈, ∈-keep, keep-∈, keep-map, keep-cong, map-cong, ∈-concatMap, concatMap-∈, concatMap-keep-map}
 use Rattle.bytes_order.specs.SortLaws.{sort-unique, same-sort, sort-map, ascending-keep}
 use Rattle.update_format.specs.Update.{Id, maxAuthor, Operation, Add, Remove, Insert, Delete, Update}
-use Rattle.rules.specs.Settle.{Row, Table, heldRow, forkedBy, marks, names, removed, tagsOf, tags, settledTable}
-use Rattle.rules.specs.TableLaws.{tagsOf-∈, ∈-tagsOf}
+use Rattle.rules.specs.SetEntry.{SetEntry, entryKey}
+use Rattle.rules.specs.SetEntryLaws.{entry-key-identifies}
+use Rattle.rules.specs.Settle.{Row, Table, heldRow, forkedBy, marks, names, removed, tagsOf, entriesFrom, setEntries, settledTable}
+use Rattle.rules.specs.TableLaws.{entriesFrom-∈, ∈-entriesFrom}
 use Rattle.bitset.specs.Below.{upTo}
 use Rattle.bitset.specs.BelowLaws.{anyBelow→, anyBelow←, upTo-∈, ∈-upTo, upTo-ascending}
 use Rattle.update_fields.specs.Fields.{testOf, isAnyAdd, tagIn}
 use Rattle.ledger_state.specs.Stands.{ident, updateAt, Stands}
 use Rattle.ledger_state.specs.State.{Book}
 use Rattle.ledger_relations.specs.PlaceTests.{idAt, decodedAt, authorAt, heldAt, forkedAt, removedAt, presentAt, idOrder}
-use Rattle.ledger_sorting.specs.declared.Key.the-variants.{Tag}
+use Rattle.ledger_sorting.specs.declared.Key.the-variants.{SetEntry as BySetEntry}
 use Rattle.ledger_sorting.specs.PlaceLists.{sortedBy}
-use Rattle.report_parts.specs.PlaceParts.{markedAt, marksOf, tagAt, tagOrder}
+use Rattle.report_parts.specs.PlaceParts.{markedAt, marksOf, setEntryAt, setOrder}
 use Rattle.ledger_relations.specs.PlaceLaws.{from-used, to-used, place-in, place-decoded, place-author, place-test}
-use Rattle.ledger_relations.specs.RowLaws.{rowAt, row-id, order-∈, ∈-order, table-rows, held-agrees, author-agrees, op-agrees, fork-agrees, op-test-agrees}
+use Rattle.ledger_relations.specs.RowLaws.{rowAt, row-update, row-id, order-∈, ∈-order, table-rows, held-agrees, author-agrees, fork-agrees, op-test-agrees}
 
 any-add : {o : Operation} {t : List ℕ} → o ≡ Add t → isAnyAdd o ≡ true
 unfolding isAnyAdd
@@ -95,47 +97,50 @@ module _ {l : Book} {s : List ℕ} {us : List Update} (stands : Stands l s us) w
       and-agrees (heldRow (rowAt us k)) (held-agrees stands k h)
       (λ e. ap (λ (i : Id). not (removed (settledTable ident us) i)) (row-id stands h) ∙ ap not (op-test-agrees stands (names (idAt l s k))))
 
-  tag-of : {k : ℕ} {t : List ℕ} → k < length us → updateAt us k .op ≡ Add t → tagAt l s k ≡ t
-  unfolding tagAt tagIn tagsOf concatMap
-  tag-of {t = t} h e = ap tagIn (place-decoded stands h) ∙ ap (λ (o : Operation). concatMap (λ (t : List ℕ). t) (tagsOf o)) e ∙ append-nil t
+  entry-of : {k : ℕ} {e : SetEntry} → k < length us → updateAt us k .op ≡ Add (e .tag) → updateAt us k .author ≡ e .author → setEntryAt l s k ≡ e
+  unfolding setEntryAt authorAt tagIn tagsOf concatMap
+  entry-of {e = e} h o by =
+      let tag = ap tagIn (place-decoded stands h) ∙ ap (λ (p : Operation). concatMap (λ (t : List ℕ). t) (tagsOf p)) o ∙ append-nil (e .tag) in
+      let author = place-author stands h ∙ by in
+      λ i. record { tag = tag i; author = author i }
 
-  tagged→ : {t : List ℕ} → t ∈ concatMap (λ (k : ℕ). tagsOf (updateAt us k .op)) (keep keptAt (idOrder l s)) → t ∈ map (tagAt l s) (keep (presentAt l s) (upTo (l .used)))
+  entered→ : {e : SetEntry} → e ∈ concatMap (λ (k : ℕ). entriesFrom (updateAt us k)) (keep keptAt (idOrder l s)) → e ∈ map (setEntryAt l s) (keep (presentAt l s) (upTo (l .used)))
   unfolding keptAt presentAt
-  tagged→ {t} m =
-      let f = concatMap-∈ (λ (k : ℕ). tagsOf (updateAt us k .op)) (keep keptAt (idOrder l s)) m in
+  entered→ {e} m =
+      let f = concatMap-∈ (λ (k : ℕ). entriesFrom (updateAt us k)) (keep keptAt (idOrder l s)) m in
       let g = keep-∈ keptAt (idOrder l s) (f .1) in
       let h = order-∈ stands (g .0) in
-      let o = tagsOf-∈ (updateAt us (f .0) .op) (f .2) in
+      let o = entriesFrom-∈ (updateAt us (f .0)) (f .2) in
       let b = and-true→ (heldAt l s (f .0)) (not (removedAt l s (idAt l s (f .0)))) (g .1) in
-      ∈-cast (sym (tag-of h o))
-      (∈-map (tagAt l s) (∈-keep (presentAt l s) (∈-upTo (l .used) (to-used stands h))
+      ∈-cast (sym (entry-of h (o .0) (o .1)))
+      (∈-map (setEntryAt l s) (∈-keep (presentAt l s) (∈-upTo (l .used) (to-used stands h))
       (and-true (heldAt l s (f .0)) (testOf isAnyAdd (decodedAt l s (f .0)) && not (removedAt l s (idAt l s (f .0)))) (b .0)
-      (and-true (testOf isAnyAdd (decodedAt l s (f .0))) (not (removedAt l s (idAt l s (f .0)))) (place-test stands isAnyAdd h ∙ any-add o) (b .1)))))
+      (and-true (testOf isAnyAdd (decodedAt l s (f .0))) (not (removedAt l s (idAt l s (f .0)))) (place-test stands isAnyAdd h ∙ any-add (o .0)) (b .1)))))
 
-  →tagged : {t : List ℕ} → t ∈ map (tagAt l s) (keep (presentAt l s) (upTo (l .used))) → t ∈ concatMap (λ (k : ℕ). tagsOf (updateAt us k .op)) (keep keptAt (idOrder l s))
+  →entered : {e : SetEntry} → e ∈ map (setEntryAt l s) (keep (presentAt l s) (upTo (l .used))) → e ∈ concatMap (λ (k : ℕ). entriesFrom (updateAt us k)) (keep keptAt (idOrder l s))
   unfolding keptAt presentAt
-  →tagged {t} m =
-      let f = map-∈ (tagAt l s) (keep (presentAt l s) (upTo (l .used))) m in
+  →entered {e} m =
+      let f = map-∈ (setEntryAt l s) (keep (presentAt l s) (upTo (l .used))) m in
       let g = keep-∈ (presentAt l s) (upTo (l .used)) (f .1) in
       let h = from-used stands (upTo-∈ (l .used) (g .0)) in
       let b = and-true→ (heldAt l s (f .0)) (testOf isAnyAdd (decodedAt l s (f .0)) && not (removedAt l s (idAt l s (f .0)))) (g .1) in
       let c = and-true→ (testOf isAnyAdd (decodedAt l s (f .0))) (not (removedAt l s (idAt l s (f .0)))) (b .1) in
       let o = isAnyAdd→ (updateAt us (f .0) .op) (sym (place-test stands isAnyAdd h) ∙ c .0) in
-      ∈-concatMap (λ (k : ℕ). tagsOf (updateAt us k .op))
+      ∈-concatMap (λ (k : ℕ). entriesFrom (updateAt us k))
       (∈-keep keptAt (∈-order stands h) (and-true (heldAt l s (f .0)) (not (removedAt l s (idAt l s (f .0)))) (b .0) (c .1)))
-      (∈-tagsOf (o .1 ∙ ap Add (sym (tag-of h (o .1)) ∙ f .2)))
+      (∈-cast (sym (f .2) ∙ entry-of h (o .1) refl) (∈-entriesFrom (updateAt us (f .0)) (o .1) refl))
 
-  pub tags-agree : map (tagAt l s) (tagOrder l s) ≡ tags (settledTable ident us)
-  unfolding tagOrder tags kept
-  tags-agree =
-      sym (sort-map (λ (t : List ℕ). t) (tagAt l s) (keep (presentAt l s) (upTo (l .used))))
-      ∙ same-sort (λ (t : List ℕ). t) (λ x y m n e. e) (record { forth = λ t m. →tagged m; back = λ t m. tagged→ m })
-      ∙ ap (sort (λ (t : List ℕ). t))
-      (sym (ap (λ (T : Table). concatMap (λ (r : Row). tagsOf (r .update .op)) (keep kept T)) (table-rows stands)
-      ∙ concatMap-keep-map (λ (r : Row). tagsOf (r .update .op)) kept (rowAt us) (λ (k : ℕ). tagsOf (updateAt us k .op)) keptAt (idOrder l s)
-      (λ k m. kept-agrees k (order-∈ stands m)) (λ k m. ap tagsOf (op-agrees stands (order-∈ stands m)))))
+  pub entries-agree : map (setEntryAt l s) (setOrder l s) ≡ setEntries (settledTable ident us)
+  unfolding setOrder setEntries kept
+  entries-agree =
+      sym (sort-map entryKey (setEntryAt l s) (keep (presentAt l s) (upTo (l .used))))
+      ∙ same-sort entryKey (entry-key-identifies _) (record { forth = λ e m. →entered m; back = λ e m. entered→ m })
+      ∙ ap (sort entryKey)
+      (sym (ap (λ (T : Table). concatMap (λ (r : Row). entriesFrom (r .update)) (keep kept T)) (table-rows stands)
+      ∙ concatMap-keep-map (λ (r : Row). entriesFrom (r .update)) kept (rowAt us) (λ (k : ℕ). entriesFrom (updateAt us k)) keptAt (idOrder l s)
+      (λ k m. kept-agrees k (order-∈ stands m)) (λ k m. ap entriesFrom (row-update stands (order-∈ stands m)))))
 
--- the places of the set are those listed by tag
-pub sorted-tags : (l : Book) (s : List ℕ) → sortedBy l s Tag ≡ tagOrder l s
-unfolding sortedBy tagOrder tagAt
-sorted-tags l s = refl
+-- the places of the set are those listed by set entry
+pub sorted-entries : (l : Book) (s : List ℕ) → sortedBy l s BySetEntry ≡ setOrder l s
+unfolding sortedBy setOrder setEntryAt
+sorted-entries l s = refl

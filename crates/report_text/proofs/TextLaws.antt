@@ -7,19 +7,19 @@ use lib.ListN.{drop}
 use Rattle.bytes_order.specs.Member.{keep, concatMap}
 use Rattle.bytes_order.specs.MemberLaws.{keep-all}
 use Rattle.bytes_ascii.specs.Ascii.{codes, ascii}
-use Rattle.rules.specs.Report.{bytesLine, markLine, partText}
+use Rattle.rules.specs.Report.{setLine, markLine, partText}
 use Rattle.ledger_state.specs.State.{Book}
 use Rattle.report_wording.specs.declared.Part.{Part}
 use Rattle.report_wording.specs.declared.Part.the-variants.{Held, Heads, Waiting, Void, Set, List as Entries}
 use Rattle.ledger_relations.specs.PlaceTests.{idAt, decodedAt, authorAt, idOrder}
-use Rattle.report_parts.specs.PlaceParts.{marksOf, tagAt, tagOrder, entriesOf, valueAt}
+use Rattle.report_parts.specs.PlaceParts.{marksOf, setEntryAt, setOrder, entriesOf, valueAt}
 use Rattle.report_text.specs.Text.{updateLineAt, textOf}
 use Rattle.report_wording.specs.Lines.{wordOf, lineBy}
 use Rattle.report_text.specs.Parts.{marksPart, listedIn, lineOf, partLines, partOf, standings, readOffs}
 
 -- the line of a place
 pub line-of : (l : Book) (s : List ℕ) (k : ℕ) (p : Part) → lineBy p (idAt l s k) (decodedAt l s k) ≡ lineOf l s p k
-unfolding updateLineAt authorAt tagAt valueAt
+unfolding updateLineAt authorAt setEntryAt valueAt
 line-of l s k Held = refl
 line-of l s k Heads = refl
 line-of l s k Waiting = refl
@@ -64,9 +64,9 @@ module _ (l : Book) (s : List ℕ) where
   unfolding marksPart
   follow-marks authors f = followed (ascii "(marks\n") {lines = concatMap markLine authors} refl f
 
-  all-tags : (xs : List ℕ) → partLines l s Set xs ≡ concatMap (λ (k : ℕ). bytesLine (tagAt l s k)) xs
+  all-entries : (xs : List ℕ) → partLines l s Set xs ≡ concatMap (λ (k : ℕ). setLine (setEntryAt l s k)) xs
   unfolding partLines
-  all-tags xs = ap (concatMap (lineOf l s Set)) (keep-all (listedIn l s Set) xs (λ x m. refl))
+  all-entries xs = ap (concatMap (lineOf l s Set)) (keep-all (listedIn l s Set) xs (λ x m. refl))
 
   pub standings-is :
       (40 ∷ 108 ∷ 101 ∷ 100 ∷ 103 ∷ 101 ∷ 114 ∷ 32 ∷ 49 ∷ 10 ∷ [])
@@ -76,7 +76,7 @@ module _ (l : Book) (s : List ℕ) where
   standings-is = refl
 
   pub read-offs-is :
-      marksPart (marksOf l s) ++ (partOf l s Set (tagOrder l s) ++ (partOf l s Entries (entriesOf l s) ++ (41 ∷ 10 ∷ []))) ≡ readOffs l s
+      marksPart (marksOf l s) ++ (partOf l s Set (setOrder l s) ++ (partOf l s Entries (entriesOf l s) ++ (41 ∷ 10 ∷ []))) ≡ readOffs l s
   unfolding readOffs ascii codes
   read-offs-is = refl
 
@@ -93,5 +93,5 @@ module _ (l : Book) (s : List ℕ) where
       (follow Waiting (idOrder l s) refl
       (follow Void (idOrder l s) refl
       (follow-marks (marksOf l s)
-      (follow Set (tagOrder l s) (all-tags (tagOrder l s))
+      (follow Set (setOrder l s) (all-entries (setOrder l s))
       (follow Entries (entriesOf l s) refl refl)))))))

@@ -8,13 +8,13 @@ use Rattle.bytes_order.specs.Member.{keep, concatMap}
 use Rattle.update_format.specs.Update.{Update}
 use Rattle.rules.specs.Settle.{Row, Table, isHeld, isWaiting, isVoid, heldRow, covered, heads, settledTable, updatesIn, partsIn, partsOf}
 use Rattle.bytes_ascii.specs.Ascii.{ascii, hex, decimal}
-use Rattle.rules.specs.Report.{updateLine, idLine, bytesLine}
+use Rattle.rules.specs.Report.{updateLine, setLine, idLine, bytesLine}
 use Rattle.ledger_state.specs.Stands.{ident, Stands}
 use Rattle.ledger_state.specs.State.{Book}
 use Rattle.ledger_relations.specs.PlaceTests.{idAt, heldAt, waitingAt, voidAt, headAt, shownAt, idOrder}
-use Rattle.report_parts.specs.PlaceParts.{tagAt, tagOrder, entriesOf, valueAt}
+use Rattle.report_parts.specs.PlaceParts.{setEntryAt, setOrder, entriesOf, valueAt}
 use Rattle.report_text.specs.Text.{updateLineAt}
-use Rattle.report_parts.specs.PlacePartsLaws.{tags-agree}
+use Rattle.report_parts.specs.PlacePartsLaws.{entries-agree}
 use Rattle.report_parts.specs.ListedLaws.{values-agree}
 use Rattle.ledger_relations.specs.RowLaws.{rowAt, update-id, order-∈, table-rows, held-agrees, waiting-agrees, void-agrees, author-agrees, head-agrees}
 use Rattle.bytes_order.specs.MemberLaws.{concatMap-map, concatMap-keep-map}
@@ -51,9 +51,9 @@ module _ {l : Book} {s : List ℕ} {us : List Update} (stands : Stands l s us) w
       lines-agree (idLine ident) (λ (r : Row). heldRow r && not (covered (settledTable ident us) r)) (λ (k : ℕ). bytesLine (idAt l s k)) (headAt l s)
       (λ k h. ap bytesLine (update-id stands h)) (head-agrees stands)
 
-  pub set-part : concatMap (λ (k : ℕ). bytesLine (tagAt l s k)) (tagOrder l s) ≡ concatMap bytesLine (partsOf ident us .set)
+  pub set-part : concatMap (λ (k : ℕ). setLine (setEntryAt l s k)) (setOrder l s) ≡ concatMap setLine (partsOf ident us .set)
   unfolding partsOf partsIn
-  set-part = sym (concatMap-map bytesLine (tagAt l s) (tagOrder l s)) ∙ ap (concatMap bytesLine) (tags-agree stands)
+  set-part = sym (concatMap-map setLine (setEntryAt l s) (setOrder l s)) ∙ ap (concatMap setLine) (entries-agree stands)
 
   pub list-part : concatMap (λ (k : ℕ). bytesLine (valueAt l s k)) (keep (shownAt l s) (entriesOf l s)) ≡ concatMap bytesLine (partsOf ident us .list)
   unfolding partsOf partsIn

@@ -7,10 +7,10 @@ use Rattle.bytes_ascii.specs.Ascii.{ascii}
 use Rattle.update_format.specs.Update.{maxAuthor}
 use Rattle.bitset.specs.Below.{upTo}
 use Rattle.bitset.specs.Bits.{has}
-use Rattle.rules.specs.Report.{bytesLine, markLine}
+use Rattle.rules.specs.Report.{setLine, bytesLine, markLine}
 use Rattle.ledger_state.specs.State.{places, Book}
 use Rattle.ledger_relations.specs.PlaceTests.{idAt, heldAt, waitingAt, voidAt, headAt, shownAt, idOrder}
-use Rattle.report_parts.specs.PlaceParts.{marksOf, tagAt, tagOrder, entriesOf, valueAt}
+use Rattle.report_parts.specs.PlaceParts.{marksOf, setEntryAt, setOrder, entriesOf, valueAt}
 use Rattle.report_wording.specs.declared.Part.{Part}
 use Rattle.report_wording.specs.declared.Part.the-variants.{Held, Heads, Waiting, Void, Set, List as Entries}
 use Rattle.report_wording.specs.Lines.{maxReportLine, wordOf}
@@ -80,7 +80,7 @@ module _ (l : Book) (s : List ℕ) where
   lineOf Heads k = bytesLine (idAt l s k)
   lineOf Waiting k = updateLineAt l s k
   lineOf Void k = updateLineAt l s k
-  lineOf Set k = bytesLine (tagAt l s k)
+  lineOf Set k = setLine (setEntryAt l s k)
   lineOf Entries k = bytesLine (valueAt l s k)
 
   unfoldable pub partLines : Part → List ℕ → List ℕ
@@ -95,4 +95,4 @@ module _ (l : Book) (s : List ℕ) where
       ++ (partOf Held (idOrder l s) ++ (partOf Heads (idOrder l s) ++ (partOf Waiting (idOrder l s) ++ partOf Void (idOrder l s))))
 
   unfoldable pub readOffs : List ℕ
-  readOffs = marksPart (marksOf l s) ++ (partOf Set (tagOrder l s) ++ (partOf Entries (entriesOf l s) ++ ascii ")\n"))
+  readOffs = marksPart (marksOf l s) ++ (partOf Set (setOrder l s) ++ (partOf Entries (entriesOf l s) ++ ascii ")\n"))

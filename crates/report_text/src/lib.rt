@@ -41,8 +41,8 @@ fn print_read_offs(l: Ledger, store: &[u8], order: Places, page: &mut [u8], at: 
     ensures { λ r. ⌜ Prints (now (page .entry)) at (readOffs (bookOf l) (now (store .entry))) (now (page .exit)) r ⌝ }
 {
     let marks = marks::print(marked(l, store), page, at);
-    let tagged = sorted::sorted(l, store, Key::Tag);
-    let set = parts::print(l, store, Part::Set, tagged, page, marks);
+    let added = sorted::sorted(l, store, Key::SetEntry);
+    let set = parts::print(l, store, Part::Set, added, page, marks);
     let entries = list::entries(l, store, order);
     let list = parts::print(l, store, Part::List, entries, page, set);
     put(page, list, b")\n")

@@ -7,36 +7,41 @@ use types.Run.{OneOf, miss}
 use Rattle.update_format.specs.Update.{Id}
 use Rattle.update_format.specs.Decode.{Decoded}
 use Rattle.bytes_ascii.specs.Ascii.{codes, ascii, hex, decimal}
-use Rattle.rules.specs.Report.{bytesLine, markLine}
-use Rattle.update_fields.specs.Fields.{authorIn}
+use Rattle.rules.specs.Report.{setLine, bytesLine, markLine}
+use Rattle.update_fields.specs.Fields.{authorIn, tagIn, setEntryIn}
 use Rattle.report_wording.specs.declared.Part.{Part}
 use Rattle.report_wording.specs.declared.Part.the-variants.{Held, Heads, Waiting, Void, Set, List as Entries}
-use Rattle.report_wording.specs.Lines.{wordOf, updateLineBy, lineBy}
+use Rattle.report_wording.specs.Lines.{wordOf, authorLineBy, lineBy}
 use Rattle.report_wording.proofs.Part.{the-type}
 
 -- lines: 40, 41, 32 and 10 are the brackets, the space and the newline
-
-pub bytes-line : (bs : List ℕ) → (40 ∷ []) ++ (hex bs ++ (41 ∷ 10 ∷ [])) ≡ bytesLine bs
-unfolding bytesLine ascii codes
-bytes-line bs = refl
 
 pub open-bytes : (bs : List ℕ) → (40 ∷ []) ++ hex bs ≡ ascii "(" ++ hex bs
 unfolding ascii codes
 open-bytes bs = refl
 
+pub bytes-line : (bs : List ℕ) → (ascii "(" ++ hex bs) ++ (41 ∷ 10 ∷ []) ≡ bytesLine bs
+unfolding bytesLine ascii codes
+bytes-line bs = append-assoc (40 ∷ []) (hex bs) (41 ∷ 10 ∷ [])
+
 pub mark-line : (a : ℕ) → (40 ∷ []) ++ (decimal a ++ (41 ∷ 10 ∷ [])) ≡ markLine a
 unfolding markLine ascii codes
 mark-line a = refl
 
-pub update-line : (i : Id) (d : Decoded) (a : ℕ) → a ≡ authorIn d →
-    (ascii "(" ++ hex i) ++ ((32 ∷ []) ++ (decimal a ++ (41 ∷ 10 ∷ []))) ≡ updateLineBy i d
+pub author-line : (bs : List ℕ) (d : Decoded) (a : ℕ) → a ≡ authorIn d →
+    (ascii "(" ++ hex bs) ++ ((32 ∷ []) ++ (decimal a ++ (41 ∷ 10 ∷ []))) ≡ authorLineBy bs d
 unfolding ascii codes
-update-line i d a e =
-    append-assoc (40 ∷ []) (hex i) ((32 ∷ []) ++ (decimal a ++ (41 ∷ 10 ∷ [])))
-    ∙ ap (λ (x : ℕ). 40 ∷ (hex i ++ (32 ∷ (decimal x ++ (41 ∷ 10 ∷ []))))) e
+author-line bs d a e =
+    append-assoc (40 ∷ []) (hex bs) ((32 ∷ []) ++ (decimal a ++ (41 ∷ 10 ∷ [])))
+    ∙ ap (λ (x : ℕ). 40 ∷ (hex bs ++ (32 ∷ (decimal x ++ (41 ∷ 10 ∷ []))))) e
+
+-- the line of a set entry
+pub set-line : (d : Decoded) {t : List ℕ} → t ≡ tagIn d → authorLineBy t d ≡ setLine (setEntryIn d)
+unfolding setLine
+set-line d e = ap (λ (t : List ℕ). authorLineBy t d) e
 
 -- Held, Waiting and Void, the parts 0, 2 and 3, have lines of updates
-pub update-lines : (i : Id) (d : Decoded) (p : Part) → OneOf (0 ∷ 2 ∷ 3 ∷ []) (tagOf the-type p) → updateLineBy i d ≡ lineBy p i d
+pub update-lines : (i : Id) (d : Decoded) (p : Part) → OneOf (0 ∷ 2 ∷ 3 ∷ []) (tagOf the-type p) → authorLineBy i d ≡ lineBy p i d
 update-lines i d Held n = refl
 update-lines i d Waiting n = refl
 update-lines i d Void n = refl

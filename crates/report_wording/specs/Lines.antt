@@ -5,8 +5,8 @@ use mathlib.Core.List.{List}
 use Rattle.update_format.specs.Update.{Id, idLength, maxAuthor}
 use Rattle.update_format.specs.Decode.{Decoded}
 use Rattle.bytes_ascii.specs.Ascii.{ascii}
-use Rattle.rules.specs.Report.{authorLine, bytesLine}
-use Rattle.update_fields.specs.Fields.{authorIn, tagIn, valueIn}
+use Rattle.rules.specs.Report.{authorLine, setLine, bytesLine}
+use Rattle.update_fields.specs.Fields.{authorIn, setEntryIn, valueIn}
 use Rattle.report_wording.specs.declared.Part.{Part}
 use Rattle.report_wording.specs.declared.Part.the-variants.{Held, Heads, Waiting, Void, Set, List as Entries}
 use Rattle.bytes_print.specs.Page.{farthest}
@@ -34,14 +34,15 @@ wordOf Void = ascii "(void\n"
 wordOf Set = ascii "(set\n"
 wordOf Entries = ascii "(list\n"
 
--- a line of an update, by its id and by what its bytes decode to
-abbrev pub updateLineBy : Id → Decoded → List ℕ
-updateLineBy i d = authorLine i (authorIn d)
+-- a line of bytes and the author of what an update's bytes decode to
+abbrev pub authorLineBy : List ℕ → Decoded → List ℕ
+authorLineBy bs d = authorLine bs (authorIn d)
 
+-- a line of an update, by its id and by what its bytes decode to
 abbrev pub lineBy : Part → Id → Decoded → List ℕ
-lineBy Held i d = updateLineBy i d
+lineBy Held i d = authorLineBy i d
 lineBy Heads i d = bytesLine i
-lineBy Waiting i d = updateLineBy i d
-lineBy Void i d = updateLineBy i d
-lineBy Set i d = bytesLine (tagIn d)
+lineBy Waiting i d = authorLineBy i d
+lineBy Void i d = authorLineBy i d
+lineBy Set i d = setLine (setEntryIn d)
 lineBy Entries i d = bytesLine (valueIn d)

@@ -6,7 +6,7 @@ ghost use Rattle.update_format.specs.Decode.{decode};
 ghost use Rattle.bytes_ascii.specs.Ascii.{ascii, hex};
 ghost use Rattle.rules.specs.Report.{bytesLine, markLine};
 ghost use Rattle.bytes_print.specs.Page.{Prints, farthest};
-ghost use Rattle.report_wording.specs.Lines.{maxReportLine, LineOf, MarkLineOf, wordOf, updateLineBy, lineBy};
+ghost use Rattle.report_wording.specs.Lines.{maxReportLine, LineOf, MarkLineOf, wordOf, authorLineBy, lineBy};
 use bytes_print::digits;
 use bytes_print::put;
 
@@ -36,36 +36,35 @@ pub fn word(part: Part, page: &mut [u8], at: usize) -> usize
     }
 }
 
+// The opening bracket and bytes.
+fn open_bytes(bytes: &[u8], page: &mut [u8], at: usize) -> usize
+    requires { ⌜ LineOf at (now bytes) ⌝ }
+    ensures prints { λ r. ⌜ Prints (now (page .entry)) at (ascii "(" ++ hex (now (bytes .entry))) (now (page .exit)) r ⌝ }
+    ensures small { λ r. ⌜ r ≤ at + (1 + 2 * idLength) ⌝ }
+{
+    let opened = put(page, at, b"(");
+    digits::hex(page, opened, bytes)
+}
+
 // A line of bytes.
 fn bytes_line(bytes: &[u8], page: &mut [u8], at: usize) -> usize
     requires { ⌜ LineOf at (now bytes) ⌝ }
     ensures prints { λ r. ⌜ Prints (now (page .entry)) at (bytesLine (now (bytes .entry))) (now (page .exit)) r ⌝ }
     ensures small { λ r. ⌜ r ≤ at + maxReportLine ⌝ }
 {
-    let opened = put(page, at, b"(");
-    let shown = digits::hex(page, opened, bytes);
+    let shown = open_bytes(bytes, page, at);
     put(page, shown, b")\n")
 }
 
-// The opening bracket and the id.
-fn open_id(id: &[u8], page: &mut [u8], at: usize) -> usize
-    requires { ⌜ LineOf at (now id) ⌝ }
-    ensures prints { λ r. ⌜ Prints (now (page .entry)) at (ascii "(" ++ hex (now (id .entry))) (now (page .exit)) r ⌝ }
-    ensures small { λ r. ⌜ r ≤ at + (1 + 2 * idLength) ⌝ }
-{
-    let opened = put(page, at, b"(");
-    digits::hex(page, opened, id)
-}
-
-// The id and the author of an update's bytes.
-fn update_line(id: &[u8], b: &[u8], page: &mut [u8], at: usize) -> usize
-    requires { ⌜ LineOf at (now id) ⌝ }
-    ensures prints { λ r. ⌜ Prints (now (page .entry)) at (updateLineBy (now (id .entry)) (decode (now (b .entry)))) (now (page .exit)) r ⌝ }
+// A line of bytes and of the author of an update's bytes, b.
+fn author_line(bytes: &[u8], b: &[u8], page: &mut [u8], at: usize) -> usize
+    requires { ⌜ LineOf at (now bytes) ⌝ }
+    ensures prints { λ r. ⌜ Prints (now (page .entry)) at (authorLineBy (now (bytes .entry)) (decode (now (b .entry)))) (now (page .exit)) r ⌝ }
     ensures small { λ r. ⌜ r ≤ at + maxReportLine ⌝ }
 {
     let author = update_fields::author_of(b);
-    let identified = open_id(id, page, at);
-    let spaced = put(page, identified, b" ");
+    let shown = open_bytes(bytes, page, at);
+    let spaced = put(page, shown, b" ");
     let named = digits::decimal(page, spaced, author);
     put(page, named, b")\n")
 }
@@ -88,9 +87,9 @@ pub fn line_by(id: &[u8], b: &[u8], part: Part, page: &mut [u8], at: usize) -> u
     ensures small { λ r. ⌜ r ≤ at + maxReportLine ⌝ }
 {
     match part {
-        Part::Held | Part::Waiting | Part::Void => update_line(id, b, page, at),
+        Part::Held | Part::Waiting | Part::Void => author_line(id, b, page, at),
         Part::Heads => bytes_line(id, page, at),
-        Part::Set => bytes_line(update_fields::tag_of(b), page, at),
+        Part::Set => author_line(update_fields::tag_of(b), b, page, at),
         Part::List => bytes_line(update_fields::value_of(b), page, at),
     }
 }

@@ -1,4 +1,5 @@
 pub mod Standing
+pub mod SetEntry
 pub mod ReadOff
 pub mod CausalOrder
 pub mod Parts
@@ -11,6 +12,7 @@ pub mod CausalLaws
 pub mod Growth
 pub mod SettlingTable
 pub mod Settling
+pub mod SetEntryLaws
 pub mod TableLaws
 pub mod WalkLaws
 pub mod ListedLaws

@@ -5,16 +5,17 @@ use Rattle.bytes_order.specs.Member.{_∈_}
 use Rattle.bytes_order.specs.Ascending.{Ascending}
 use Rattle.update_format.specs.Update.{Id, Update}
 use Rattle.rules.specs.Standing.{Held, Void, Waiting}
+use Rattle.rules.specs.SetEntry.{SetEntry, entryKey}
 use Rattle.rules.specs.ReadOff.{Head, Marked, Present, Listed}
 
--- updates, authors, tags and values
+-- updates, authors, set entries and values
 pub record Parts : Type 0 where
   pub held : List Update
   pub heads : List Update
   pub waiting : List Update
   pub void : List Update
   pub marks : List ℕ
-  pub set : List (List ℕ)
+  pub set : List SetEntry
   pub list : List (List ℕ)
 
 -- xs has only what is P, and all that is P; its keys are strictly ascending, so it has each once
@@ -30,5 +31,5 @@ pub record ReadFrom (ident : Update → Id) (S : List Update) (parts : Parts) : 
   pub waiting : Exactly ident (Waiting ident S) (parts .waiting)
   pub void : Exactly ident (Void ident S) (parts .void)
   pub marks : Exactly (λ (a : ℕ). a ∷ []) (Marked ident S) (parts .marks)
-  pub set : Exactly (λ (t : List ℕ). t) (Present ident S) (parts .set)
+  pub set : Exactly entryKey (λ (e : SetEntry). Present ident S (e .tag) (e .author)) (parts .set)
   pub list : Listed ident S (parts .list)

@@ -12,17 +12,18 @@ use Rattle.bytes_order.specs.Ascending.{Ascending}
 use Rattle.bytes_order.specs.SortLaws.{ascending-distinct, ascending-keep, ascending-rekey, ascending-unique, sort-ascending, ascending-map}
 use Rattle.update_format.specs.Update.{Id, Update}
 use Rattle.rules.specs.Standing.{Held, Void, Waiting}
+use Rattle.rules.specs.SetEntry.{SetEntry, entryKey}
 use Rattle.rules.specs.ReadOff.{Head, Marked, Present}
 use Rattle.rules.specs.CausalOrder.{OrderExactly, turned}
 use Rattle.rules.specs.Parts.{Parts, Exactly, ReadFrom}
-use Rattle.rules.specs.Settle.{Verdict, held, waiting, void, Row, Table, isHeld, isWaiting, isVoid, heldRow, covered, heads, marks, tags, updatesIn, partsIn, partsOf, settledTable, causalOrder}
+use Rattle.rules.specs.Settle.{Verdict, held, waiting, void, Row, Table, isHeld, isWaiting, isVoid, heldRow, covered, heads, marks, setEntries, updatesIn, partsIn, partsOf, settledTable, causalOrder}
 use Rattle.rules.specs.Decides.{Decides}
 use Rattle.rules.specs.LeastSets.{VerdictSays}
 use Rattle.rules.specs.CausalLaws.{order-turned}
 use Rattle.rules.specs.SettlingTable.{isHeld→, isWaiting→, isVoid→}
 use Rattle.rules.specs.Settling.{settled-decides, settled-ascending}
 use Rattle.rules.specs.TableLaws.{row-says, says-row, held-order}
-use Rattle.rules.specs.ReadOffLaws.{head-right, head-all, mark-right, mark-all, tag-right, tag-all, list-right, listed-unique}
+use Rattle.rules.specs.ReadOffLaws.{head-right, head-all, mark-right, mark-all, set-entry-right, set-entry-all, list-right, listed-unique}
 
 -- a part has each of its elements once, and its definition determines it
 module _ {A : Type 0} {key : A → List ℕ} {P : A → Type 0} where
@@ -83,10 +84,10 @@ module _ {ident : Update → Id} {S : List Update} {T : Table} (distinct : Disti
   marks-exactly =
       record { right = mark-right ident S T distinct decides; all = mark-all ident S T distinct decides; ascending = sort-ascending (λ (a : ℕ). a ∷ []) _ }
 
-  set-exactly : Exactly (λ (t : List ℕ). t) (Present ident S) (tags T)
-  unfolding tags
+  set-exactly : Exactly entryKey (λ (e : SetEntry). Present ident S (e .tag) (e .author)) (setEntries T)
+  unfolding setEntries
   set-exactly =
-      record { right = tag-right ident S T distinct decides; all = tag-all ident S T distinct decides; ascending = sort-ascending (λ (t : List ℕ). t) _ }
+      record { right = set-entry-right ident S T distinct decides; all = set-entry-all ident S T distinct decides; ascending = sort-ascending entryKey _ }
 
   pub parts-right : ReadFrom ident S (partsIn T)
   unfolding partsIn

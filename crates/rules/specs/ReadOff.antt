@@ -1,4 +1,4 @@
--- Document 01, "What is read from the held updates", by Held and Ancestor alone.
+-- Document 01, "What is read from the held updates", by Held and Ancestor alone; the set as document 02, E5, has it.
 use mathlib.Core.Path.{_≡_}
 use mathlib.Core.List.{List, [], _∷_, _++_}
 use Prim.Native.Nat.{ℕ}
@@ -37,11 +37,13 @@ module _ (ident : Update → Id) (S : List Update) where
     pub is-remove : by .op ≡ Remove tag named
     pub names : i ∈ named
 
-  -- "Set: the tags with a held Add that no held Remove names."
-  pub record Present (tag : List ℕ) : Type 0 where
+  -- "Set: the tags with a held Add that no held Remove names.", and "Count a set entry as the same only if tag and adding author both agree.": a held Add of the
+  -- tag by the author that no held Remove names
+  pub record Present (tag : List ℕ) (author : ℕ) : Type 0 where
     pub add : Update
     pub add-held : Held ident S add
     pub is-add : add .op ≡ Add tag
+    pub added-by : add .author ≡ author
     pub kept : Removed (ident add) → ⊥
 
   -- a held Delete of the id

@@ -16,12 +16,14 @@ use Rattle.bytes_order.specs.Distinct.{Distinct}
 use Rattle.update_format.specs.Update.{Id, Update}
 use Rattle.rules.specs.declared.CausalOrder.the-variants.{Before, Apart}
 use Rattle.rules.specs.Standing.{beginning, Ancestor, Held}
+use Rattle.rules.specs.SetEntry.{SetEntry, entryKey}
 use Rattle.rules.specs.ReadOff.{Head, Marked, Removed, Present, Rank, InsertAt, Walk, Shown, Listed}
 use Rattle.rules.specs.CausalOrder.{Causal, isBefore, isApart}
-use Rattle.rules.specs.Settle.{Row, Table, held, orderIn, heldRow, covered, heads, forkedBy, marks, removed, names, tagsOf, tags, list, entries, rank, updatesIn}
+use Rattle.rules.specs.Settle.{Row, Table, held, orderIn, heldRow, covered, heads, forkedBy, marks, removed, names, entriesFrom, setEntries, list, entries, rank, updatesIn}
 use Rattle.rules.specs.Decides.{Decides}
 use Rattle.rules.specs.CausalLaws.{isBefore→, isApart→, marked→order, order→marked}
-use Rattle.rules.specs.TableLaws.{not-true→, not-true, tagsOf-∈, ∈-tagsOf, names→, →names, HeldRow, any-held→, →any-held, keep-held→, →keep-held, row-held, row-id, row-rank, held-row, row-order, rank-bound}
+use Rattle.rules.specs.SetEntryLaws.{entry-key-identifies}
+use Rattle.rules.specs.TableLaws.{not-true→, not-true, entriesFrom-∈, ∈-entriesFrom, names→, →names, HeldRow, any-held→, →any-held, keep-held→, →keep-held, row-held, row-id, row-rank, held-row, row-order, rank-bound}
 use Rattle.rules.specs.WalkLaws.{Entry, atBeginning, firstRows, siblings-∈, walk-entry, walk-all, walk-distinct}
 use Rattle.rules.specs.ListedLaws.{first-right, walk-right, shown-right, siblings-unique, walk-unique, shown-unique}
 
@@ -106,7 +108,7 @@ module _ (ident : Update → Id) (S : List Update) (T : Table) (distinct : Disti
       ∈-sort (λ (a : ℕ). a ∷ []) (λ x y m n e. head-eq-of-cons-eq e)
       (∈-cast (sym by) (∈-map (λ (r : Row). r .update .author) (→keep-held T (λ (r : Row). any (forkedBy T r) T) (f .1) (→any-held T (forked T (f .0)) (g .1) e))))
 
-  -- tags
+  -- the set
 
   removed→ : {r : Row} → HeldRow T r → removed T (r .id) ≡ true → Removed ident S (ident (r .update))
   unfolding removed
@@ -122,28 +124,30 @@ module _ (ident : Update → Id) (S : List Update) (T : Table) (distinct : Disti
       →any-held T (λ (q : Row). names (r .id) (q .update .op)) (f .1)
       (→names (ap (λ (u : Update). u .op) (f .2) ∙ k .is-remove) (∈-cast (row-id distinct decides h) (k .names)))
 
-  pub tag-right : (t : List ℕ) → t ∈ tags T → Present ident S t
-  unfolding tags
-  tag-right t m =
+  pub set-entry-right : (e : SetEntry) → e ∈ setEntries T → Present ident S (e .tag) (e .author)
+  unfolding setEntries
+  set-entry-right e m =
       let p : Row → Bool = λ (r : Row). not (removed T (r .id)) in
-      let F : Row → List (List ℕ) = λ (r : Row). tagsOf (r .update .op) in
-      let k = concatMap-∈ F (keep (λ (r : Row). heldRow r && p r) T) (sort-∈ (λ (t : List ℕ). t) (concatMap F (keep (λ (r : Row). heldRow r && p r) T)) m) in
+      let F : Row → List SetEntry = λ (r : Row). entriesFrom (r .update) in
+      let k = concatMap-∈ F (keep (λ (r : Row). heldRow r && p r) T) (sort-∈ entryKey (concatMap F (keep (λ (r : Row). heldRow r && p r) T)) m) in
       let f = keep-held→ T p (k .1) in
+      let a = entriesFrom-∈ (k .0 .update) (k .2) in
       record {
         add = k .0 .update;
         add-held = row-held distinct decides (f .0);
-        is-add = tagsOf-∈ (k .0 .update .op) (k .2);
+        is-add = a .0;
+        added-by = a .1;
         kept = λ x. true-false (→removed (f .0) x) (not-true→ (removed T (k .0 .id)) (f .1));
       }
 
-  pub tag-all : (t : List ℕ) → Present ident S t → t ∈ tags T
-  unfolding tags
-  tag-all t h =
+  pub set-entry-all : (e : SetEntry) → Present ident S (e .tag) (e .author) → e ∈ setEntries T
+  unfolding setEntries
+  set-entry-all e h =
       let f = held-row distinct decides (h .add-held) in
-      ∈-sort (λ (t : List ℕ). t) (λ x y m n e. e)
-      (∈-concatMap (λ (r : Row). tagsOf (r .update .op))
+      ∈-sort entryKey (entry-key-identifies _)
+      (∈-concatMap (λ (r : Row). entriesFrom (r .update))
       (→keep-held T (λ (r : Row). not (removed T (r .id))) (f .1) (not-true (removed T (f .0 .id)) (λ e. h .kept (subst (λ (u : Update). Removed ident S (ident u)) (f .2) (removed→ (f .1) e)))))
-      (∈-tagsOf (ap (λ (u : Update). u .op) (f .2) ∙ h .is-add)))
+      (∈-entriesFrom (f .0 .update) (ap (λ (u : Update). u .op) (f .2) ∙ h .is-add) (ap (λ (u : Update). u .author) (f .2) ∙ h .added-by)))
 
   -- the list
 

@@ -1,20 +1,24 @@
--- Document 01, "Command and report": the report's text, byte for byte, from a set alone.
+-- Document 01, "Command and report", with the set lines of document 02, E5: the report's text, byte for byte, from a set alone.
 use Prim.Native.Nat.{ℕ}
 use Prim.Native.String.{String}
 use mathlib.Core.List.{List, _++_}
 use Rattle.bytes_order.specs.Member.{concatMap}
 use Rattle.bytes_ascii.specs.Ascii.{ascii, hex, decimal}
 use Rattle.update_format.specs.Update.{Id, Update}
+use Rattle.rules.specs.SetEntry.{SetEntry}
 use Rattle.rules.specs.Parts.{Parts}
 use Rattle.rules.specs.Settle.{partsOf}
 
--- "Each line ends in a newline. Held, waiting and void have lines `(ID author)`, heads `(ID)` .. Marks: `(author)` .., base ten. Set: `(TAG)` ..;
--- list: `(VALUE)`"; an ID is "64 lowercase hexadecimal digits"
-abbrev pub authorLine : Id → ℕ → List ℕ
-authorLine i a = ascii "(" ++ (hex i ++ (ascii " " ++ (decimal a ++ ascii ")\n")))
+-- "Each line ends in a newline. Held, waiting and void have lines `(ID author)`, heads `(ID)` .. Marks: `(author)` .., base ten. .. list: `(VALUE)`"; an ID is
+-- "64 lowercase hexadecimal digits". "Set lines become `(TAG author)`".
+abbrev pub authorLine : List ℕ → ℕ → List ℕ
+authorLine bs a = ascii "(" ++ (hex bs ++ (ascii " " ++ (decimal a ++ ascii ")\n")))
 
 unfoldable pub updateLine : (Update → Id) → Update → List ℕ
 updateLine ident u = authorLine (ident u) (u .author)
+
+unfoldable pub setLine : SetEntry → List ℕ
+setLine e = authorLine (e .tag) (e .author)
 
 unfoldable pub bytesLine : List ℕ → List ℕ
 bytesLine bs = ascii "(" ++ (hex bs ++ ascii ")\n")
@@ -38,7 +42,7 @@ reportText ident parts =
     (partText "(waiting\n" (updateLine ident) (parts .waiting)
     (partText "(void\n" (updateLine ident) (parts .void)
     (partText "(marks\n" markLine (parts .marks)
-    (partText "(set\n" bytesLine (parts .set)
+    (partText "(set\n" setLine (parts .set)
     (partText "(list\n" bytesLine (parts .list)
     (ascii ")\n")))))))
 

@@ -1,30 +1,36 @@
 -- The report: it is laid out from the parts that the definitions give; the same members give the same bytes; equal bytes show the same ids, and equal sets where no
--- two updates share an id; its length.
-use mathlib.Core.Path.{_≡_, refl, sym, ap, subst}
+-- two updates share an id; its set entries, their order, and that their lines show them; its length.
+use mathlib.Core.Path.{_≡_, refl, sym, _∙_, ap, subst}
+use mathlib.Core.Bool.{true}
 use mathlib.Core.Logic.{_⊎_, inl, inr}
-use mathlib.Core.List.{List, [], map}
-use Prim.Native.Nat.{_≤_}
+use mathlib.Core.List.{List, [], _∷_, _++_, map, nil≢cons, cons≢nil, head-eq-of-cons-eq, tail-eq-of-cons-eq, List·Memᴰ·head, List·Memᴰ·tail}
+use Prim.Native.Nat.{ℕ, _≤_}
 use native.Mathlib.Omega.{arith}
 use lib.ListN.{length, length-map}
 use Rattle.bytes_order.specs.Member.{_∈_, SameMembers, keep, concatMap}
-use Rattle.bytes_order.specs.MemberLaws.{∈-cast, ∈-map, map-∈}
+use Rattle.bytes_order.specs.MemberLaws.{∈-cast, ∈-map, map-∈, ∈-append-right}
 use Rattle.bytes_order.specs.Distinct.{Distinct}
 use Rattle.bytes_order.specs.DistinctLaws.{distinct-identifies, distinct-same-length, distinct-length}
+use Rattle.bytes_order.specs.Order.{before}
 use Rattle.bytes_order.specs.Sort.{sort}
-use Rattle.bytes_order.specs.SortLaws.{same-sort}
-use Rattle.update_format.specs.Update.{Id, idLength, Update, Bounded}
+use Rattle.bytes_order.specs.Ascending.{Ascending}
+use Rattle.bytes_order.specs.SortLaws.{ascending-head, ascending-tail, same-sort}
+use Rattle.update_format.specs.Update.{Id, idLength, tagLength, maxAuthor, Update, Bounded}
 use Rattle.rules.specs.Standing.{Held, Void, Waiting}
+use Rattle.rules.specs.SetEntry.{SetEntry, entryKey, entryBefore}
 use Rattle.rules.specs.Parts.{Parts, ReadFrom}
-use Rattle.rules.specs.Settle.{isInsert, rounds, start, startAll, settledTable, heads, marks, tags, walk, entries, list, partsIn, partsOf}
+use Rattle.rules.specs.Settle.{isInsert, rounds, start, startAll, settledTable, heads, marks, setEntries, walk, entries, list, partsIn, partsOf}
 use Rattle.bytes_ascii.specs.Ascii.{codes, ascii}
-use Rattle.rules.specs.Report.{partText, reportText, reportOf, places, maxReport}
+use Rattle.rules.specs.Report.{setLine, partText, reportText, reportOf, places, maxReport}
 use Rattle.rules.specs.Decides.{Decides}
 use Rattle.rules.specs.LeastSets.{held-stored, void-stored}
 use Rattle.rules.specs.Settling.{settled-decides, covers}
+use Rattle.rules.specs.SetEntryLaws.{entry-order}
+use Rattle.rules.specs.TableLaws.{∈-tagsOf}
 use Rattle.rules.specs.ReadOffLaws.{entry-right, entry-once}
 use Rattle.rules.specs.PartsLaws.{read-right, read-unique}
-use Rattle.rules.specs.TextLaws.{SameIds, text-ids}
-use Rattle.rules.specs.ReportLengthLaws.{SizedTable, text-length}
+use Rattle.rules.specs.TextLaws.{set-line-injective, SameShown, text-shows}
+use Rattle.rules.specs.ReportLengthLaws.{tag-sized, SizedTable, text-length}
 
 -- the report is laid out from the parts that the definitions give
 pub report-laid-out : (ident : Update → Id) (S : List Update) → Distinct ident S → {parts : Parts} → ReadFrom ident S parts → reportOf ident S ≡ reportText ident parts
@@ -49,8 +55,8 @@ report-shows-ids ident S S′ d d′ e u m = step (covers ident S d u m)
     Q : ReadFrom ident S′ (partsOf ident S′)
     Q = read-right ident S′ d′
 
-    same : SameIds ident (partsOf ident S) (partsOf ident S′)
-    same = text-ids ident (partsOf ident S) (partsOf ident S′) e
+    same : SameShown ident (partsOf ident S) (partsOf ident S′)
+    same = text-shows ident (partsOf ident S) (partsOf ident S′) e
 
     -- a member of one part has its id in the other
     shown : {xs ys : List Update} → map ident xs ≡ map ident ys → u ∈ xs → (v : Update) × (v ∈ ys) × (ident v ≡ ident u)
@@ -69,10 +75,55 @@ report-shows-set ident S S′ d d′ one e =
       back = λ v m. let r = report-shows-ids ident S′ S d′ d (sym e) v m in ∈-cast (sym (one (r .0) v (r .1) m (r .2))) (r .1);
     }
 
+-- Document 02, E5: the entries of a set of well-formed updates
+
+module _ {ident : Update → Id} {S : List Update} (bounded : (u : Update) → u ∈ S → Bounded u) {parts : Parts} (reads : ReadFrom ident S parts) where
+  entry-tag : (e : SetEntry) → e ∈ parts .set → length (e .tag) ≡ tagLength
+  entry-tag e m =
+      let p = reads .set .right e m in
+      tag-sized (bounded (p .add) (held-stored ident S (p .add-held)) .op-bounded) (∈-tagsOf (p .is-add))
+
+  pub entry-author : (e : SetEntry) → e ∈ parts .set → e .author ≤ maxAuthor
+  entry-author e m =
+      let p = reads .set .right e m in
+      subst (λ (a : ℕ). a ≤ maxAuthor) (p .added-by) (bounded (p .add) (held-stored ident S (p .add-held)) .author-small)
+
+  -- "ordered by tag, then author": of two entries the one that is shown first comes before the other
+  pub set-ordered : (es : List SetEntry) (e : SetEntry) (fs : List SetEntry) → parts .set ≡ es ++ (e ∷ fs) → (f : SetEntry) → f ∈ fs → entryBefore e f ≡ true
+  set-ordered es e fs q f m =
+      sym (entry-order e f (sized e (List·Memᴰ·head refl) ∙ sym (sized f (List·Memᴰ·tail m))))
+      ∙ following es (subst (Ascending entryKey) q (reads .set .ascending))
+    where
+      sized : (x : SetEntry) → x ∈ e ∷ fs → length (x .tag) ≡ tagLength
+      sized x n = entry-tag x (subst (λ (xs : List SetEntry). x ∈ xs) (sym q) (∈-append-right es n))
+
+      following : (xs : List SetEntry) → Ascending entryKey (xs ++ (e ∷ fs)) → before (entryKey e) (entryKey f) ≡ true
+      following [] a = ascending-head a f m
+      following (x ∷ xs) a = following xs (ascending-tail a)
+
+-- equal lines are those of equal entries
+lines-entries : (es fs : List SetEntry) → ((e : SetEntry) → e ∈ es → e .author ≤ maxAuthor) → ((f : SetEntry) → f ∈ fs → f .author ≤ maxAuthor)
+    → map setLine es ≡ map setLine fs → es ≡ fs
+lines-entries [] [] h g q = refl
+lines-entries [] (f ∷ fs) h g q = absurd (nil≢cons q)
+lines-entries (e ∷ es) [] h g q = absurd (cons≢nil q)
+lines-entries (e ∷ es) (f ∷ fs) h g q =
+    let head = set-line-injective e f (h e (List·Memᴰ·head refl)) (g f (List·Memᴰ·head refl)) (head-eq-of-cons-eq q) in
+    let tail = lines-entries es fs (λ x m. h x (List·Memᴰ·tail m)) (λ x m. g x (List·Memᴰ·tail m)) (tail-eq-of-cons-eq q) in
+    λ i. head i ∷ tail i
+
+-- the lines `(TAG author)` show the entries: equal reports have the same
+pub report-shows-entries : (ident : Update → Id) (S S′ : List Update) → Distinct ident S → Distinct ident S′
+    → ((u : Update) → u ∈ S → Bounded u) → ((u : Update) → u ∈ S′ → Bounded u) → reportOf ident S ≡ reportOf ident S′ → partsOf ident S .set ≡ partsOf ident S′ .set
+unfolding reportOf
+report-shows-entries ident S S′ d d′ bounded bounded′ e =
+    lines-entries (partsOf ident S .set) (partsOf ident S′ .set) (entry-author bounded (read-right ident S d)) (entry-author bounded′ (read-right ident S′ d′))
+    (text-shows ident (partsOf ident S) (partsOf ident S′) e .set-lines)
+
 -- the report of no update
 pub empty-text : (ident : Update → Id)
     → reportOf ident [] ≡ ascii "(ledger 1\n(held\n)\n(heads\n)\n(waiting\n)\n(void\n)\n(marks\n)\n(set\n)\n(list\n)\n)\n"
-unfolding reportOf partsOf partsIn settledTable startAll rounds sort reportText partText keep concatMap heads marks tags list entries walk ascii codes
+unfolding reportOf partsOf partsIn settledTable startAll rounds sort reportText partText keep concatMap heads marks setEntries list entries walk ascii codes
 empty-text ident = refl
 
 -- "The empty report is 72 bytes; none passes 12,000."

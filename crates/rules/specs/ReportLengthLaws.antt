@@ -5,7 +5,7 @@ use native.Mathlib.Nat.{not-suc-le-zero, le-of-suc-le-suc, le-trans, eq-or-lt-of
 use native.Mathlib.Omega.{arith}
 use mathlib.Core.Path.{_≡_, refl, _∙_, ap, subst}
 use mathlib.Core.Logic.{⊎-elim}
-use mathlib.Core.List.{List, [], _∷_, _++_, List·Memᴰ·head, List·Memᴰ·tail, List·Memᴰ·not-nil}
+use mathlib.Core.List.{List, [], _∷_, _++_, map, List·Memᴰ·head, List·Memᴰ·tail, List·Memᴰ·not-nil}
 use mathlib.Core.Bool.{Bool, true, cond}
 use lib.ListN.{length, length-append, length-map}
 use Rattle.bytes_order.specs.Member.{_∈_, keep, concatMap}
@@ -14,10 +14,12 @@ use Rattle.bytes_order.specs.Distinct.{Distinct}
 use Rattle.bytes_order.specs.DistinctLaws.{distinct-length, distinct-subset-length}
 use Rattle.bytes_order.specs.SortLaws.{sort-∈, sort-length, sort-distinct}
 use Rattle.update_format.specs.Update.{Id, idLength, tagLength, maxAuthor, Operation, Add, Remove, Insert, Delete, BoundedOperation, add, remove, insert, delete, Update, Bounded}
-use Rattle.rules.specs.Settle.{Row, Table, Verdict, held, waiting, void, isHeld, isWaiting, isVoid, isInsert, heads, marks, tagsOf, tags, entries, valuesOf, list, updatesIn, partsIn}
+use Rattle.rules.specs.SetEntry.{SetEntry, entryKey}
+use Rattle.rules.specs.Settle.{Row, Table, Verdict, held, waiting, void, isHeld, isWaiting, isVoid, isInsert, heads, marks, tagsOf, entriesFrom, setEntries, entries, valuesOf, list, updatesIn, partsIn}
 use Rattle.bytes_ascii.specs.Ascii.{codes, ascii, hex, decimal}
 use Rattle.bytes_ascii.specs.AsciiLaws.{hex-length, decimal-length}
-use Rattle.rules.specs.Report.{updateLine, bytesLine, idLine, markLine, partText, reportText}
+use Rattle.rules.specs.TableLaws.{∈-tagsOf, entriesFrom-∈}
+use Rattle.rules.specs.Report.{authorLine, updateLine, setLine, bytesLine, idLine, markLine, partText, reportText}
 use Rattle.bytes_order.specs.CountLaws.{concatMap-length, keep-concatMap-length}
 
 -- lines
@@ -36,14 +38,22 @@ bytes-line-length bs =
     let e = length-append (hex bs) (ascii ")\n") in
     omega arith
 
-update-line-length : (ident : Update → Id) (u : Update) → length (ident u) ≡ idLength → u .author ≤ maxAuthor → length (updateLine ident u) ≤ 70
-unfolding updateLine ascii codes
-update-line-length ident u h a =
-    let d : length (decimal (u .author)) ≤ 2 = decimal-length (u .author) (omega arith) in
-    let x = hex-length (ident u) in
-    let e = length-append (decimal (u .author)) (ascii ")\n") in
-    let f = length-append (hex (ident u)) (ascii " " ++ (decimal (u .author) ++ ascii ")\n")) in
+author-line-length : (bs : List ℕ) (a : ℕ) → a ≤ maxAuthor → length (authorLine bs a) ≤ 6 + 2 * length bs
+unfolding ascii codes
+author-line-length bs a h =
+    let d : length (decimal a) ≤ 2 = decimal-length a (omega arith) in
+    let x = hex-length bs in
+    let e = length-append (decimal a) (ascii ")\n") in
+    let f = length-append (hex bs) (ascii " " ++ (decimal a ++ ascii ")\n")) in
     omega arith
+
+update-line-length : (ident : Update → Id) (u : Update) → length (ident u) ≡ idLength → u .author ≤ maxAuthor → length (updateLine ident u) ≤ 70
+unfolding updateLine
+update-line-length ident u h a = let e = author-line-length (ident u) (u .author) a in omega arith
+
+set-line-length : (e : SetEntry) → length (e .tag) ≡ tagLength → e .author ≤ maxAuthor → length (setLine e) ≤ 38
+unfolding setLine
+set-line-length e h a = let f = author-line-length (e .tag) (e .author) a in omega arith
 
 -- at most n bytes
 record Short (bs : List ℕ) (n : ℕ) : Type 0 where
@@ -91,17 +101,17 @@ by-verdict (r ∷ T) = step (r .verdict) (keep (λ (q : Row). isHeld (q .verdict
 insertRow : Row → Bool
 insertRow r = isInsert (r .update .op)
 
-adds-inserts : (T : Table) → length (concatMap (λ (r : Row). tagsOf (r .update .op)) T) + length (keep insertRow T) ≤ length T
-unfolding concatMap keep tagsOf isInsert insertRow
+adds-inserts : (T : Table) → length (concatMap (λ (r : Row). entriesFrom (r .update)) T) + length (keep insertRow T) ≤ length T
+unfolding concatMap keep entriesFrom tagsOf isInsert insertRow
 adds-inserts [] = zero-le
-adds-inserts (r ∷ T) = step (r .update .op) (concatMap (λ (q : Row). tagsOf (q .update .op)) T) (keep insertRow T) (adds-inserts T)
+adds-inserts (r ∷ T) = step (r .update .op) (concatMap (λ (q : Row). entriesFrom (q .update)) T) (keep insertRow T) (adds-inserts T)
   where
-    step : (o : Operation) (ts : List (List ℕ)) (is : Table) → length ts + length is ≤ length T
-        → length (tagsOf o ++ ts) + length (cond (isInsert o) (r ∷ is) is) ≤ suc (length T)
-    step (Add t) ts is h = omega arith
-    step (Remove t named) ts is h = omega arith
-    step (Insert a v) ts is h = omega arith
-    step (Delete i) ts is h = omega arith
+    step : (o : Operation) (es : List SetEntry) (is : Table) → length es + length is ≤ length T
+        → length (map (λ (t : List ℕ). record { tag = t; author = r .update .author }) (tagsOf o) ++ es) + length (cond (isInsert o) (r ∷ is) is) ≤ suc (length T)
+    step (Add t) es is h = omega arith
+    step (Remove t named) es is h = omega arith
+    step (Insert a v) es is h = omega arith
+    step (Delete i) es is h = omega arith
 
 values-few : (o : Operation) → length (valuesOf o) ≤ 1
 unfolding valuesOf
@@ -110,7 +120,7 @@ values-few (Remove t named) = omega arith
 values-few (Insert a v) = omega arith
 values-few (Delete i) = omega arith
 
-tag-sized : {o : Operation} {t : List ℕ} → BoundedOperation o → t ∈ tagsOf o → length t ≡ tagLength
+pub tag-sized : {o : Operation} {t : List ℕ} → BoundedOperation o → t ∈ tagsOf o → length t ≡ tagLength
 unfolding tagsOf
 tag-sized (add h) m = ap length (∈-singleton m) ∙ h
 tag-sized (remove h is) m = absurd (List·Memᴰ·not-nil m)
@@ -124,7 +134,7 @@ value-sized (remove h is) m = absurd (List·Memᴰ·not-nil m)
 value-sized (insert h k) m = ap length (∈-singleton m) ∙ k
 value-sized (delete h) m = absurd (List·Memᴰ·not-nil m)
 
--- the lines of tags or values
+-- the lines of values
 short-lines : (ts : List (List ℕ)) → ((t : List ℕ) → t ∈ ts → length t ≡ tagLength) → length (concatMap bytesLine ts) ≤ 35 * length ts
 short-lines ts h = concatMap-length bytesLine 35 ts (λ t m. line t (h t m))
   where
@@ -184,18 +194,21 @@ module _ (ident : Update → Id) (id-sized : (u : Update) → length (ident u) �
       let k : length (marks T) ≤ suc maxAuthor = marks-few in
       omega arith
 
-  tags-length : length (concatMap bytesLine (tags T)) ≤ 35 * length (tags T)
-  unfolding tags
-  tags-length = short-lines (tags T) size
+  set-length : length (concatMap setLine (setEntries T)) ≤ 38 * length (setEntries T)
+  unfolding setEntries
+  set-length = concatMap-length setLine 38 (setEntries T) line
     where
-      size : (t : List ℕ) → t ∈ tags T → length t ≡ tagLength
-      size t m =
-          let r = concatMap-∈ (λ (r : Row). tagsOf (r .update .op)) _ (sort-∈ (λ (s : List ℕ). s) _ m) in
-          tag-sized (sized .bounded (r .0) (keep-∈ _ T (r .1) .0) .op-bounded) (r .2)
+      line : (e : SetEntry) → e ∈ setEntries T → length (setLine e) ≤ 38
+      line e m =
+          let r = concatMap-∈ (λ (r : Row). entriesFrom (r .update)) _ (sort-∈ entryKey _ m) in
+          let b = sized .bounded (r .0) (keep-∈ _ T (r .1) .0) in
+          let f = entriesFrom-∈ (r .0 .update) (r .2) in
+          set-line-length e (tag-sized (b .op-bounded) (∈-tagsOf (f .0))) (subst (λ (a : ℕ). a ≤ maxAuthor) (f .1) (b .author-small))
 
-  tags-few : length (tags T) ≤ length (concatMap (λ (r : Row). tagsOf (r .update .op)) T)
-  unfolding tags
-  tags-few = le-trans (sort-length (λ (t : List ℕ). t) _) (keep-concatMap-length (λ (r : Row). tagsOf (r .update .op)) _ T)
+  -- no more entries than Adds
+  set-few : length (setEntries T) ≤ length (concatMap (λ (r : Row). entriesFrom (r .update)) T)
+  unfolding setEntries
+  set-few = le-trans (sort-length entryKey _) (keep-concatMap-length (λ (r : Row). entriesFrom (r .update)) _ T)
 
   list-length : length (concatMap bytesLine (list T)) ≤ 35 * length (list T)
   unfolding list
@@ -215,12 +228,12 @@ module _ (ident : Update → Id) (id-sized : (u : Update) → length (ident u) �
       let d = distinct-subset-length (sized .entry-once) (keep insertRow T) (λ r m. ∈-keep insertRow (sized .entry-row r m) (sized .entry-insert r m)) in
       omega arith
 
-  -- all of the text: of a row at most 70 bytes by its verdict, 67 as a head and 35 as an Add or an Insert
-  pub text-length : length (reportText ident (partsIn T)) ≤ 152 + 172 * length T
+  -- all of the text: of a row at most 70 bytes by its verdict, 67 as a head and 38 as an Add or 35 as an Insert
+  pub text-length : length (reportText ident (partsIn T)) ≤ 152 + 175 * length T
   unfolding reportText partsIn ascii codes
   text-length =
       let l = part-short "(list\n" bytesLine (list T) refl list-length end in
-      let s = part-short "(set\n" bytesLine (tags T) refl tags-length l in
+      let s = part-short "(set\n" setLine (setEntries T) refl set-length l in
       let m = part-short "(marks\n" markLine (marks T) refl marks-length s in
       let v = part-short "(void\n" (updateLine ident) (partsIn T .void) refl (updates-length (λ r. isVoid (r .verdict))) m in
       let w = part-short "(waiting\n" (updateLine ident) (partsIn T .waiting) refl (updates-length (λ r. isWaiting (r .verdict))) v in
@@ -229,7 +242,7 @@ module _ (ident : Update → Id) (id-sized : (u : Update) → length (ident u) �
       let all = h .short in
       let rows = by-verdict T in
       let tops = heads-few in
-      let shown-tags = tags-few in
+      let shown-entries = set-few in
       let shown-values = list-few in
       let shown = adds-inserts T in
       omega arith

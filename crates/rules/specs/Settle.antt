@@ -12,6 +12,7 @@ use Rattle.update_format.specs.Update.{Id, Operation, Add, Remove, Insert, Dele
 use Rattle.rules.specs.declared.CausalOrder.{CausalOrder}
 use Rattle.rules.specs.Standing.{beginning}
 use Rattle.rules.specs.CausalOrder.{orderBy, isBefore, isApart, beforeOrAfter}
+use Rattle.rules.specs.SetEntry.{SetEntry, entryKey}
 use Rattle.rules.specs.Parts.{Parts}
 
 pub data Verdict : Type 0 where
@@ -165,6 +166,12 @@ marks T =
     sort (λ (a : ℕ). a ∷ [])
     (map (λ (r : Row). r .update .author) (keep (λ (r : Row). heldRow r && any (forkedBy T r) T) T))
 
+unfoldable pub tagsOf : Operation → List (List ℕ)
+tagsOf (Add t) = t ∷ []
+tagsOf (Remove t named) = []
+tagsOf (Insert a v) = []
+tagsOf (Delete i) = []
+
 unfoldable pub names : Id → Operation → Bool
 names i (Add t) = false
 names i (Remove t named) = member i named
@@ -174,16 +181,14 @@ names i (Delete d) = false
 unfoldable pub removed : Table → Id → Bool
 removed T i = any (λ (q : Row). heldRow q && names i (q .update .op)) T
 
-unfoldable pub tagsOf : Operation → List (List ℕ)
-tagsOf (Add t) = t ∷ []
-tagsOf (Remove t named) = []
-tagsOf (Insert a v) = []
-tagsOf (Delete i) = []
+-- the entry of an Add, by its author; none of another update
+unfoldable pub entriesFrom : Update → List SetEntry
+entriesFrom u = map (λ (t : List ℕ). record { tag = t; author = u .author }) (tagsOf (u .op))
 
-unfoldable pub tags : Table → List (List ℕ)
-tags T =
-    sort (λ (t : List ℕ). t)
-    (concatMap (λ (r : Row). tagsOf (r .update .op)) (keep (λ (r : Row). heldRow r && not (removed T (r .id))) T))
+unfoldable pub setEntries : Table → List SetEntry
+setEntries T =
+    sort entryKey
+    (concatMap (λ (r : Row). entriesFrom (r .update)) (keep (λ (r : Row). heldRow r && not (removed T (r .id))) T))
 
 -- the list
 
@@ -251,7 +256,7 @@ partsIn T =
       waiting = updatesIn (keep (λ (r : Row). isWaiting (r .verdict)) T);
       void = updatesIn (keep (λ (r : Row). isVoid (r .verdict)) T);
       marks = marks T;
-      set = tags T;
+      set = setEntries T;
       list = list T;
     }
 

@@ -8,6 +8,7 @@
 --   a void update forgotten: 8 and 9 (e would wait);
 --   no antichain test: 7, 8 and 9 (d would be held);
 --   marks from waiting updates: the further ledger `waits`; marks from void ones: 7 (d is by author 1).
+-- Document 02, E5, gives each set entry its author. The other Add of 12 is by the same author; the further ledgers have it by another, and both.
 use Prim.Native.Nat.{ℕ}
 use mathlib.Core.Path.{_≡_, refl}
 use mathlib.Core.List.{List, [], _∷_, map, _++_}
@@ -19,9 +20,10 @@ use Rattle.update_format.specs.Update.{Id, Operation, Add, Remove, Insert, Dele
 use Rattle.rules.specs.declared.CausalOrder.{CausalOrder}
 use Rattle.rules.specs.declared.CausalOrder.the-variants.{Same, Before, After, Apart}
 use Rattle.rules.specs.Standing.{beginning}
+use Rattle.rules.specs.SetEntry.{SetEntry, entryKey}
 use Rattle.rules.specs.Parts.{Parts}
 use Rattle.rules.specs.CausalOrder.{orderBy, isBefore, isApart, beforeOrAfter}
-use Rattle.rules.specs.Settle.{held, Table, isHeld, isWaiting, isVoid, isAdd, isInsert, heldIn, voidIn, addIn, insertIn, aboveIn, orderIn, ancestorsOf, antichain, validOp, fineBy, ruled, judgeFine, judgeKnown, judgeBy, judgeFrom, judge, round, rounds, start, startAll, settledTable, heldRow, covered, heads, forkedBy, marks, names, removed, tagsOf, tags, rank, anchored, siblings, under, walk, entries, deletes, deleted, valuesOf, list, partsIn, partsOf, causalOrder}
+use Rattle.rules.specs.Settle.{held, Table, isHeld, isWaiting, isVoid, isAdd, isInsert, heldIn, voidIn, addIn, insertIn, aboveIn, orderIn, ancestorsOf, antichain, validOp, fineBy, ruled, judgeFine, judgeKnown, judgeBy, judgeFrom, judge, round, rounds, start, startAll, settledTable, heldRow, covered, heads, forkedBy, marks, names, removed, tagsOf, entriesFrom, setEntries, rank, anchored, siblings, under, walk, entries, deletes, deleted, valuesOf, list, partsIn, partsOf, causalOrder}
 
 -- an update with its stand-in id
 pub record Named : Type 0 where
@@ -39,8 +41,12 @@ by i a ps o = record { name = i; update = record { author = a; preds = ps; op = 
 abbrev pub namedUpdates : List Named → List Update
 namedUpdates ns = map (λ (n : Named). n .update) ns
 
--- the parts that document 01 gives
-unfoldable pub expect : List Named → List Named → List Named → List Named → List ℕ → List (List ℕ) → List (List ℕ) → Parts
+-- the entry of a tag and its adding author
+unfoldable pub added : List ℕ → ℕ → SetEntry
+added t a = record { tag = t; author = a }
+
+-- the parts that document 01 gives, and document 02 for the set
+unfoldable pub expect : List Named → List Named → List Named → List Named → List ℕ → List SetEntry → List (List ℕ) → Parts
 expect h t w v m s l =
     record { held = namedUpdates h; heads = namedUpdates t; waiting = namedUpdates w; void = namedUpdates v; marks = m; set = s; list = l }
 
@@ -71,6 +77,9 @@ abbrev pub #r′ : List ℕ
 
 abbrev pub #c : List ℕ
 #c = 12 ∷ []
+
+abbrev pub #c′ : List ℕ
+#c′ = 14 ∷ []
 
 abbrev pub #p : List ℕ
 #p = 40 ∷ []
@@ -122,6 +131,18 @@ abbrev pub #x″ : List ℕ
 
 abbrev pub #k : List ℕ
 #k = 70 ∷ []
+
+abbrev pub #n : List ℕ
+#n = 71 ∷ []
+
+abbrev pub #n′ : List ℕ
+#n′ = 72 ∷ []
+
+abbrev pub #o : List ℕ
+#o = 73 ∷ []
+
+abbrev pub #o′ : List ℕ
+#o′ = 74 ∷ []
 
 abbrev pub t : List ℕ
 t = 7 ∷ []
@@ -179,9 +200,27 @@ r = by #r 2 [] (Remove t (#a ∷ []))
 unfoldable pub r′ : Named
 r′ = by #r′ 2 (#a ∷ []) (Remove t (#a ∷ []))
 
--- another Add of t
+-- another Add of t by the same author
 unfoldable pub c : Named
-c = by #c 3 [] (Add t)
+c = by #c 1 (#a ∷ []) (Add t)
+
+-- .. and by others
+unfoldable pub c′ : Named
+c′ = by #c′ 3 [] (Add t)
+
+unfoldable pub n : Named
+n = by #n 10 [] (Add t)
+
+unfoldable pub n′ : Named
+n′ = by #n′ 2 [] (Add t)
+
+-- a Remove of t naming those of authors 10 and 2
+unfoldable pub o : Named
+o = by #o 4 (#n ∷ #n′ ∷ []) (Remove t (#n ∷ #n′ ∷ []))
+
+-- .. and that of author 2 alone
+unfoldable pub o′ : Named
+o′ = by #o′ 4 (#n′ ∷ []) (Remove t (#n′ ∷ []))
 
 -- an Insert at the beginning
 unfoldable pub p : Named
@@ -263,27 +302,27 @@ sixteen =
     -- 1. Nothing: all parts empty.
     record { updates = []; gives = expect [] [] [] [] [] [] [] }
     -- 2. a: held, head a.
-    ∷ record { updates = (a ∷ []); gives = expect (a ∷ []) (a ∷ []) [] [] [] (t ∷ []) [] }
+    ∷ record { updates = (a ∷ []); gives = expect (a ∷ []) (a ∷ []) [] [] [] (added t 1 ∷ []) [] }
     -- 3. b only: waiting.
     ∷ record { updates = (b ∷ []); gives = expect [] [] (b ∷ []) [] [] [] [] }
     -- 4. b, then a: both held, head b.
-    ∷ record { updates = (b ∷ a ∷ []); gives = expect (b ∷ a ∷ []) (b ∷ []) [] [] [] (t ∷ t′ ∷ []) [] }
+    ∷ record { updates = (b ∷ a ∷ []); gives = expect (b ∷ a ∷ []) (b ∷ []) [] [] [] (added t 1 ∷ added t′ 1 ∷ []) [] }
     -- 5. a and another root by 1: mark 1.
-    ∷ record { updates = (a ∷ a′ ∷ []); gives = expect (a′ ∷ a ∷ []) (a′ ∷ a ∷ []) [] [] (1 ∷ []) (t ∷ t′ ∷ []) [] }
+    ∷ record { updates = (a ∷ a′ ∷ []); gives = expect (a′ ∷ a ∷ []) (a′ ∷ a ∷ []) [] [] (1 ∷ []) (added t 1 ∷ added t′ 1 ∷ []) [] }
     -- 6. a, b: no mark.
-    ∷ record { updates = (a ∷ b ∷ []); gives = expect (b ∷ a ∷ []) (b ∷ []) [] [] [] (t ∷ t′ ∷ []) [] }
+    ∷ record { updates = (a ∷ b ∷ []); gives = expect (b ∷ a ∷ []) (b ∷ []) [] [] [] (added t 1 ∷ added t′ 1 ∷ []) [] }
     -- 7. a, b, then d after {a, b}: d void.
-    ∷ record { updates = (a ∷ b ∷ d ∷ []); gives = expect (b ∷ a ∷ []) (b ∷ []) [] (d ∷ []) [] (t ∷ t′ ∷ []) [] }
+    ∷ record { updates = (a ∷ b ∷ d ∷ []); gives = expect (b ∷ a ∷ []) (b ∷ []) [] (d ∷ []) [] (added t 1 ∷ added t′ 1 ∷ []) [] }
     -- 8. e after d: void.
-    ∷ record { updates = (a ∷ b ∷ d ∷ e ∷ []); gives = expect (b ∷ a ∷ []) (b ∷ []) [] (e ∷ d ∷ []) [] (t ∷ t′ ∷ []) [] }
+    ∷ record { updates = (a ∷ b ∷ d ∷ e ∷ []); gives = expect (b ∷ a ∷ []) (b ∷ []) [] (e ∷ d ∷ []) [] (added t 1 ∷ added t′ 1 ∷ []) [] }
     -- 9. e after d and a missing id: void.
-    ∷ record { updates = (a ∷ b ∷ d ∷ e′ ∷ []); gives = expect (b ∷ a ∷ []) (b ∷ []) [] (e′ ∷ d ∷ []) [] (t ∷ t′ ∷ []) [] }
+    ∷ record { updates = (a ∷ b ∷ d ∷ e′ ∷ []); gives = expect (b ∷ a ∷ []) (b ∷ []) [] (e′ ∷ d ∷ []) [] (added t 1 ∷ added t′ 1 ∷ []) [] }
     -- 10. a, and a root Remove of t naming a: void.
-    ∷ record { updates = (a ∷ r ∷ []); gives = expect (a ∷ []) (a ∷ []) [] (r ∷ []) [] (t ∷ []) [] }
+    ∷ record { updates = (a ∷ r ∷ []); gives = expect (a ∷ []) (a ∷ []) [] (r ∷ []) [] (added t 1 ∷ []) [] }
     -- 11. The same after a: set empty.
     ∷ record { updates = (a ∷ r′ ∷ []); gives = expect (a ∷ r′ ∷ []) (r′ ∷ []) [] [] [] [] [] }
     -- 12. 11 with another Add of t: t present.
-    ∷ record { updates = (a ∷ r′ ∷ c ∷ []); gives = expect (c ∷ a ∷ r′ ∷ []) (c ∷ r′ ∷ []) [] [] [] (t ∷ []) [] }
+    ∷ record { updates = (a ∷ r′ ∷ c ∷ []); gives = expect (c ∷ a ∷ r′ ∷ []) (c ∷ r′ ∷ []) [] [] [] (added t 1 ∷ []) [] }
     -- 13. Insert p at the beginning, q there after p: list q, p.
     ∷ record { updates = (p ∷ q ∷ []); gives = expect (q ∷ p ∷ []) (q ∷ []) [] [] [] [] (Q ∷ P ∷ []) }
     -- 14. p, q two roots at the beginning, id p under id q: list q, p.
@@ -300,7 +339,7 @@ further =
     -- a cycle of two: both wait
     record { updates = (f ∷ g ∷ []); gives = expect [] [] (f ∷ g ∷ []) [] [] [] [] }
     -- `waits`: author 1 has a held and a waiting update, and no mark
-    ∷ record { updates = (a ∷ w ∷ []); gives = expect (a ∷ []) (a ∷ []) (w ∷ []) [] [] (t ∷ []) [] }
+    ∷ record { updates = (a ∷ w ∷ []); gives = expect (a ∷ []) (a ∷ []) (w ∷ []) [] [] (added t 1 ∷ []) [] }
     -- an Insert whose id is zero: nothing hangs under it, and the walk ends
     ∷ record { updates = (z ∷ y ∷ []); gives = expect (z ∷ y ∷ []) (y ∷ []) [] [] [] [] (Y ∷ Z ∷ []) }
     -- an Insert under a deleted Insert stays; deleting twice is valid
@@ -308,16 +347,28 @@ further =
     -- all that hangs under an entry comes before its next sibling
     ∷ record { updates = (p ∷ k ∷ q′ ∷ i ∷ []); gives = expect (p ∷ q′ ∷ i ∷ k ∷ []) (q′ ∷ i ∷ k ∷ []) [] [] [] [] (Y ∷ Q ∷ P ∷ R ∷ []) }
     -- a Remove that names an Add of another tag is void
-    ∷ record { updates = (a ∷ v ∷ []); gives = expect (a ∷ []) (a ∷ []) [] (v ∷ []) [] (t ∷ []) [] }
+    ∷ record { updates = (a ∷ v ∷ []); gives = expect (a ∷ []) (a ∷ []) [] (v ∷ []) [] (added t 1 ∷ []) [] }
     -- an Insert whose anchor is no ancestor is void
-    ∷ record { updates = (a ∷ p ∷ u ∷ []); gives = expect (a ∷ p ∷ []) (a ∷ p ∷ []) [] (u ∷ []) (1 ∷ []) (t ∷ []) (P ∷ []) }
+    ∷ record { updates = (a ∷ p ∷ u ∷ []); gives = expect (a ∷ p ∷ []) (a ∷ p ∷ []) [] (u ∷ []) (1 ∷ []) (added t 1 ∷ []) (P ∷ []) }
+    -- 12 with the other Add by another author: its author's entry, not that of the Add which was removed or of the Remove
+    ∷ record { updates = (a ∷ r′ ∷ c′ ∷ []); gives = expect (c′ ∷ a ∷ r′ ∷ []) (c′ ∷ r′ ∷ []) [] [] [] (added t 3 ∷ []) [] }
+    -- 12 with both: the tag once for each author
+    ∷ record { updates = (a ∷ r′ ∷ c ∷ c′ ∷ []); gives = expect (c ∷ c′ ∷ a ∷ r′ ∷ []) (c ∷ c′ ∷ r′ ∷ []) [] [] [] (added t 1 ∷ added t 3 ∷ []) [] }
+    -- two Adds of a tag by one author: one entry
+    ∷ record { updates = (a ∷ c ∷ []); gives = expect (c ∷ a ∷ []) (c ∷ []) [] [] [] (added t 1 ∷ []) [] }
+    -- by tag, then by author as a number: author 2 before author 10, and both before a later tag of author 1
+    ∷ record { updates = (a′ ∷ n ∷ n′ ∷ []); gives = expect (a′ ∷ n ∷ n′ ∷ []) (a′ ∷ n ∷ n′ ∷ []) [] [] [] (added t 2 ∷ added t 10 ∷ added t′ 1 ∷ []) [] }
+    -- a Remove that names two authors' Adds leaves the third's
+    ∷ record { updates = (c′ ∷ n ∷ n′ ∷ o ∷ []); gives = expect (c′ ∷ n ∷ n′ ∷ o ∷ []) (c′ ∷ o ∷ []) [] [] [] (added t 3 ∷ []) [] }
+    -- and one that names one author's Add leaves the other's
+    ∷ record { updates = (n ∷ n′ ∷ o′ ∷ []); gives = expect (n ∷ n′ ∷ o′ ∷ []) (n ∷ o′ ∷ []) [] [] [] (added t 10 ∷ []) [] }
     ∷ []
 
 abbrev pub smallLedgers : List Small
 smallLedgers = sixteen ++ further
 
 pub computed : map (λ (c : Small). partsOf (identOf c) (smallSet c)) smallLedgers ≡ map (λ (c : Small). c .gives) smallLedgers
-unfolding sixteen further expect by nameIn encode encodeOperation same before member keep any all concatMap insert sort isHeld isWaiting isVoid isAdd isInsert heldIn voidIn addIn insertIn aboveIn orderIn orderBy isBefore isApart beforeOrAfter ancestorsOf antichain validOp fineBy ruled judgeFine judgeKnown judgeBy judgeFrom judge round rounds start startAll settledTable heldRow covered heads forkedBy marks names removed tagsOf tags rank anchored siblings under walk entries deletes deleted valuesOf list partsIn partsOf a b a′ d e e′ r r′ c p q q′ i x m f g w z y i′ x′ v u k
+unfolding sixteen further expect added by nameIn encode encodeOperation same before member keep any all concatMap insert sort isHeld isWaiting isVoid isAdd isInsert heldIn voidIn addIn insertIn aboveIn orderIn orderBy isBefore isApart beforeOrAfter ancestorsOf antichain validOp fineBy ruled judgeFine judgeKnown judgeBy judgeFrom judge round rounds start startAll settledTable heldRow covered heads forkedBy marks names removed tagsOf entriesFrom setEntries entryKey rank anchored siblings under walk entries deletes deleted valuesOf list partsIn partsOf a b a′ d e e′ r r′ c c′ n n′ o o′ p q q′ i x m f g w z y i′ x′ v u k
 computed = refl
 
 -- no id stands twice
@@ -326,7 +377,7 @@ apart [] = true
 apart (i ∷ is) = not (member i is) && apart is
 
 pub ids-apart : all (λ (c : Small). apart (map (identOf c) (smallSet c))) smallLedgers ≡ true
-unfolding sixteen further by nameIn encode encodeOperation same member all concatMap apart a b a′ d e e′ r r′ c p q q′ i x m f g w z y i′ x′ v u k
+unfolding sixteen further by nameIn encode encodeOperation same member all concatMap apart a b a′ d e e′ r r′ c c′ n n′ o o′ p q q′ i x m f g w z y i′ x′ v u k
 ids-apart = refl
 
 -- Document 02, E4: the four answers, of the set a, b after a, and another root

@@ -6,16 +6,17 @@ use mathlib.Core.List.{List, [], _∷_, map, List·Memᴰ·head, List·Memᴰ·n
 use mathlib.Core.Bool.{Bool, true, false, not, _&&_, false≢true}
 use lib.ListN.{length, length-map}
 use Rattle.bytes_order.specs.Member.{_∈_, keep, any}
-use Rattle.bytes_order.specs.MemberLaws.{∈-cast, ∈-singleton, ∈-map, ∈-keep, keep-∈, any→∈, ∈→any, member→∈, ∈→member}
+use Rattle.bytes_order.specs.MemberLaws.{∈-cast, ∈-singleton, ∈-map, map-∈, ∈-keep, keep-∈, any→∈, ∈→any, member→∈, ∈→member}
 use Rattle.bytes_order.specs.BoolLaws.{not-true→false, and-true→, and-true}
 use Rattle.bytes_order.specs.OrderLaws.{same→eq, eq→same}
 use Rattle.bytes_order.specs.Distinct.{Distinct}
 use Rattle.bytes_order.specs.DistinctLaws.{distinct-eq, distinct-length-lt}
 use Rattle.update_format.specs.Update.{Id, Operation, Add, Remove, Insert, Delete, Update}
 use Rattle.rules.specs.Standing.{beginning, Ancestor, Fine, Held, Valid, InsertAncestor}
+use Rattle.rules.specs.SetEntry.{SetEntry}
 use Rattle.rules.specs.ReadOff.{Rank}
 use Rattle.rules.specs.CausalOrder.{OrderExactly}
-use Rattle.rules.specs.Settle.{Verdict, held, waiting, void, Row, Table, isHeld, orderIn, heldRow, rank, tagsOf, names, deletes, anchored, valuesOf}
+use Rattle.rules.specs.Settle.{Verdict, held, waiting, void, Row, Table, isHeld, orderIn, heldRow, rank, tagsOf, entriesFrom, names, deletes, anchored, valuesOf}
 use Rattle.rules.specs.Decides.{Decides}
 use Rattle.rules.specs.LeastSets.{ancestor-stored, ancestor-trans, held-acyclic, held-ancestors, VerdictSays, says-stored, one-verdict}
 use Rattle.rules.specs.SettlingTable.{Right, SoundTable, HeldRowOf, held-row-of, order-exactly}
@@ -41,6 +42,17 @@ tagsOf-∈ (Delete i) m = absurd (List·Memᴰ·not-nil m)
 pub ∈-tagsOf : {o : Operation} {t : List ℕ} → o ≡ Add t → t ∈ tagsOf o
 unfolding tagsOf
 ∈-tagsOf {o} {t} e = subst (λ (p : Operation). t ∈ tagsOf p) (sym e) (List·Memᴰ·head refl)
+
+pub entriesFrom-∈ : (u : Update) {e : SetEntry} → e ∈ entriesFrom u → (u .op ≡ Add (e .tag)) × (u .author ≡ e .author)
+unfolding entriesFrom
+entriesFrom-∈ u m =
+    let f = map-∈ (λ (t : List ℕ). record { tag = t; author = u .author }) (tagsOf (u .op)) m in
+    (tagsOf-∈ (u .op) (f .1) ∙ ap (λ (e : SetEntry). Add (e .tag)) (f .2), ap (λ (e : SetEntry). e .author) (f .2))
+
+pub ∈-entriesFrom : (u : Update) {e : SetEntry} → u .op ≡ Add (e .tag) → u .author ≡ e .author → e ∈ entriesFrom u
+unfolding entriesFrom
+∈-entriesFrom u {e} h by =
+    ∈-cast (λ i. record { tag = e .tag; author = sym by i }) (∈-map (λ (t : List ℕ). record { tag = t; author = u .author }) (∈-tagsOf h))
 
 pub names→ : (i : Id) (o : Operation) → names i o ≡ true → (t : List ℕ) × (named : List Id) × (o ≡ Remove t named) × (i ∈ named)
 unfolding names

@@ -1,15 +1,16 @@
 -- The report's text can be read back: no digit is a separator, so equal texts have the same lines, part by part.
-use Prim.Native.Nat.{ℕ}
+use Prim.Native.Nat.{ℕ, _≤_}
 use Prim.Native.String.{String}
 use native.Mathlib.Omega.{arith}
 use mathlib.Core.Path.{_≡_, refl, sym, _∙_, ap}
 use mathlib.Core.List.{List, [], _∷_, _++_, map, append-assoc, append-cancel-left, head-eq-of-cons-eq, tail-eq-of-cons-eq}
 use Rattle.bytes_order.specs.Member.{concatMap}
-use Rattle.update_format.specs.Update.{Id, Update}
+use Rattle.update_format.specs.Update.{Id, maxAuthor, Update}
+use Rattle.rules.specs.SetEntry.{SetEntry}
 use Rattle.rules.specs.Parts.{Parts}
 use Rattle.bytes_ascii.specs.Ascii.{codes, ascii, hex, decimal}
-use Rattle.bytes_ascii.specs.AsciiLaws.{hex-injective, hex-digits, decimal-digits, cut}
-use Rattle.rules.specs.Report.{updateLine, bytesLine, idLine, partText, reportText}
+use Rattle.bytes_ascii.specs.AsciiLaws.{hex-injective, hex-digits, decimal-digits, decimal-injective, cut}
+use Rattle.rules.specs.Report.{authorLine, updateLine, setLine, bytesLine, idLine, markLine, partText, reportText}
 
 -- Lines that can be read back: each begins with a bracket, and shows its key, wherever it stands.
 pub record Readable {A : Type 0} (line key : A → List ℕ) : Type 0 where
@@ -42,35 +43,53 @@ module _ {A : Type 0} {line key : A → List ℕ} (readable : Readable line key)
   part-reads word xs ys r r′ e =
       lines-read xs ys r r′ (append-cancel-left (ascii word) (concatMap line xs ++ 41 ∷ 10 ∷ r) (concatMap line ys ++ 41 ∷ 10 ∷ r′) e)
 
--- the lines of the report that show an id
+-- lines with an author: they show their bytes and the author's digits
 
-update-line : (ident : Update → Id) (u : Update) (rest : List ℕ)
-    → updateLine ident u ++ rest ≡ 40 ∷ (hex (ident u) ++ 32 ∷ (decimal (u .author) ++ 41 ∷ 10 ∷ rest))
-unfolding updateLine ascii codes
-update-line ident u rest =
+author-line : (bs : List ℕ) (a : ℕ) (rest : List ℕ) → authorLine bs a ++ rest ≡ 40 ∷ (hex bs ++ 32 ∷ (decimal a ++ 41 ∷ 10 ∷ rest))
+unfolding ascii codes
+author-line bs a rest =
     ap {B = List ℕ} (λ l. 40 ∷ l)
-    (append-assoc (hex (ident u)) (32 ∷ (decimal (u .author) ++ 41 ∷ 10 ∷ [])) rest
-    ∙ ap {B = List ℕ} (λ l. hex (ident u) ++ 32 ∷ l) (append-assoc (decimal (u .author)) (41 ∷ 10 ∷ []) rest))
+    (append-assoc (hex bs) (32 ∷ (decimal a ++ 41 ∷ 10 ∷ [])) rest
+    ∙ ap {B = List ℕ} (λ l. hex bs ++ 32 ∷ l) (append-assoc (decimal a) (41 ∷ 10 ∷ []) rest))
 
-bytes-line : (bs rest : List ℕ) → bytesLine bs ++ rest ≡ 40 ∷ (hex bs ++ 41 ∷ 10 ∷ rest)
-unfolding bytesLine ascii codes
-bytes-line bs rest = ap {B = List ℕ} (λ l. 40 ∷ l) (append-assoc (hex bs) (41 ∷ 10 ∷ []) rest)
+author-line-reads : (bs cs : List ℕ) (a b : ℕ) (r r′ : List ℕ) → authorLine bs a ++ r ≡ authorLine cs b ++ r′ → (bs ≡ cs) × (decimal a ≡ decimal b) × (r ≡ r′)
+author-line-reads bs cs a b r r′ e =
+    let q = tail-eq-of-cons-eq (sym (author-line bs a r) ∙ e ∙ author-line cs b r′) in
+    let h = cut (hex bs) (hex cs) (hex-digits bs) (hex-digits cs) (omega arith) (omega arith) q in
+    let k = cut (decimal a) (decimal b) (decimal-digits a) (decimal-digits b) (omega arith) (omega arith) (h .1) in
+    (hex-injective bs cs (h .0), k .0, tail-eq-of-cons-eq (k .1))
 
 update-readable : (ident : Update → Id) → Readable (updateLine ident) ident
 unfolding updateLine ascii codes
 update-readable ident =
     record {
       opens = λ u. (hex (ident u) ++ (ascii " " ++ (decimal (u .author) ++ ascii ")\n")), refl);
-      reads = λ x y r r′ e. reads x y r r′ (tail-eq-of-cons-eq (sym (update-line ident x r) ∙ e ∙ update-line ident y r′));
+      reads = λ x y r r′ e. let h = author-line-reads (ident x) (ident y) (x .author) (y .author) r r′ e in (h .0, h .2);
     }
-  where
-    reads : (x y : Update) (r r′ : List ℕ)
-        → hex (ident x) ++ 32 ∷ (decimal (x .author) ++ 41 ∷ 10 ∷ r) ≡ hex (ident y) ++ 32 ∷ (decimal (y .author) ++ 41 ∷ 10 ∷ r′)
-        → (ident x ≡ ident y) × (r ≡ r′)
-    reads x y r r′ e =
-        let h = cut (hex (ident x)) (hex (ident y)) (hex-digits (ident x)) (hex-digits (ident y)) (omega arith) (omega arith) e in
-        let k = cut _ _ (decimal-digits (x .author)) (decimal-digits (y .author)) (omega arith) (omega arith) (h .1) in
-        (hex-injective (ident x) (ident y) (h .0), tail-eq-of-cons-eq (k .1))
+
+-- a line of the set shows its entry
+pub set-line-injective : (e f : SetEntry) → e .author ≤ maxAuthor → f .author ≤ maxAuthor → setLine e ≡ setLine f → e ≡ f
+unfolding setLine
+set-line-injective e f h g p =
+    let q = author-line-reads (e .tag) (f .tag) (e .author) (f .author) [] [] (ap (λ (l : List ℕ). l ++ []) p) in
+    let a = decimal-injective (e .author) (f .author) (omega arith) (omega arith) (q .1) in
+    λ i. record { tag = q .0 i; author = a i }
+
+set-readable : Readable setLine setLine
+unfolding setLine ascii codes
+set-readable =
+    record {
+      opens = λ e. (hex (e .tag) ++ (ascii " " ++ (decimal (e .author) ++ ascii ")\n")), refl);
+      reads = λ e f r r′ p.
+          let h = author-line-reads (e .tag) (f .tag) (e .author) (f .author) r r′ p in
+          (λ i. ascii "(" ++ (hex (h .0 i) ++ (ascii " " ++ (h .1 i ++ ascii ")\n"))), h .2);
+    }
+
+-- other lines
+
+bytes-line : (bs rest : List ℕ) → bytesLine bs ++ rest ≡ 40 ∷ (hex bs ++ 41 ∷ 10 ∷ rest)
+unfolding bytesLine ascii codes
+bytes-line bs rest = ap {B = List ℕ} (λ l. 40 ∷ l) (append-assoc (hex bs) (41 ∷ 10 ∷ []) rest)
 
 pub bytes-readable : Readable bytesLine (λ (bs : List ℕ). bs)
 unfolding bytesLine ascii codes
@@ -89,17 +108,33 @@ id-readable : (ident : Update → Id) → Readable (idLine ident) ident
 unfolding idLine
 id-readable ident = record { opens = λ u. bytes-readable .opens (ident u); reads = λ x y. bytes-readable .reads (ident x) (ident y) }
 
--- equal texts show the same ids, part by part
-pub record SameIds (ident : Update → Id) (P Q : Parts) : Type 0 where
+mark-readable : Readable markLine decimal
+unfolding markLine ascii codes
+mark-readable =
+    record {
+      opens = λ a. (decimal a ++ ascii ")\n", refl);
+      reads = λ a b r r′ e. reads a b r r′ (sym (append-assoc (decimal a) (41 ∷ 10 ∷ []) r) ∙ tail-eq-of-cons-eq e ∙ append-assoc (decimal b) (41 ∷ 10 ∷ []) r′);
+    }
+  where
+    reads : (a b : ℕ) (r r′ : List ℕ) → decimal a ++ 41 ∷ 10 ∷ r ≡ decimal b ++ 41 ∷ 10 ∷ r′ → (decimal a ≡ decimal b) × (r ≡ r′)
+    reads a b r r′ e =
+        let h = cut (decimal a) (decimal b) (decimal-digits a) (decimal-digits b) (omega arith) (omega arith) e in
+        (h .0, tail-eq-of-cons-eq (h .1))
+
+-- equal texts show the same ids, part by part, and the same lines of the set
+pub record SameShown (ident : Update → Id) (P Q : Parts) : Type 0 where
   pub held-ids : map ident (P .held) ≡ map ident (Q .held)
   pub waiting-ids : map ident (P .waiting) ≡ map ident (Q .waiting)
   pub void-ids : map ident (P .void) ≡ map ident (Q .void)
+  pub set-lines : map setLine (P .set) ≡ map setLine (Q .set)
 
-pub text-ids : (ident : Update → Id) (P Q : Parts) → reportText ident P ≡ reportText ident Q → SameIds ident P Q
+pub text-shows : (ident : Update → Id) (P Q : Parts) → reportText ident P ≡ reportText ident Q → SameShown ident P Q
 unfolding reportText
-text-ids ident P Q e =
+text-shows ident P Q e =
     let h = part-reads (update-readable ident) "(held\n" _ _ _ _ (append-cancel-left (ascii "(ledger 1\n") _ _ e) in
     let t = part-reads (id-readable ident) "(heads\n" _ _ _ _ (h .1) in
     let w = part-reads (update-readable ident) "(waiting\n" _ _ _ _ (t .1) in
     let v = part-reads (update-readable ident) "(void\n" _ _ _ _ (w .1) in
-    record { held-ids = h .0; waiting-ids = w .0; void-ids = v .0 }
+    let m = part-reads mark-readable "(marks\n" _ _ _ _ (v .1) in
+    let s = part-reads set-readable "(set\n" _ _ _ _ (m .1) in
+    record { held-ids = h .0; waiting-ids = w .0; void-ids = v .0; set-lines = s .0 }

@@ -5,6 +5,7 @@ use mathlib.Core.Bool.{Bool, true, false}
 use Rattle.bytes_order.specs.Member.{concatMap}
 use Rattle.update_format.specs.Update.{Id, Operation, Add, Remove, Insert, Delete}
 use Rattle.update_format.specs.Decode.{Decoded, refused, update}
+use Rattle.rules.specs.SetEntry.{SetEntry}
 use Rattle.rules.specs.Settle.{tagsOf, valuesOf}
 
 -- it is an update whose operation passes a test
@@ -41,3 +42,7 @@ anchorOf (Delete i) = []
 unfoldable pub anchorIn : Decoded → Id
 anchorIn (refused n) = []
 anchorIn (update u) = anchorOf (u .op)
+
+-- the set entry of an Add
+abbrev pub setEntryIn : Decoded → SetEntry
+setEntryIn d = record { tag = tagIn d; author = authorIn d }

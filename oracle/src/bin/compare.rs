@@ -14,7 +14,7 @@ use std::sync::mpsc;
 use std::time::{Duration, Instant};
 
 /// Stored sessions that must be there.
-const STORED: usize = 43;
+const STORED: usize = 46;
 /// Random sets for each kind; each is offered in two orders, so gives two sessions.
 const SETS_PER_KIND: u64 = 140;
 /// Inputs that pass the limit.
@@ -33,7 +33,7 @@ const NO_END: &str = "no end of its output in time and size";
 const SHOWN: usize = 5;
 
 /// Answers and report parts that the random sessions must show, each in at least 20 sessions.
-const COVERED: [&str; 29] = [
+const COVERED: [&str; 32] = [
     "(taken held 1 0)",
     "(taken held 2 0)",
     "(taken held 1 1)",
@@ -59,6 +59,9 @@ const COVERED: [&str; 29] = [
     "some void",
     "some marks",
     "some set",
+    "a tag of 2 authors",
+    "a tag of 3 authors",
+    "a tag of authors 9 or below and 10 or above",
     "some list",
     "64 stored",
     "over 16 list",
@@ -179,6 +182,13 @@ impl Tally {
             let start = report.find(&format!("\n({part}\n")).unwrap() + part.len() + 3;
             report[start..].lines().position(|l| l == ")").unwrap()
         };
+        // The authors of each tag of the set, as the lines `(TAG author)` show them.
+        let mut authors: BTreeMap<&str, Vec<u8>> = BTreeMap::new();
+        let set = report.find("\n(set\n").unwrap() + "\n(set\n".len();
+        for entry in report[set..].lines().take_while(|&l| l != ")") {
+            let (tag, author) = entry[1..entry.len() - 1].split_once(' ').unwrap();
+            authors.entry(tag).or_default().push(author.parse().unwrap());
+        }
         for what in COVERED {
             let shown = match what {
                 "some held" => size("held") > 0,
@@ -188,6 +198,11 @@ impl Tally {
                 "some marks" => size("marks") > 0,
                 "2 marks" => size("marks") > 1,
                 "some set" => size("set") > 0,
+                "a tag of 2 authors" => authors.values().any(|by| by.len() > 1),
+                "a tag of 3 authors" => authors.values().any(|by| by.len() > 2),
+                "a tag of authors 9 or below and 10 or above" => {
+                    authors.values().any(|by| by.iter().any(|&a| a < 10) && by.iter().any(|&a| a >= 10))
+                }
                 "some list" => size("list") > 0,
                 "over 16 list" => size("list") > 16,
                 "64 stored" => size("held") + size("waiting") + size("void") == 64,

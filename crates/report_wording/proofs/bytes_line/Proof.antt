@@ -8,17 +8,17 @@ use Rattle.report_wording.proofs.bytes_line.Statement.{statement}
 use Rattle.report_wording.proofs.bytes_line.Tie as tie
 
 -- places of the code, each from a later one
-abbrev put→start : tie.After-put → tie.Start
-put→start c = c .before .before .before .before .before
+abbrev open-bytes→start : tie.After-open-bytes → tie.Start
+open-bytes→start c = c .before .before .before .before
 
-abbrev hex→put : tie.After-hex → tie.After-put
-hex→put c = c .before .before .before .before
+abbrev put→open-bytes : tie.After-put → tie.After-open-bytes
+put→open-bytes c = c .before .before .before .before .before
 
-abbrev put2→hex : tie.After-put2 → tie.After-hex
-put2→hex c = c .before .before .before .before .before
+abbrev slice-known3→put : tie.After-slice-known3 → tie.After-put
+slice-known3→put c = c .before .before
 
-abbrev slice-known4→put2 : tie.After-slice-known4 → tie.After-put2
-slice-known4→put2 c = c .before .before
+open-bytes-requires : tie.Need-open-bytes-requires
+open-bytes-requires c κs = search needs
 
 slice-aggregate-put : tie.Need-slice-aggregate-put
 slice-aggregate-put c = search needs
@@ -26,33 +26,22 @@ slice-aggregate-put c = search needs
 put-requires : tie.Need-put-requires
 put-requires c κs = search needs
 
-hex-requires : tie.Need-hex-requires
-hex-requires c κs = search needs
-
-slice-aggregate-put-2 : tie.Need-slice-aggregate-put-2
-slice-aggregate-put-2 c = search needs
-
-put-requires-2 : tie.Need-put-requires-2
-put-requires-2 c κs = search needs
-
 same-length : tie.Need-same-length
 same-length c = search needs
 
 returns : tie.Need-returns
 returns c =
-    let at-put2 = slice-known4→put2 c in
-    let at-hex = put2→hex at-put2 in
-    let at-put = hex→put at-hex in
-    let at-start = put→start at-put in
+    let at-put = slice-known3→put c in
+    let at-open-bytes = put→open-bytes at-put in
+    let at-start = open-bytes→start at-open-bytes in
     let args = at-start .args in
-    let put′ = at-put .put in
-    let hex′ = at-hex .hex in
-    let put2 = at-put2 .put2 in (
-      same-text (bytes-line (now (args .bytes))) (both (put′ .ensures) (both (hex′ .ensures .0) (put2 .ensures))),
-      omega (arith, put2 .ensures .past, hex′ .ensures .1, put′ .ensures .past),
+    let open′ = at-open-bytes .open-bytes in
+    let put′ = at-put .put in (
+      same-text (bytes-line (now (args .bytes))) (both (open′ .ensures .0) (put′ .ensures)),
+      omega (arith, put′ .ensures .past, open′ .ensures .1),
     )
 
 pub bytes-line-spec : {M : Type 1} → statement M
 bytes-line-spec =
     tie.close
-    (tie.spec slice-aggregate-put put-requires hex-requires slice-aggregate-put-2 put-requires-2 same-length returns)
+    (tie.spec open-bytes-requires slice-aggregate-put put-requires same-length returns)

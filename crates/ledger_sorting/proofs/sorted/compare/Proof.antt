@@ -1,11 +1,12 @@
 -- `compare` meets its contract, by the key.
-use mathlib.Core.Path.{sym, ap, _∙_}
+use mathlib.Core.Path.{_≡_, sym, ap, _∙_, subst}
+use mathlib.Core.Bool.{true}
 use borrow.Author.Needs.{needs}
 use denote.Ref.{now}
 use Rattle.bytes_order.specs.Compare.{orderOf}
 use Rattle.ledger_state.specs.View.{placeOf}
 use Rattle.ledger_sorting.specs.declared.Key.{Key}
-use Rattle.ledger_sorting.specs.PlaceLists.{keyIn}
+use Rattle.ledger_sorting.specs.PlaceLists.{keyIn, hasKey}
 use Rattle.ledger_sorting.proofs.sorted.compare.Statement.{statement}
 use Rattle.ledger_sorting.proofs.sorted.compare.Tie as tie
 
@@ -25,8 +26,17 @@ compare-ids-requires c κs = search needs
 enum-told-2 : tie.Need-enum-told-2
 enum-told-2 c = search needs
 
-compare-tags-requires : tie.Need-compare-tags-requires
-compare-tags-requires c κs = search needs
+compare-entries-requires : tie.Need-compare-entries-requires
+compare-entries-requires c κs =
+    let at-start = enum-told2→start c in
+    let args = at-start .args in
+    let pre = at-start .pre in
+    let chosen = c .enum-told2 .given .1 in
+    record {
+      two-places = pre .two-places;
+      own-keyed = subst (λ (y : Key). hasKey (now (args .store)) y (placeOf (args .own)) (args .j) ≡ true) chosen (pre .own-keyed);
+      other-keyed = subst (λ (y : Key). hasKey (now (args .store)) y (placeOf (args .other)) (args .k) ≡ true) chosen (pre .other-keyed);
+    }
 
 returns : tie.Need-returns
 returns c =
@@ -40,9 +50,9 @@ returns-2 c =
     let at-enum-told2 = c .before in
     let at-start = enum-told2→start at-enum-told2 in
     let args = at-start .args in
-    c .compare-tags .ensures ∙ ap (λ (y : Key). orderOf (keyIn (now (args .store)) y (placeOf (args .own)) (args .j)) (keyIn (now (args .store)) y (placeOf (args .other)) (args .k))) (sym (at-enum-told2 .enum-told2 .given .1))
+    c .compare-entries .ensures ∙ ap (λ (y : Key). orderOf (keyIn (now (args .store)) y (placeOf (args .own)) (args .j)) (keyIn (now (args .store)) y (placeOf (args .other)) (args .k))) (sym (at-enum-told2 .enum-told2 .given .1))
 
 pub compare-spec : {M : Type 1} → statement M
 compare-spec =
     tie.close
-    (tie.spec enum-told compare-ids-requires enum-told-2 compare-tags-requires returns returns-2)
+    (tie.spec enum-told compare-ids-requires enum-told-2 compare-entries-requires returns returns-2)

@@ -1,5 +1,5 @@
 -- `insert` meets its contract. The loop's invariant: the place goes among those from the i-th on.
-use Prim.Native.Nat.{_-_, _≤_}
+use Prim.Native.Nat.{ℕ, _-_, _≤_}
 use mathlib.Core.Path.{_≡_, refl, sym, _∙_}
 use mathlib.Core.List.{_++_}
 use native.Mathlib.Omega.{arith}
@@ -7,9 +7,10 @@ use borrow.Author.Needs.{needs}
 use lib.ListN.{getD, take, drop}
 use denote.Ref.{now}
 use Rattle.bytes_order.specs.Sort.{insert}
+use Rattle.ledger_state.specs.State.{placeAt}
 use Rattle.ledger_state.specs.View.{bookOf}
-use Rattle.ledger_sorting.specs.PlaceLists.{placesIn, keyOf}
-use Rattle.ledger_sorting.proofs.Inserting.{next, passed, ended, below, renamed}
+use Rattle.ledger_sorting.specs.PlaceLists.{placesIn, hasKey, keyOf}
+use Rattle.ledger_sorting.proofs.Inserting.{next, passed, ended, below, listed-passes, renamed}
 use Rattle.ledger_sorting.proofs.Sorting.{less, equal, greater, over}
 use Rattle.ledger_sorting.proofs.sorted.insert.Statement.{statement}
 use Rattle.ledger_sorting.proofs.sorted.insert.Tie as tie
@@ -68,7 +69,7 @@ mul-compare c =
     let at-start = loop→start at-loop in
     let args = at-start .args in
     let pre = at-start .pre in
-    omega (arith, below (args .t4) (pre .is-list) (at-loop .loop .i) (search needs))
+    omega (arith, below (args .t4) (pre .room-for .is-list) (at-loop .loop .i) (search needs))
 
 element-copy-out-compare : tie.Need-element-copy-out-compare Inv-loop μ-loop
 element-copy-out-compare c =
@@ -76,7 +77,7 @@ element-copy-out-compare c =
     let at-start = loop→start at-loop in
     let args = at-start .args in
     let pre = at-start .pre in
-    omega (arith, below (args .t4) (pre .is-list) (at-loop .loop .i) (search needs))
+    omega (arith, below (args .t4) (pre .room-for .is-list) (at-loop .loop .i) (search needs))
 
 compare-requires : tie.Need-compare-requires Inv-loop μ-loop
 compare-requires c κs =
@@ -84,7 +85,12 @@ compare-requires c κs =
     let at-start = loop→start at-loop in
     let pre = at-start .pre in
     let args = at-start .args in
-    record { first-within = pre .place-within; second-within = below (args .t4) (pre .is-list) (at-loop .loop .i) (search needs) }
+    let i = at-loop .loop .i in
+    record {
+      two-places = record { first-within = pre .room-for .place-within; second-within = below (args .t4) (pre .room-for .is-list) i (search needs) };
+      own-keyed = pre .own-keyed;
+      other-keyed = listed-passes (args .t4) (pre .room-for .is-list) i (λ (k : ℕ). hasKey (now (args .store)) (args .key) (placeAt (bookOf (args .t1)) k) k) (pre .listed-keyed) (search needs);
+    }
 
 enum-told : tie.Need-enum-told Inv-loop μ-loop
 enum-told c = search needs
@@ -93,7 +99,7 @@ insert-requires : tie.Need-insert-requires Inv-loop μ-loop
 insert-requires c κs =
     let at-start = loop→start (compare→loop (enum-told→compare c)) in
     let pre = at-start .pre in
-    record { room-for = pre; index-within = search needs }
+    record { room-for = pre .room-for; index-within = search needs }
 
 returns : tie.Need-returns Inv-loop μ-loop
 returns c =
@@ -108,7 +114,7 @@ returns c =
     let key = keyOf (bookOf (args .t1)) (now (args .store)) (args .key) in
     let xs = placesIn (args .t4) in
     let k = getD (args .t4 .items) (loop .i) 0 in
-    let d = next (args .t4) (pre .is-list) (loop .i) (search needs) in
+    let d = next (args .t4) (pre .room-for .is-list) (loop .i) (search needs) in
     (renamed (less key (args .j) xs (loop .i) k (loop .inv .1) d (sym (at-enum-told .enum-told .given .1) ∙ at-compare .compare .ensures)) (insert .ensures .0), omega (arith, insert .ensures .1))
 
 enum-told-2 : tie.Need-enum-told-2 Inv-loop μ-loop
@@ -125,8 +131,8 @@ returns-2 c =
     let key = keyOf (bookOf (args .t1)) (now (args .store)) (args .key) in
     let xs = placesIn (args .t4) in
     let k = getD (args .t4 .items) (loop .i) 0 in
-    let d = next (args .t4) (pre .is-list) (loop .i) (search needs) in
-    (record { is-list = pre .is-list; are = equal key (args .j) xs (loop .i) k (loop .inv .1) d (sym (c .enum-told2 .given .1) ∙ at-compare .compare .ensures) }, search needs)
+    let d = next (args .t4) (pre .room-for .is-list) (loop .i) (search needs) in
+    (record { is-list = pre .room-for .is-list; are = equal key (args .j) xs (loop .i) k (loop .inv .1) d (sym (c .enum-told2 .given .1) ∙ at-compare .compare .ensures) }, search needs)
 
 enum-told-3 : tie.Need-enum-told-3 Inv-loop μ-loop
 enum-told-3 c = search needs
@@ -148,14 +154,14 @@ loop-again c =
     let key = keyOf (bookOf (args .t1)) (now (args .store)) (args .key) in
     let xs = placesIn (args .t4) in
     let k = getD (args .t4 .items) (loop .i) 0 in
-    let d = next (args .t4) (pre .is-list) (loop .i) (search needs) in
-    (search needs, greater key (args .j) xs (loop .i) k (loop .inv .1) d (passed (args .t4) (pre .is-list) (loop .i) (search needs)) (sym (c .enum-told3 .given .1) ∙ at-compare .compare .ensures))
+    let d = next (args .t4) (pre .room-for .is-list) (loop .i) (search needs) in
+    (search needs, greater key (args .j) xs (loop .i) k (loop .inv .1) d (passed (args .t4) (pre .room-for .is-list) (loop .i) (search needs)) (sym (c .enum-told3 .given .1) ∙ at-compare .compare .ensures))
 
 insert-requires-2 : tie.Need-insert-requires-2 Inv-loop μ-loop
 insert-requires-2 c κs =
     let at-start = loop→start (c .before) in
     let pre = at-start .pre in
-    record { room-for = pre; index-within = search needs }
+    record { room-for = pre .room-for; index-within = search needs }
 
 returns-3 : tie.Need-returns-3 Inv-loop μ-loop
 returns-3 c =
@@ -168,7 +174,7 @@ returns-3 c =
     let key = keyOf (bookOf (args .t1)) (now (args .store)) (args .key) in
     let xs = placesIn (args .t4) in
     let k = getD (args .t4 .items) (loop .i) 0 in
-    (renamed (over key (args .j) xs (loop .i) k (loop .inv .1) (ended (args .t4) (pre .is-list) (loop .i) (search needs))) (insert2 .ensures .0), omega (arith, insert2 .ensures .1))
+    (renamed (over key (args .j) xs (loop .i) k (loop .inv .1) (ended (args .t4) (pre .room-for .is-list) (loop .i) (search needs))) (insert2 .ensures .0), omega (arith, insert2 .ensures .1))
 
 pub insert-spec : {M : Type 1} → statement M
 insert-spec =

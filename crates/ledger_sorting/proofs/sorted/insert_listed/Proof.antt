@@ -7,6 +7,7 @@ use Rattle.bytes_order.specs.Sort.{insert}
 use Rattle.ledger_state.specs.View.{bookOf}
 use Rattle.ledger_sorting.specs.PlaceLists.{placesIn, keyOf}
 use Rattle.ledger_sorting.proofs.Inserting.{renamed}
+use Rattle.ledger_sorting.proofs.Keys.{candidate-keyed}
 use Rattle.ledger_sorting.proofs.sorted.insert_listed.Statement.{statement}
 use Rattle.ledger_sorting.proofs.sorted.insert_listed.Tie as tie
 
@@ -19,8 +20,14 @@ candidate-requires c κs = search needs
 
 insert-requires : tie.Need-insert-requires
 insert-requires c κs =
-    let at-start = candidate→start (c .before) in
-    at-start .pre .room-for
+    let at-candidate = c .before in
+    let at-start = candidate→start at-candidate in
+    let args = at-start .args in
+    record {
+      room-for = at-start .pre .room-in .room-for;
+      own-keyed = candidate-keyed (bookOf (args .l)) (now (args .store)) (args .key) (args .k) (sym (at-candidate .candidate .ensures) ∙ c .if1 .taken);
+      listed-keyed = at-start .pre .listed-keyed;
+    }
 
 returns : tie.Need-returns
 returns c =
@@ -37,7 +44,7 @@ returns-2 c =
     let at-candidate = c .before in
     let at-start = candidate→start at-candidate in
     let args = at-start .args in (
-      record { is-list = at-start .pre .room-for .is-list; are = ap (λ (b : Bool). cond b (insert (keyOf (bookOf (args .l)) (now (args .store)) (args .key)) (args .k) (placesIn (args .places))) (placesIn (args .places))) (sym (sym (at-candidate .candidate .ensures) ∙ c .if1 .left)) },
+      record { is-list = at-start .pre .room-in .room-for .is-list; are = ap (λ (b : Bool). cond b (insert (keyOf (bookOf (args .l)) (now (args .store)) (args .key)) (args .k) (placesIn (args .places))) (placesIn (args .places))) (sym (sym (at-candidate .candidate .ensures) ∙ c .if1 .left)) },
       search needs,
     )
 

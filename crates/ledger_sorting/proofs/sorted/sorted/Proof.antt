@@ -1,12 +1,15 @@
 -- `sorted` meets its contract. The loop's invariant: the list has the listed places from k on.
 use Prim.Native.Nat.{_+_, _≤_}
-use mathlib.Core.Path.{sym}
+use mathlib.Core.Path.{sym, ap, _∙_}
 use native.Mathlib.Omega.{arith}
 use borrow.Author.Needs.{needs}
 use denote.Ref.{now}
+use lib.ListN.{drop}
 use Rattle.ledger_state.specs.View.{bookOf}
-use Rattle.ledger_sorting.specs.PlaceLists.{Lists, keyOf, candidate, sortedBy}
+use Rattle.bitset.specs.Below.{upTo}
+use Rattle.ledger_sorting.specs.PlaceLists.{Lists, keyOf, candidate, keyed, sortedBy}
 use Rattle.ledger_sorting.proofs.Inserting.{renamed}
+use Rattle.ledger_sorting.proofs.Keys.{sorted-keyed}
 use Rattle.ledger_sorting.proofs.Sorting.{from, from-end, from-step, from-all}
 use Rattle.ledger_sorting.proofs.sorted.sorted.Statement.{statement}
 use Rattle.ledger_sorting.proofs.sorted.sorted.Tie as tie
@@ -60,9 +63,17 @@ insert-listed-requires : tie.Need-insert-listed-requires Inv-loop μ-loop
 insert-listed-requires c κs =
     let at-loop = c .before in
     let at-start = loop→start at-loop in
+    let args = at-start .args in
+    let loop = at-loop .loop in
+    let listed = loop .inv .2 in
+    let l = bookOf (args .l) in
+    let s = now (args .store) in
     record {
-      used-within = at-start .pre;
-      room-for = record { is-list = at-loop .loop .inv .2 .is-list; room = omega arith; place-within = omega arith };
+      room-in = record {
+        used-within = at-start .pre;
+        room-for = record { is-list = listed .is-list; room = omega arith; place-within = omega arith };
+      };
+      listed-keyed = ap (keyed l s (args .key)) (listed .are) ∙ sorted-keyed l s (args .key) (keyOf l s (args .key)) (drop (loop .k) (upTo (args .l .used)));
     }
 
 loop-less : tie.Need-loop-less Inv-loop μ-loop

@@ -1,10 +1,10 @@
--- `open_id` meets its contract.
+-- `open_bytes` meets its contract.
 use native.Mathlib.Omega.{arith}
 use borrow.Author.Needs.{needs}
 use Rattle.bytes_print.proofs.Printing.{both, same-text}
 use Rattle.report_wording.proofs.LineLaws.{open-bytes}
-use Rattle.report_wording.proofs.open_id.Statement.{statement}
-use Rattle.report_wording.proofs.open_id.Tie as tie
+use Rattle.report_wording.proofs.open_bytes.Statement.{statement}
+use Rattle.report_wording.proofs.open_bytes.Tie as tie
 
 -- places of the code, each from a later one
 abbrev hex→put : tie.After-hex → tie.After-put
@@ -33,7 +33,7 @@ returns c =
     let hex′ = at-hex .hex in
     (same-text (open-bytes _) (both (put′ .ensures) (hex′ .ensures .0)), omega (arith, put′ .ensures .past, hex′ .ensures .1))
 
-pub open-id-spec : {M : Type 1} → statement M
-open-id-spec =
+pub open-bytes-spec : {M : Type 1} → statement M
+open-bytes-spec =
     tie.close
     (tie.spec slice-aggregate-put put-requires hex-requires same-length returns)
