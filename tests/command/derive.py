@@ -325,8 +325,8 @@ z8 = add(8, [], T4)
 r4 = remove(13, [z8], T4, [z8])
 z9, z1 = add(9, [r4], T4), add(1, [r4], T4)
 w10, w2 = add(10, [n10], T5), add(2, [m2], T5)
-mills = [low, m2, m10, n10, r1, x4, x11, x12, r2, y1, y2, r3, z8, r4, z9, z1, w10, w2]
-session("two-mills", [(w, H1) for w in mills], held=mills, heads=[low, r1, x12, r2, y2, r3, z9, z1, w10, w2],
+shared = [low, m2, m10, n10, r1, x4, x11, x12, r2, y1, y2, r3, z8, r4, z9, z1, w10, w2]
+session("shared-tags", [(w, H1) for w in shared], held=shared, heads=[low, r1, x12, r2, y2, r3, z9, z1, w10, w2],
         set=[(TAG(1), 15), (T1, 10), (T2, 12), (T3, 6), (T4, 1), (T4, 9), (T5, 2), (T5, 10)])
 
 # Zero ids: the beginning as an anchor, an ordinary id elsewhere.
@@ -402,14 +402,14 @@ rye = insert(2, [barley], barley, text16("rye"))
 later = add(1, [hours], text16("mon 10-12"))
 oats = insert(3, [rye, later], Z, text16("oats"))
 gone = remove(2, [oats], text16("mon 08-10"), [hours])
-mill6 = add(6, [gone], text16("mon 10-12"))
+same_hours = add(6, [gone], text16("mon 10-12"))
 tue = add(4, [gone, b"\xab" * 32], text16("tue 08-10"))
 wrong = remove(5, [], text16("mon 08-10"), [hours])
 session("example",
-        [(barley, W), (hours, "taken held 2 0"), (rye, H1), (later, H1), (oats, H1), (gone, H1), (mill6, H1), (tue, W),
-         (wrong, V1), (hours, "known held"), (b"\1\2", "refused 2"), ("hello", "unread")],
-        held=[hours, barley, rye, later, oats, gone, mill6], heads=[mill6], waiting=[tue], void=[wrong], marks=[1],
-        set=[(text16("mon 10-12"), 1), (text16("mon 10-12"), 6)],
+        [(barley, W), (hours, "taken held 2 0"), (rye, H1), (later, H1), (oats, H1), (gone, H1), (same_hours, H1),
+         (tue, W), (wrong, V1), (hours, "known held"), (b"\1\2", "refused 2"), ("hello", "unread")],
+        held=[hours, barley, rye, later, oats, gone, same_hours], heads=[same_hours], waiting=[tue], void=[wrong],
+        marks=[1], set=[(text16("mon 10-12"), 1), (text16("mon 10-12"), 6)],
         list=[text16("oats"), text16("barley"), text16("rye")])
 
 

@@ -22,11 +22,11 @@ use Rattle.ledger_sorting.specs.declared.Key.the-variants.{Id, SetEntry}
 use Rattle.ledger_sorting.specs.PlaceLists.{hasKey, candidate, keyed}
 
 -- the entries of two Adds: by how their tags stand to each other, o, then by author
-pub entries-order : (b b′ : List ℕ) {o : Order} → testOf isAnyAdd (decode b) ≡ true → testOf isAnyAdd (decode b′) ≡ true
+pub set-entries-order : (b b′ : List ℕ) {o : Order} → testOf isAnyAdd (decode b) ≡ true → testOf isAnyAdd (decode b′) ≡ true
     → o ≡ orderOf (tagIn (decode b)) (tagIn (decode b′))
     → thenBy o (orderOf (authorIn (decode b) ∷ []) (authorIn (decode b′) ∷ [])) ≡ orderOf (entryKey (setEntryIn (decode b))) (entryKey (setEntryIn (decode b′)))
 unfolding entryKey
-entries-order b b′ h g e =
+set-entries-order b b′ h g e =
     ap (λ (o : Order). thenBy o (orderOf (authorIn (decode b) ∷ []) (authorIn (decode b′) ∷ []))) e
     ∙ sym (order-append (tagIn (decode b)) (tagIn (decode b′)) (authorIn (decode b) ∷ []) (authorIn (decode b′) ∷ []) (add-tag-length b h ∙ sym (add-tag-length b′ g)))
 

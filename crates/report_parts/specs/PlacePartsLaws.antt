@@ -16,8 +16,8 @@ use Rattle.bytes_order.specs.SortLaws.{sort-unique, same-sort, sort-map, ascend
 use Rattle.update_format.specs.Update.{Id, maxAuthor, Operation, Add, Remove, Insert, Delete, Update}
 use Rattle.rules.specs.SetEntry.{SetEntry, entryKey}
 use Rattle.rules.specs.SetEntryLaws.{entry-key-identifies}
-use Rattle.rules.specs.Settle.{Row, Table, heldRow, forkedBy, marks, names, removed, tagsOf, entriesFrom, setEntries, settledTable}
-use Rattle.rules.specs.TableLaws.{entriesFrom-∈, ∈-entriesFrom}
+use Rattle.rules.specs.Settle.{Row, Table, heldRow, forkedBy, marks, names, removed, tagsOf, setEntriesFrom, setEntries, settledTable}
+use Rattle.rules.specs.TableLaws.{setEntriesFrom-∈, ∈-setEntriesFrom}
 use Rattle.bitset.specs.Below.{upTo}
 use Rattle.bitset.specs.BelowLaws.{anyBelow→, anyBelow←, upTo-∈, ∈-upTo, upTo-ascending}
 use Rattle.update_fields.specs.Fields.{testOf, isAnyAdd, tagIn}
@@ -97,27 +97,27 @@ module _ {l : Book} {s : List ℕ} {us : List Update} (stands : Stands l s us) w
       and-agrees (heldRow (rowAt us k)) (held-agrees stands k h)
       (λ e. ap (λ (i : Id). not (removed (settledTable ident us) i)) (row-id stands h) ∙ ap not (op-test-agrees stands (names (idAt l s k))))
 
-  entry-of : {k : ℕ} {e : SetEntry} → k < length us → updateAt us k .op ≡ Add (e .tag) → updateAt us k .author ≡ e .author → setEntryAt l s k ≡ e
+  set-entry-of : {k : ℕ} {e : SetEntry} → k < length us → updateAt us k .op ≡ Add (e .tag) → updateAt us k .author ≡ e .author → setEntryAt l s k ≡ e
   unfolding setEntryAt authorAt tagIn tagsOf concatMap
-  entry-of {e = e} h o by =
+  set-entry-of {e = e} h o by =
       let tag = ap tagIn (place-decoded stands h) ∙ ap (λ (p : Operation). concatMap (λ (t : List ℕ). t) (tagsOf p)) o ∙ append-nil (e .tag) in
       let author = place-author stands h ∙ by in
       λ i. record { tag = tag i; author = author i }
 
-  entered→ : {e : SetEntry} → e ∈ concatMap (λ (k : ℕ). entriesFrom (updateAt us k)) (keep keptAt (idOrder l s)) → e ∈ map (setEntryAt l s) (keep (presentAt l s) (upTo (l .used)))
+  entered→ : {e : SetEntry} → e ∈ concatMap (λ (k : ℕ). setEntriesFrom (updateAt us k)) (keep keptAt (idOrder l s)) → e ∈ map (setEntryAt l s) (keep (presentAt l s) (upTo (l .used)))
   unfolding keptAt presentAt
   entered→ {e} m =
-      let f = concatMap-∈ (λ (k : ℕ). entriesFrom (updateAt us k)) (keep keptAt (idOrder l s)) m in
+      let f = concatMap-∈ (λ (k : ℕ). setEntriesFrom (updateAt us k)) (keep keptAt (idOrder l s)) m in
       let g = keep-∈ keptAt (idOrder l s) (f .1) in
       let h = order-∈ stands (g .0) in
-      let o = entriesFrom-∈ (updateAt us (f .0)) (f .2) in
+      let o = setEntriesFrom-∈ (updateAt us (f .0)) (f .2) in
       let b = and-true→ (heldAt l s (f .0)) (not (removedAt l s (idAt l s (f .0)))) (g .1) in
-      ∈-cast (sym (entry-of h (o .0) (o .1)))
+      ∈-cast (sym (set-entry-of h (o .0) (o .1)))
       (∈-map (setEntryAt l s) (∈-keep (presentAt l s) (∈-upTo (l .used) (to-used stands h))
       (and-true (heldAt l s (f .0)) (testOf isAnyAdd (decodedAt l s (f .0)) && not (removedAt l s (idAt l s (f .0)))) (b .0)
       (and-true (testOf isAnyAdd (decodedAt l s (f .0))) (not (removedAt l s (idAt l s (f .0)))) (place-test stands isAnyAdd h ∙ any-add (o .0)) (b .1)))))
 
-  →entered : {e : SetEntry} → e ∈ map (setEntryAt l s) (keep (presentAt l s) (upTo (l .used))) → e ∈ concatMap (λ (k : ℕ). entriesFrom (updateAt us k)) (keep keptAt (idOrder l s))
+  →entered : {e : SetEntry} → e ∈ map (setEntryAt l s) (keep (presentAt l s) (upTo (l .used))) → e ∈ concatMap (λ (k : ℕ). setEntriesFrom (updateAt us k)) (keep keptAt (idOrder l s))
   unfolding keptAt presentAt
   →entered {e} m =
       let f = map-∈ (setEntryAt l s) (keep (presentAt l s) (upTo (l .used))) m in
@@ -126,21 +126,21 @@ module _ {l : Book} {s : List ℕ} {us : List Update} (stands : Stands l s us) w
       let b = and-true→ (heldAt l s (f .0)) (testOf isAnyAdd (decodedAt l s (f .0)) && not (removedAt l s (idAt l s (f .0)))) (g .1) in
       let c = and-true→ (testOf isAnyAdd (decodedAt l s (f .0))) (not (removedAt l s (idAt l s (f .0)))) (b .1) in
       let o = isAnyAdd→ (updateAt us (f .0) .op) (sym (place-test stands isAnyAdd h) ∙ c .0) in
-      ∈-concatMap (λ (k : ℕ). entriesFrom (updateAt us k))
+      ∈-concatMap (λ (k : ℕ). setEntriesFrom (updateAt us k))
       (∈-keep keptAt (∈-order stands h) (and-true (heldAt l s (f .0)) (not (removedAt l s (idAt l s (f .0)))) (b .0) (c .1)))
-      (∈-cast (sym (f .2) ∙ entry-of h (o .1) refl) (∈-entriesFrom (updateAt us (f .0)) (o .1) refl))
+      (∈-cast (sym (f .2) ∙ set-entry-of h (o .1) refl) (∈-setEntriesFrom (updateAt us (f .0)) (o .1) refl))
 
-  pub entries-agree : map (setEntryAt l s) (setOrder l s) ≡ setEntries (settledTable ident us)
+  pub set-entries-agree : map (setEntryAt l s) (setOrder l s) ≡ setEntries (settledTable ident us)
   unfolding setOrder setEntries kept
-  entries-agree =
+  set-entries-agree =
       sym (sort-map entryKey (setEntryAt l s) (keep (presentAt l s) (upTo (l .used))))
       ∙ same-sort entryKey (entry-key-identifies _) (record { forth = λ e m. →entered m; back = λ e m. entered→ m })
       ∙ ap (sort entryKey)
-      (sym (ap (λ (T : Table). concatMap (λ (r : Row). entriesFrom (r .update)) (keep kept T)) (table-rows stands)
-      ∙ concatMap-keep-map (λ (r : Row). entriesFrom (r .update)) kept (rowAt us) (λ (k : ℕ). entriesFrom (updateAt us k)) keptAt (idOrder l s)
-      (λ k m. kept-agrees k (order-∈ stands m)) (λ k m. ap entriesFrom (row-update stands (order-∈ stands m)))))
+      (sym (ap (λ (T : Table). concatMap (λ (r : Row). setEntriesFrom (r .update)) (keep kept T)) (table-rows stands)
+      ∙ concatMap-keep-map (λ (r : Row). setEntriesFrom (r .update)) kept (rowAt us) (λ (k : ℕ). setEntriesFrom (updateAt us k)) keptAt (idOrder l s)
+      (λ k m. kept-agrees k (order-∈ stands m)) (λ k m. ap setEntriesFrom (row-update stands (order-∈ stands m)))))
 
 -- the places of the set are those listed by set entry
-pub sorted-entries : (l : Book) (s : List ℕ) → sortedBy l s BySetEntry ≡ setOrder l s
+pub sorted-set-entries : (l : Book) (s : List ℕ) → sortedBy l s BySetEntry ≡ setOrder l s
 unfolding sortedBy setOrder setEntryAt
-sorted-entries l s = refl
+sorted-set-entries l s = refl

@@ -64,9 +64,9 @@ module _ (l : Book) (s : List ℕ) where
   unfolding marksPart
   follow-marks authors f = followed (ascii "(marks\n") {lines = concatMap markLine authors} refl f
 
-  all-entries : (xs : List ℕ) → partLines l s Set xs ≡ concatMap (λ (k : ℕ). setLine (setEntryAt l s k)) xs
+  all-set-entries : (xs : List ℕ) → partLines l s Set xs ≡ concatMap (λ (k : ℕ). setLine (setEntryAt l s k)) xs
   unfolding partLines
-  all-entries xs = ap (concatMap (lineOf l s Set)) (keep-all (listedIn l s Set) xs (λ x m. refl))
+  all-set-entries xs = ap (concatMap (lineOf l s Set)) (keep-all (listedIn l s Set) xs (λ x m. refl))
 
   pub standings-is :
       (40 ∷ 108 ∷ 101 ∷ 100 ∷ 103 ∷ 101 ∷ 114 ∷ 32 ∷ 49 ∷ 10 ∷ [])
@@ -93,5 +93,5 @@ module _ (l : Book) (s : List ℕ) where
       (follow Waiting (idOrder l s) refl
       (follow Void (idOrder l s) refl
       (follow-marks (marksOf l s)
-      (follow Set (setOrder l s) (all-entries (setOrder l s))
+      (follow Set (setOrder l s) (all-set-entries (setOrder l s))
       (follow Entries (entriesOf l s) refl refl)))))))

@@ -14,7 +14,7 @@ use Rattle.ledger_state.specs.State.{Book}
 use Rattle.ledger_relations.specs.PlaceTests.{idAt, heldAt, waitingAt, voidAt, headAt, shownAt, idOrder}
 use Rattle.report_parts.specs.PlaceParts.{setEntryAt, setOrder, entriesOf, valueAt}
 use Rattle.report_text.specs.Text.{updateLineAt}
-use Rattle.report_parts.specs.PlacePartsLaws.{entries-agree}
+use Rattle.report_parts.specs.PlacePartsLaws.{set-entries-agree}
 use Rattle.report_parts.specs.ListedLaws.{values-agree}
 use Rattle.ledger_relations.specs.RowLaws.{rowAt, update-id, order-∈, table-rows, held-agrees, waiting-agrees, void-agrees, author-agrees, head-agrees}
 use Rattle.bytes_order.specs.MemberLaws.{concatMap-map, concatMap-keep-map}
@@ -53,7 +53,7 @@ module _ {l : Book} {s : List ℕ} {us : List Update} (stands : Stands l s us) w
 
   pub set-part : concatMap (λ (k : ℕ). setLine (setEntryAt l s k)) (setOrder l s) ≡ concatMap setLine (partsOf ident us .set)
   unfolding partsOf partsIn
-  set-part = sym (concatMap-map setLine (setEntryAt l s) (setOrder l s)) ∙ ap (concatMap setLine) (entries-agree stands)
+  set-part = sym (concatMap-map setLine (setEntryAt l s) (setOrder l s)) ∙ ap (concatMap setLine) (set-entries-agree stands)
 
   pub list-part : concatMap (λ (k : ℕ). bytesLine (valueAt l s k)) (keep (shownAt l s) (entriesOf l s)) ≡ concatMap bytesLine (partsOf ident us .list)
   unfolding partsOf partsIn

@@ -19,11 +19,11 @@ use Rattle.rules.specs.Standing.{beginning, Ancestor, Held}
 use Rattle.rules.specs.SetEntry.{SetEntry, entryKey}
 use Rattle.rules.specs.ReadOff.{Head, Marked, Removed, Present, Rank, InsertAt, Walk, Shown, Listed}
 use Rattle.rules.specs.CausalOrder.{Causal, isBefore, isApart}
-use Rattle.rules.specs.Settle.{Row, Table, held, orderIn, heldRow, covered, heads, forkedBy, marks, removed, names, entriesFrom, setEntries, list, entries, rank, updatesIn}
+use Rattle.rules.specs.Settle.{Row, Table, held, orderIn, heldRow, covered, heads, forkedBy, marks, removed, names, setEntriesFrom, setEntries, list, entries, rank, updatesIn}
 use Rattle.rules.specs.Decides.{Decides}
 use Rattle.rules.specs.CausalLaws.{isBefore→, isApart→, marked→order, order→marked}
 use Rattle.rules.specs.SetEntryLaws.{entry-key-identifies}
-use Rattle.rules.specs.TableLaws.{not-true→, not-true, entriesFrom-∈, ∈-entriesFrom, names→, →names, HeldRow, any-held→, →any-held, keep-held→, →keep-held, row-held, row-id, row-rank, held-row, row-order, rank-bound}
+use Rattle.rules.specs.TableLaws.{not-true→, not-true, setEntriesFrom-∈, ∈-setEntriesFrom, names→, →names, HeldRow, any-held→, →any-held, keep-held→, →keep-held, row-held, row-id, row-rank, held-row, row-order, rank-bound}
 use Rattle.rules.specs.WalkLaws.{Entry, atBeginning, firstRows, siblings-∈, walk-entry, walk-all, walk-distinct}
 use Rattle.rules.specs.ListedLaws.{first-right, walk-right, shown-right, siblings-unique, walk-unique, shown-unique}
 
@@ -128,10 +128,10 @@ module _ (ident : Update → Id) (S : List Update) (T : Table) (distinct : Disti
   unfolding setEntries
   set-entry-right e m =
       let p : Row → Bool = λ (r : Row). not (removed T (r .id)) in
-      let F : Row → List SetEntry = λ (r : Row). entriesFrom (r .update) in
+      let F : Row → List SetEntry = λ (r : Row). setEntriesFrom (r .update) in
       let k = concatMap-∈ F (keep (λ (r : Row). heldRow r && p r) T) (sort-∈ entryKey (concatMap F (keep (λ (r : Row). heldRow r && p r) T)) m) in
       let f = keep-held→ T p (k .1) in
-      let a = entriesFrom-∈ (k .0 .update) (k .2) in
+      let a = setEntriesFrom-∈ (k .0 .update) (k .2) in
       record {
         add = k .0 .update;
         add-held = row-held distinct decides (f .0);
@@ -145,9 +145,9 @@ module _ (ident : Update → Id) (S : List Update) (T : Table) (distinct : Disti
   set-entry-all e h =
       let f = held-row distinct decides (h .add-held) in
       ∈-sort entryKey (entry-key-identifies _)
-      (∈-concatMap (λ (r : Row). entriesFrom (r .update))
+      (∈-concatMap (λ (r : Row). setEntriesFrom (r .update))
       (→keep-held T (λ (r : Row). not (removed T (r .id))) (f .1) (not-true (removed T (f .0 .id)) (λ e. h .kept (subst (λ (u : Update). Removed ident S (ident u)) (f .2) (removed→ (f .1) e)))))
-      (∈-entriesFrom (f .0 .update) (ap (λ (u : Update). u .op) (f .2) ∙ h .is-add) (ap (λ (u : Update). u .author) (f .2) ∙ h .added-by)))
+      (∈-setEntriesFrom (f .0 .update) (ap (λ (u : Update). u .op) (f .2) ∙ h .is-add) (ap (λ (u : Update). u .author) (f .2) ∙ h .added-by)))
 
   -- the list
 

@@ -78,13 +78,13 @@ report-shows-set ident S S′ d d′ one e =
 -- Document 02, E5: the entries of a set of well-formed updates
 
 module _ {ident : Update → Id} {S : List Update} (bounded : (u : Update) → u ∈ S → Bounded u) {parts : Parts} (reads : ReadFrom ident S parts) where
-  entry-tag : (e : SetEntry) → e ∈ parts .set → length (e .tag) ≡ tagLength
-  entry-tag e m =
+  set-entry-tag : (e : SetEntry) → e ∈ parts .set → length (e .tag) ≡ tagLength
+  set-entry-tag e m =
       let p = reads .set .right e m in
       tag-sized (bounded (p .add) (held-stored ident S (p .add-held)) .op-bounded) (∈-tagsOf (p .is-add))
 
-  pub entry-author : (e : SetEntry) → e ∈ parts .set → e .author ≤ maxAuthor
-  entry-author e m =
+  set-entry-author : (e : SetEntry) → e ∈ parts .set → e .author ≤ maxAuthor
+  set-entry-author e m =
       let p = reads .set .right e m in
       subst (λ (a : ℕ). a ≤ maxAuthor) (p .added-by) (bounded (p .add) (held-stored ident S (p .add-held)) .author-small)
 
@@ -95,21 +95,21 @@ module _ {ident : Update → Id} {S : List Update} (bounded : (u : Update) → u
       ∙ following es (subst (Ascending entryKey) q (reads .set .ascending))
     where
       sized : (x : SetEntry) → x ∈ e ∷ fs → length (x .tag) ≡ tagLength
-      sized x n = entry-tag x (subst (λ (xs : List SetEntry). x ∈ xs) (sym q) (∈-append-right es n))
+      sized x n = set-entry-tag x (subst (λ (xs : List SetEntry). x ∈ xs) (sym q) (∈-append-right es n))
 
       following : (xs : List SetEntry) → Ascending entryKey (xs ++ (e ∷ fs)) → before (entryKey e) (entryKey f) ≡ true
       following [] a = ascending-head a f m
       following (x ∷ xs) a = following xs (ascending-tail a)
 
 -- equal lines are those of equal entries
-lines-entries : (es fs : List SetEntry) → ((e : SetEntry) → e ∈ es → e .author ≤ maxAuthor) → ((f : SetEntry) → f ∈ fs → f .author ≤ maxAuthor)
+set-lines-entries : (es fs : List SetEntry) → ((e : SetEntry) → e ∈ es → e .author ≤ maxAuthor) → ((f : SetEntry) → f ∈ fs → f .author ≤ maxAuthor)
     → map setLine es ≡ map setLine fs → es ≡ fs
-lines-entries [] [] h g q = refl
-lines-entries [] (f ∷ fs) h g q = absurd (nil≢cons q)
-lines-entries (e ∷ es) [] h g q = absurd (cons≢nil q)
-lines-entries (e ∷ es) (f ∷ fs) h g q =
+set-lines-entries [] [] h g q = refl
+set-lines-entries [] (f ∷ fs) h g q = absurd (nil≢cons q)
+set-lines-entries (e ∷ es) [] h g q = absurd (cons≢nil q)
+set-lines-entries (e ∷ es) (f ∷ fs) h g q =
     let head = set-line-injective e f (h e (List·Memᴰ·head refl)) (g f (List·Memᴰ·head refl)) (head-eq-of-cons-eq q) in
-    let tail = lines-entries es fs (λ x m. h x (List·Memᴰ·tail m)) (λ x m. g x (List·Memᴰ·tail m)) (tail-eq-of-cons-eq q) in
+    let tail = set-lines-entries es fs (λ x m. h x (List·Memᴰ·tail m)) (λ x m. g x (List·Memᴰ·tail m)) (tail-eq-of-cons-eq q) in
     λ i. head i ∷ tail i
 
 -- the lines `(TAG author)` show the entries: equal reports have the same
@@ -117,7 +117,7 @@ pub report-shows-entries : (ident : Update → Id) (S S′ : List Update) → Di
     → ((u : Update) → u ∈ S → Bounded u) → ((u : Update) → u ∈ S′ → Bounded u) → reportOf ident S ≡ reportOf ident S′ → partsOf ident S .set ≡ partsOf ident S′ .set
 unfolding reportOf
 report-shows-entries ident S S′ d d′ bounded bounded′ e =
-    lines-entries (partsOf ident S .set) (partsOf ident S′ .set) (entry-author bounded (read-right ident S d)) (entry-author bounded′ (read-right ident S′ d′))
+    set-lines-entries (partsOf ident S .set) (partsOf ident S′ .set) (set-entry-author bounded (read-right ident S d)) (set-entry-author bounded′ (read-right ident S′ d′))
     (text-shows ident (partsOf ident S) (partsOf ident S′) e .set-lines)
 
 -- the report of no update

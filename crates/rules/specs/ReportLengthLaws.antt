@@ -15,10 +15,10 @@ use Rattle.bytes_order.specs.DistinctLaws.{distinct-length, distinct-subset-len
 use Rattle.bytes_order.specs.SortLaws.{sort-∈, sort-length, sort-distinct}
 use Rattle.update_format.specs.Update.{Id, idLength, tagLength, maxAuthor, Operation, Add, Remove, Insert, Delete, BoundedOperation, add, remove, insert, delete, Update, Bounded}
 use Rattle.rules.specs.SetEntry.{SetEntry, entryKey}
-use Rattle.rules.specs.Settle.{Row, Table, Verdict, held, waiting, void, isHeld, isWaiting, isVoid, isInsert, heads, marks, tagsOf, entriesFrom, setEntries, entries, valuesOf, list, updatesIn, partsIn}
+use Rattle.rules.specs.Settle.{Row, Table, Verdict, held, waiting, void, isHeld, isWaiting, isVoid, isInsert, heads, marks, tagsOf, setEntriesFrom, setEntries, entries, valuesOf, list, updatesIn, partsIn}
 use Rattle.bytes_ascii.specs.Ascii.{codes, ascii, hex, decimal}
 use Rattle.bytes_ascii.specs.AsciiLaws.{hex-length, decimal-length}
-use Rattle.rules.specs.TableLaws.{∈-tagsOf, entriesFrom-∈}
+use Rattle.rules.specs.TableLaws.{∈-tagsOf, setEntriesFrom-∈}
 use Rattle.rules.specs.Report.{authorLine, updateLine, setLine, bytesLine, idLine, markLine, partText, reportText}
 use Rattle.bytes_order.specs.CountLaws.{concatMap-length, keep-concatMap-length}
 
@@ -101,10 +101,10 @@ by-verdict (r ∷ T) = step (r .verdict) (keep (λ (q : Row). isHeld (q .verdict
 insertRow : Row → Bool
 insertRow r = isInsert (r .update .op)
 
-adds-inserts : (T : Table) → length (concatMap (λ (r : Row). entriesFrom (r .update)) T) + length (keep insertRow T) ≤ length T
-unfolding concatMap keep entriesFrom tagsOf isInsert insertRow
+adds-inserts : (T : Table) → length (concatMap (λ (r : Row). setEntriesFrom (r .update)) T) + length (keep insertRow T) ≤ length T
+unfolding concatMap keep setEntriesFrom tagsOf isInsert insertRow
 adds-inserts [] = zero-le
-adds-inserts (r ∷ T) = step (r .update .op) (concatMap (λ (q : Row). entriesFrom (q .update)) T) (keep insertRow T) (adds-inserts T)
+adds-inserts (r ∷ T) = step (r .update .op) (concatMap (λ (q : Row). setEntriesFrom (q .update)) T) (keep insertRow T) (adds-inserts T)
   where
     step : (o : Operation) (es : List SetEntry) (is : Table) → length es + length is ≤ length T
         → length (map (λ (t : List ℕ). record { tag = t; author = r .update .author }) (tagsOf o) ++ es) + length (cond (isInsert o) (r ∷ is) is) ≤ suc (length T)
@@ -200,15 +200,15 @@ module _ (ident : Update → Id) (id-sized : (u : Update) → length (ident u) �
     where
       line : (e : SetEntry) → e ∈ setEntries T → length (setLine e) ≤ 38
       line e m =
-          let r = concatMap-∈ (λ (r : Row). entriesFrom (r .update)) _ (sort-∈ entryKey _ m) in
+          let r = concatMap-∈ (λ (r : Row). setEntriesFrom (r .update)) _ (sort-∈ entryKey _ m) in
           let b = sized .bounded (r .0) (keep-∈ _ T (r .1) .0) in
-          let f = entriesFrom-∈ (r .0 .update) (r .2) in
+          let f = setEntriesFrom-∈ (r .0 .update) (r .2) in
           set-line-length e (tag-sized (b .op-bounded) (∈-tagsOf (f .0))) (subst (λ (a : ℕ). a ≤ maxAuthor) (f .1) (b .author-small))
 
   -- no more entries than Adds
-  set-few : length (setEntries T) ≤ length (concatMap (λ (r : Row). entriesFrom (r .update)) T)
+  set-few : length (setEntries T) ≤ length (concatMap (λ (r : Row). setEntriesFrom (r .update)) T)
   unfolding setEntries
-  set-few = le-trans (sort-length entryKey _) (keep-concatMap-length (λ (r : Row). entriesFrom (r .update)) _ T)
+  set-few = le-trans (sort-length entryKey _) (keep-concatMap-length (λ (r : Row). setEntriesFrom (r .update)) _ T)
 
   list-length : length (concatMap bytesLine (list T)) ≤ 35 * length (list T)
   unfolding list

@@ -182,13 +182,13 @@ unfoldable pub removed : Table → Id → Bool
 removed T i = any (λ (q : Row). heldRow q && names i (q .update .op)) T
 
 -- the entry of an Add, by its author; none of another update
-unfoldable pub entriesFrom : Update → List SetEntry
-entriesFrom u = map (λ (t : List ℕ). record { tag = t; author = u .author }) (tagsOf (u .op))
+unfoldable pub setEntriesFrom : Update → List SetEntry
+setEntriesFrom u = map (λ (t : List ℕ). record { tag = t; author = u .author }) (tagsOf (u .op))
 
 unfoldable pub setEntries : Table → List SetEntry
 setEntries T =
     sort entryKey
-    (concatMap (λ (r : Row). entriesFrom (r .update)) (keep (λ (r : Row). heldRow r && not (removed T (r .id))) T))
+    (concatMap (λ (r : Row). setEntriesFrom (r .update)) (keep (λ (r : Row). heldRow r && not (removed T (r .id))) T))
 
 -- the list
 

@@ -23,7 +23,7 @@ use Rattle.rules.specs.Standing.{beginning}
 use Rattle.rules.specs.SetEntry.{SetEntry, entryKey}
 use Rattle.rules.specs.Parts.{Parts}
 use Rattle.rules.specs.CausalOrder.{orderBy, isBefore, isApart, beforeOrAfter}
-use Rattle.rules.specs.Settle.{held, Table, isHeld, isWaiting, isVoid, isAdd, isInsert, heldIn, voidIn, addIn, insertIn, aboveIn, orderIn, ancestorsOf, antichain, validOp, fineBy, ruled, judgeFine, judgeKnown, judgeBy, judgeFrom, judge, round, rounds, start, startAll, settledTable, heldRow, covered, heads, forkedBy, marks, names, removed, tagsOf, entriesFrom, setEntries, rank, anchored, siblings, under, walk, entries, deletes, deleted, valuesOf, list, partsIn, partsOf, causalOrder}
+use Rattle.rules.specs.Settle.{held, Table, isHeld, isWaiting, isVoid, isAdd, isInsert, heldIn, voidIn, addIn, insertIn, aboveIn, orderIn, ancestorsOf, antichain, validOp, fineBy, ruled, judgeFine, judgeKnown, judgeBy, judgeFrom, judge, round, rounds, start, startAll, settledTable, heldRow, covered, heads, forkedBy, marks, names, removed, tagsOf, setEntriesFrom, setEntries, rank, anchored, siblings, under, walk, entries, deletes, deleted, valuesOf, list, partsIn, partsOf, causalOrder}
 
 -- an update with its stand-in id
 pub record Named : Type 0 where
@@ -368,7 +368,7 @@ abbrev pub smallLedgers : List Small
 smallLedgers = sixteen ++ further
 
 pub computed : map (λ (c : Small). partsOf (identOf c) (smallSet c)) smallLedgers ≡ map (λ (c : Small). c .gives) smallLedgers
-unfolding sixteen further expect added by nameIn encode encodeOperation same before member keep any all concatMap insert sort isHeld isWaiting isVoid isAdd isInsert heldIn voidIn addIn insertIn aboveIn orderIn orderBy isBefore isApart beforeOrAfter ancestorsOf antichain validOp fineBy ruled judgeFine judgeKnown judgeBy judgeFrom judge round rounds start startAll settledTable heldRow covered heads forkedBy marks names removed tagsOf entriesFrom setEntries entryKey rank anchored siblings under walk entries deletes deleted valuesOf list partsIn partsOf a b a′ d e e′ r r′ c c′ n n′ o o′ p q q′ i x m f g w z y i′ x′ v u k
+unfolding sixteen further expect added by nameIn encode encodeOperation same before member keep any all concatMap insert sort isHeld isWaiting isVoid isAdd isInsert heldIn voidIn addIn insertIn aboveIn orderIn orderBy isBefore isApart beforeOrAfter ancestorsOf antichain validOp fineBy ruled judgeFine judgeKnown judgeBy judgeFrom judge round rounds start startAll settledTable heldRow covered heads forkedBy marks names removed tagsOf setEntriesFrom setEntries entryKey rank anchored siblings under walk entries deletes deleted valuesOf list partsIn partsOf a b a′ d e e′ r r′ c c′ n n′ o o′ p q q′ i x m f g w z y i′ x′ v u k
 computed = refl
 
 -- no id stands twice

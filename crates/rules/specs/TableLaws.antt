@@ -16,7 +16,7 @@ use Rattle.rules.specs.Standing.{beginning, Ancestor, Fine, Held, Valid,
 use Rattle.rules.specs.SetEntry.{SetEntry}
 use Rattle.rules.specs.ReadOff.{Rank}
 use Rattle.rules.specs.CausalOrder.{OrderExactly}
-use Rattle.rules.specs.Settle.{Verdict, held, waiting, void, Row, Table, isHeld, orderIn, heldRow, rank, tagsOf, entriesFrom, names, deletes, anchored, valuesOf}
+use Rattle.rules.specs.Settle.{Verdict, held, waiting, void, Row, Table, isHeld, orderIn, heldRow, rank, tagsOf, setEntriesFrom, names, deletes, anchored, valuesOf}
 use Rattle.rules.specs.Decides.{Decides}
 use Rattle.rules.specs.LeastSets.{ancestor-stored, ancestor-trans, held-acyclic, held-ancestors, VerdictSays, says-stored, one-verdict}
 use Rattle.rules.specs.SettlingTable.{Right, SoundTable, HeldRowOf, held-row-of, order-exactly}
@@ -43,15 +43,15 @@ pub ∈-tagsOf : {o : Operation} {t : List ℕ} → o ≡ Add t → t ∈ tagsOf
 unfolding tagsOf
 ∈-tagsOf {o} {t} e = subst (λ (p : Operation). t ∈ tagsOf p) (sym e) (List·Memᴰ·head refl)
 
-pub entriesFrom-∈ : (u : Update) {e : SetEntry} → e ∈ entriesFrom u → (u .op ≡ Add (e .tag)) × (u .author ≡ e .author)
-unfolding entriesFrom
-entriesFrom-∈ u m =
+pub setEntriesFrom-∈ : (u : Update) {e : SetEntry} → e ∈ setEntriesFrom u → (u .op ≡ Add (e .tag)) × (u .author ≡ e .author)
+unfolding setEntriesFrom
+setEntriesFrom-∈ u m =
     let f = map-∈ (λ (t : List ℕ). record { tag = t; author = u .author }) (tagsOf (u .op)) m in
     (tagsOf-∈ (u .op) (f .1) ∙ ap (λ (e : SetEntry). Add (e .tag)) (f .2), ap (λ (e : SetEntry). e .author) (f .2))
 
-pub ∈-entriesFrom : (u : Update) {e : SetEntry} → u .op ≡ Add (e .tag) → u .author ≡ e .author → e ∈ entriesFrom u
-unfolding entriesFrom
-∈-entriesFrom u {e} h by =
+pub ∈-setEntriesFrom : (u : Update) {e : SetEntry} → u .op ≡ Add (e .tag) → u .author ≡ e .author → e ∈ setEntriesFrom u
+unfolding setEntriesFrom
+∈-setEntriesFrom u {e} h by =
     ∈-cast (λ i. record { tag = e .tag; author = sym by i }) (∈-map (λ (t : List ℕ). record { tag = t; author = u .author }) (∈-tagsOf h))
 
 pub names→ : (i : Id) (o : Operation) → names i o ≡ true → (t : List ℕ) × (named : List Id) × (o ≡ Remove t named) × (i ∈ named)
