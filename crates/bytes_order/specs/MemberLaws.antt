@@ -4,7 +4,7 @@ use native.Mathlib.Nat.{le-of-suc-le-suc, not-suc-le-zero}
 use native.Mathlib.Omega.{arith}
 use mathlib.Core.Path.{_≡_, refl, sym, _∙_, ap, subst}
 use mathlib.Core.Logic.{_⊎_, inl, inr, ⊎-elim}
-use mathlib.Core.List.{List, [], _∷_, _++_, map, reverse, reverseAux, append-assoc, List·Memᴰ·head, List·Memᴰ·tail, List·Memᴰ·not-nil}
+use mathlib.Core.List.{List, [], _∷_, _++_, map, reverse, reverseAux, append-assoc, nil≢cons, cons≢nil, head-eq-of-cons-eq, tail-eq-of-cons-eq, List·Memᴰ·head, List·Memᴰ·tail, List·Memᴰ·not-nil}
 use mathlib.Core.Bool.{Bool, true, false, cond, _&&_, false≢true}
 use lib.ListN.{length, getD, take, drop, take-append-drop}
 use Rattle.bytes_order.specs.Order.{same}
@@ -204,6 +204,16 @@ module _ {A B : Type 0} where
   pub map-cong : (f g : A → B) (xs : List A) → ((x : A) → x ∈ xs → f x ≡ g x) → map f xs ≡ map g xs
   map-cong f g [] h = refl
   map-cong f g (x ∷ xs) h = λ i. h x (List·Memᴰ·head refl) i ∷ map-cong f g xs (λ y m. h y (List·Memᴰ·tail m)) i
+
+  -- what tells the members of two lists apart tells the lists apart
+  pub map-injective : (f : A → B) (xs ys : List A) → ((x y : A) → x ∈ xs → y ∈ ys → f x ≡ f y → x ≡ y) → map f xs ≡ map f ys → xs ≡ ys
+  map-injective f [] [] h q = refl
+  map-injective f [] (y ∷ ys) h q = absurd (nil≢cons q)
+  map-injective f (x ∷ xs) [] h q = absurd (cons≢nil q)
+  map-injective f (x ∷ xs) (y ∷ ys) h q =
+      let first = h x y (List·Memᴰ·head refl) (List·Memᴰ·head refl) (head-eq-of-cons-eq q) in
+      let rest = map-injective f xs ys (λ v w m n. h v w (List·Memᴰ·tail m) (List·Memᴰ·tail n)) (tail-eq-of-cons-eq q) in
+      λ i. first i ∷ rest i
 
   pub keep-map : (p : B → Bool) (f : A → B) (xs : List A) → keep p (map f xs) ≡ map f (keep (λ x. p (f x)) xs)
   unfolding keep

@@ -6,15 +6,16 @@ use mathlib.Core.Bool.{Bool, cond, _&&_}
 use lib.Dec.{eqb}
 use Rattle.bytes_order.specs.Order.{same}
 use Rattle.bytes_order.specs.Member.{keep}
-use Rattle.bytes_order.specs.Sort.{sort}
 use Rattle.update_format.specs.Update.{Id, maxAuthor}
 use Rattle.rules.specs.Standing.{beginning}
-use Rattle.rules.specs.SetEntry.{SetEntry, entryKey}
+use Rattle.rules.specs.SetEntry.{SetEntry}
 use Rattle.rules.specs.Settle.{isInsert}
 use Rattle.bitset.specs.Below.{anyBelow, upTo}
 use Rattle.update_fields.specs.Fields.{testOf, setEntryIn, valueIn, anchorIn}
 use Rattle.ledger_state.specs.State.{places, Book}
-use Rattle.ledger_relations.specs.PlaceTests.{idAt, decodedAt, heldAt, authorAt, rankAt, idOrder, forkedAt, presentAt}
+use Rattle.ledger_relations.specs.PlaceTests.{idAt, decodedAt, heldAt, authorAt, rankAt, idOrder, forkedAt}
+use Rattle.ledger_sorting.specs.declared.Key.the-variants.{SetEntry as BySetEntry}
+use Rattle.ledger_sorting.specs.PlaceLists.{sortedBy}
 
 module _ (l : Book) (s : List ℕ) where
   -- marks
@@ -25,12 +26,13 @@ module _ (l : Book) (s : List ℕ) where
   unfoldable pub marksOf : List ℕ
   marksOf = keep markedAt (upTo (suc maxAuthor))
 
-  -- the set: the places of the Adds that no held Remove names, ascending by the key of their entries, of each entry one
+  -- the set
   unfoldable pub setEntryAt : ℕ → SetEntry
   setEntryAt k = setEntryIn (decodedAt l s k)
 
-  unfoldable pub setOrder : List ℕ
-  setOrder = sort (λ (k : ℕ). entryKey (setEntryAt k)) (keep (presentAt l s) (upTo (l .used)))
+  -- the places of the Adds that no held Remove names, ascending by the key of their entries, of each entry one
+  abbrev pub setOrder : List ℕ
+  setOrder = sortedBy l s BySetEntry
 
   -- the list: the held Inserts, of lower rank first, then of smaller id; each put at the beginning or right after its anchor, so that a later one
   -- stands before the siblings put there earlier and all that hangs under them

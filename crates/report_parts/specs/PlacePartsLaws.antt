@@ -2,8 +2,8 @@
 use Prim.Native.Nat.{ℕ, suc, _<_}
 use native.Mathlib.Omega.{arith}
 use mathlib.Core.Path.{_≡_, refl, sym, _∙_, ap}
-use mathlib.Core.List.{List, [], _∷_, map, map-map, append-nil, head-eq-of-cons-eq}
-use mathlib.Core.Bool.{Bool, true, not, _&&_, false≢true}
+use mathlib.Core.List.{List, [], _∷_, map, map-map, head-eq-of-cons-eq}
+use mathlib.Core.Bool.{Bool, not, _&&_}
 use lib.ListN.{length}
 use lib.Dec.{eqb}
 use borrow.Author.Tests.{eqb-true, eq-eqb}
@@ -13,33 +13,22 @@ use Rattle.bytes_order.specs.Sort.{sort}
 use Rattle.bytes_order.specs.BoolLaws.{and-true→, and-true, and-agrees}
 use Rattle.bytes_order.specs.MemberLaws.{∈-cast, ∈-map, map-∈, ∈-keep, keep-∈, keep-map, keep-cong, map-cong, ∈-concatMap, concatMap-∈, concatMap-keep-map}
 use Rattle.bytes_order.specs.SortLaws.{sort-unique, same-sort, sort-map, ascending-keep}
-use Rattle.update_format.specs.Update.{Id, maxAuthor, Operation, Add, Remove, Insert, Delete, Update}
+use Rattle.update_format.specs.Update.{Id, maxAuthor, Add, Update}
 use Rattle.rules.specs.SetEntry.{SetEntry, entryKey}
 use Rattle.rules.specs.SetEntryLaws.{entry-key-identifies}
-use Rattle.rules.specs.Settle.{Row, Table, heldRow, forkedBy, marks, names, removed, tagsOf, setEntriesFrom, setEntries, settledTable}
+use Rattle.rules.specs.Settle.{Row, Table, heldRow, forkedBy, marks, names, removed, setEntriesFrom, setEntries, settledTable}
 use Rattle.rules.specs.TableLaws.{setEntriesFrom-∈, ∈-setEntriesFrom}
 use Rattle.bitset.specs.Below.{upTo}
 use Rattle.bitset.specs.BelowLaws.{anyBelow→, anyBelow←, upTo-∈, ∈-upTo, upTo-ascending}
 use Rattle.update_fields.specs.Fields.{testOf, isAnyAdd, tagIn}
+use Rattle.update_fields.specs.FieldLaws.{→isAnyAdd, isAnyAdd→, add-tag}
 use Rattle.ledger_state.specs.Stands.{ident, updateAt, Stands}
 use Rattle.ledger_state.specs.State.{Book}
 use Rattle.ledger_relations.specs.PlaceTests.{idAt, decodedAt, authorAt, heldAt, forkedAt, removedAt, presentAt, idOrder}
-use Rattle.ledger_sorting.specs.declared.Key.the-variants.{SetEntry as BySetEntry}
 use Rattle.ledger_sorting.specs.PlaceLists.{sortedBy}
 use Rattle.report_parts.specs.PlaceParts.{markedAt, marksOf, setEntryAt, setOrder}
 use Rattle.ledger_relations.specs.PlaceLaws.{from-used, to-used, place-in, place-decoded, place-author, place-test}
 use Rattle.ledger_relations.specs.RowLaws.{rowAt, row-update, row-id, order-∈, ∈-order, table-rows, held-agrees, author-agrees, fork-agrees, op-test-agrees}
-
-any-add : {o : Operation} {t : List ℕ} → o ≡ Add t → isAnyAdd o ≡ true
-unfolding isAnyAdd
-any-add e = ap isAnyAdd e
-
-isAnyAdd→ : (o : Operation) → isAnyAdd o ≡ true → (t : List ℕ) × (o ≡ Add t)
-unfolding isAnyAdd
-isAnyAdd→ (Add t) e = (t, refl)
-isAnyAdd→ (Remove t named) e = absurd (false≢true e)
-isAnyAdd→ (Insert a v) e = absurd (false≢true e)
-isAnyAdd→ (Delete i) e = absurd (false≢true e)
 
 module _ {l : Book} {s : List ℕ} {us : List Update} (stands : Stands l s us) where
   -- what is given for the rows that pass a test
@@ -98,9 +87,9 @@ module _ {l : Book} {s : List ℕ} {us : List Update} (stands : Stands l s us) w
       (λ e. ap (λ (i : Id). not (removed (settledTable ident us) i)) (row-id stands h) ∙ ap not (op-test-agrees stands (names (idAt l s k))))
 
   set-entry-of : {k : ℕ} {e : SetEntry} → k < length us → updateAt us k .op ≡ Add (e .tag) → updateAt us k .author ≡ e .author → setEntryAt l s k ≡ e
-  unfolding setEntryAt authorAt tagIn tagsOf concatMap
+  unfolding setEntryAt authorAt tagIn
   set-entry-of {e = e} h o by =
-      let tag = ap tagIn (place-decoded stands h) ∙ ap (λ (p : Operation). concatMap (λ (t : List ℕ). t) (tagsOf p)) o ∙ append-nil (e .tag) in
+      let tag = ap tagIn (place-decoded stands h) ∙ add-tag o in
       let author = place-author stands h ∙ by in
       λ i. record { tag = tag i; author = author i }
 
@@ -115,7 +104,7 @@ module _ {l : Book} {s : List ℕ} {us : List Update} (stands : Stands l s us) w
       ∈-cast (sym (set-entry-of h (o .0) (o .1)))
       (∈-map (setEntryAt l s) (∈-keep (presentAt l s) (∈-upTo (l .used) (to-used stands h))
       (and-true (heldAt l s (f .0)) (testOf isAnyAdd (decodedAt l s (f .0)) && not (removedAt l s (idAt l s (f .0)))) (b .0)
-      (and-true (testOf isAnyAdd (decodedAt l s (f .0))) (not (removedAt l s (idAt l s (f .0)))) (place-test stands isAnyAdd h ∙ any-add (o .0)) (b .1)))))
+      (and-true (testOf isAnyAdd (decodedAt l s (f .0))) (not (removedAt l s (idAt l s (f .0)))) (place-test stands isAnyAdd h ∙ →isAnyAdd (o .0)) (b .1)))))
 
   →entered : {e : SetEntry} → e ∈ map (setEntryAt l s) (keep (presentAt l s) (upTo (l .used))) → e ∈ concatMap (λ (k : ℕ). setEntriesFrom (updateAt us k)) (keep keptAt (idOrder l s))
   unfolding keptAt presentAt
@@ -131,7 +120,7 @@ module _ {l : Book} {s : List ℕ} {us : List Update} (stands : Stands l s us) w
       (∈-cast (sym (f .2) ∙ set-entry-of h (o .1) refl) (∈-setEntriesFrom (updateAt us (f .0)) (o .1) refl))
 
   pub set-entries-agree : map (setEntryAt l s) (setOrder l s) ≡ setEntries (settledTable ident us)
-  unfolding setOrder setEntries kept
+  unfolding sortedBy setEntryAt setEntries kept
   set-entries-agree =
       sym (sort-map entryKey (setEntryAt l s) (keep (presentAt l s) (upTo (l .used))))
       ∙ same-sort entryKey (entry-key-identifies _) (record { forth = λ e m. →entered m; back = λ e m. entered→ m })
@@ -139,8 +128,3 @@ module _ {l : Book} {s : List ℕ} {us : List Update} (stands : Stands l s us) w
       (sym (ap (λ (T : Table). concatMap (λ (r : Row). setEntriesFrom (r .update)) (keep kept T)) (table-rows stands)
       ∙ concatMap-keep-map (λ (r : Row). setEntriesFrom (r .update)) kept (rowAt us) (λ (k : ℕ). setEntriesFrom (updateAt us k)) keptAt (idOrder l s)
       (λ k m. kept-agrees k (order-∈ stands m)) (λ k m. ap setEntriesFrom (row-update stands (order-∈ stands m)))))
-
--- the places of the set are those listed by set entry
-pub sorted-set-entries : (l : Book) (s : List ℕ) → sortedBy l s BySetEntry ≡ setOrder l s
-unfolding sortedBy setOrder setEntryAt
-sorted-set-entries l s = refl

@@ -3,12 +3,12 @@
 use mathlib.Core.Path.{_≡_, refl, sym, _∙_, ap, subst}
 use mathlib.Core.Bool.{true}
 use mathlib.Core.Logic.{_⊎_, inl, inr}
-use mathlib.Core.List.{List, [], _∷_, _++_, map, nil≢cons, cons≢nil, head-eq-of-cons-eq, tail-eq-of-cons-eq, List·Memᴰ·head, List·Memᴰ·tail}
+use mathlib.Core.List.{List, [], _∷_, _++_, map, List·Memᴰ·head, List·Memᴰ·tail}
 use Prim.Native.Nat.{ℕ, _≤_}
 use native.Mathlib.Omega.{arith}
 use lib.ListN.{length, length-map}
 use Rattle.bytes_order.specs.Member.{_∈_, SameMembers, keep, concatMap}
-use Rattle.bytes_order.specs.MemberLaws.{∈-cast, ∈-map, map-∈, ∈-append-right}
+use Rattle.bytes_order.specs.MemberLaws.{∈-cast, ∈-map, map-∈, map-injective, ∈-append-right}
 use Rattle.bytes_order.specs.Distinct.{Distinct}
 use Rattle.bytes_order.specs.DistinctLaws.{distinct-identifies, distinct-same-length, distinct-length}
 use Rattle.bytes_order.specs.Order.{before}
@@ -26,11 +26,11 @@ use Rattle.rules.specs.Decides.{Decides}
 use Rattle.rules.specs.LeastSets.{held-stored, void-stored}
 use Rattle.rules.specs.Settling.{settled-decides, covers}
 use Rattle.rules.specs.SetEntryLaws.{entry-order}
-use Rattle.rules.specs.TableLaws.{∈-tagsOf}
+use Rattle.rules.specs.TableLaws.{add-sized}
 use Rattle.rules.specs.ReadOffLaws.{entry-right, entry-once}
 use Rattle.rules.specs.PartsLaws.{read-right, read-unique}
 use Rattle.rules.specs.TextLaws.{set-line-injective, SameShown, text-shows}
-use Rattle.rules.specs.ReportLengthLaws.{tag-sized, SizedTable, text-length}
+use Rattle.rules.specs.ReportLengthLaws.{SizedTable, text-length}
 
 -- the report is laid out from the parts that the definitions give
 pub report-laid-out : (ident : Update → Id) (S : List Update) → Distinct ident S → {parts : Parts} → ReadFrom ident S parts → reportOf ident S ≡ reportText ident parts
@@ -81,7 +81,7 @@ module _ {ident : Update → Id} {S : List Update} (bounded : (u : Update) → u
   set-entry-tag : (e : SetEntry) → e ∈ parts .set → length (e .tag) ≡ tagLength
   set-entry-tag e m =
       let p = reads .set .right e m in
-      tag-sized (bounded (p .add) (held-stored ident S (p .add-held)) .op-bounded) (∈-tagsOf (p .is-add))
+      add-sized (bounded (p .add) (held-stored ident S (p .add-held)) .op-bounded) (p .is-add)
 
   set-entry-author : (e : SetEntry) → e ∈ parts .set → e .author ≤ maxAuthor
   set-entry-author e m =
@@ -101,23 +101,13 @@ module _ {ident : Update → Id} {S : List Update} (bounded : (u : Update) → u
       following [] a = ascending-head a f m
       following (x ∷ xs) a = following xs (ascending-tail a)
 
--- equal lines are those of equal entries
-set-lines-entries : (es fs : List SetEntry) → ((e : SetEntry) → e ∈ es → e .author ≤ maxAuthor) → ((f : SetEntry) → f ∈ fs → f .author ≤ maxAuthor)
-    → map setLine es ≡ map setLine fs → es ≡ fs
-set-lines-entries [] [] h g q = refl
-set-lines-entries [] (f ∷ fs) h g q = absurd (nil≢cons q)
-set-lines-entries (e ∷ es) [] h g q = absurd (cons≢nil q)
-set-lines-entries (e ∷ es) (f ∷ fs) h g q =
-    let head = set-line-injective e f (h e (List·Memᴰ·head refl)) (g f (List·Memᴰ·head refl)) (head-eq-of-cons-eq q) in
-    let tail = set-lines-entries es fs (λ x m. h x (List·Memᴰ·tail m)) (λ x m. g x (List·Memᴰ·tail m)) (tail-eq-of-cons-eq q) in
-    λ i. head i ∷ tail i
-
 -- the lines `(TAG author)` show the entries: equal reports have the same
 pub report-shows-entries : (ident : Update → Id) (S S′ : List Update) → Distinct ident S → Distinct ident S′
     → ((u : Update) → u ∈ S → Bounded u) → ((u : Update) → u ∈ S′ → Bounded u) → reportOf ident S ≡ reportOf ident S′ → partsOf ident S .set ≡ partsOf ident S′ .set
 unfolding reportOf
 report-shows-entries ident S S′ d d′ bounded bounded′ e =
-    set-lines-entries (partsOf ident S .set) (partsOf ident S′ .set) (set-entry-author bounded (read-right ident S d)) (set-entry-author bounded′ (read-right ident S′ d′))
+    map-injective setLine (partsOf ident S .set) (partsOf ident S′ .set)
+    (λ x y m n. set-line-injective x y (set-entry-author bounded (read-right ident S d) x m) (set-entry-author bounded′ (read-right ident S′ d′) y n))
     (text-shows ident (partsOf ident S) (partsOf ident S′) e .set-lines)
 
 -- the report of no update

@@ -18,7 +18,7 @@ use Rattle.rules.specs.SetEntry.{SetEntry, entryKey}
 use Rattle.rules.specs.Settle.{Row, Table, Verdict, held, waiting, void, isHeld, isWaiting, isVoid, isInsert, heads, marks, tagsOf, setEntriesFrom, setEntries, entries, valuesOf, list, updatesIn, partsIn}
 use Rattle.bytes_ascii.specs.Ascii.{codes, ascii, hex, decimal}
 use Rattle.bytes_ascii.specs.AsciiLaws.{hex-length, decimal-length}
-use Rattle.rules.specs.TableLaws.{∈-tagsOf, setEntriesFrom-∈}
+use Rattle.rules.specs.TableLaws.{add-sized, setEntriesFrom-∈}
 use Rattle.rules.specs.Report.{authorLine, updateLine, setLine, bytesLine, idLine, markLine, partText, reportText}
 use Rattle.bytes_order.specs.CountLaws.{concatMap-length, keep-concatMap-length}
 
@@ -120,26 +120,12 @@ values-few (Remove t named) = omega arith
 values-few (Insert a v) = omega arith
 values-few (Delete i) = omega arith
 
-pub tag-sized : {o : Operation} {t : List ℕ} → BoundedOperation o → t ∈ tagsOf o → length t ≡ tagLength
-unfolding tagsOf
-tag-sized (add h) m = ap length (∈-singleton m) ∙ h
-tag-sized (remove h is) m = absurd (List·Memᴰ·not-nil m)
-tag-sized (insert h k) m = absurd (List·Memᴰ·not-nil m)
-tag-sized (delete h) m = absurd (List·Memᴰ·not-nil m)
-
 value-sized : {o : Operation} {v : List ℕ} → BoundedOperation o → v ∈ valuesOf o → length v ≡ tagLength
 unfolding valuesOf
 value-sized (add h) m = absurd (List·Memᴰ·not-nil m)
 value-sized (remove h is) m = absurd (List·Memᴰ·not-nil m)
 value-sized (insert h k) m = ap length (∈-singleton m) ∙ k
 value-sized (delete h) m = absurd (List·Memᴰ·not-nil m)
-
--- the lines of values
-short-lines : (ts : List (List ℕ)) → ((t : List ℕ) → t ∈ ts → length t ≡ tagLength) → length (concatMap bytesLine ts) ≤ 35 * length ts
-short-lines ts h = concatMap-length bytesLine 35 ts (λ t m. line t (h t m))
-  where
-    line : (t : List ℕ) → length t ≡ tagLength → length (bytesLine t) ≤ 35
-    line t e = let f = bytes-line-length t in omega arith
 
 -- a table of bounded updates, whose entries are Inserts of its own, each once
 pub record SizedTable (T : Table) : Type 0 where
@@ -203,7 +189,7 @@ module _ (ident : Update → Id) (id-sized : (u : Update) → length (ident u) �
           let r = concatMap-∈ (λ (r : Row). setEntriesFrom (r .update)) _ (sort-∈ entryKey _ m) in
           let b = sized .bounded (r .0) (keep-∈ _ T (r .1) .0) in
           let f = setEntriesFrom-∈ (r .0 .update) (r .2) in
-          set-line-length e (tag-sized (b .op-bounded) (∈-tagsOf (f .0))) (subst (λ (a : ℕ). a ≤ maxAuthor) (f .1) (b .author-small))
+          set-line-length e (add-sized (b .op-bounded) (f .0)) (subst (λ (a : ℕ). a ≤ maxAuthor) (f .1) (b .author-small))
 
   -- no more entries than Adds
   set-few : length (setEntries T) ≤ length (concatMap (λ (r : Row). setEntriesFrom (r .update)) T)
@@ -212,12 +198,14 @@ module _ (ident : Update → Id) (id-sized : (u : Update) → length (ident u) �
 
   list-length : length (concatMap bytesLine (list T)) ≤ 35 * length (list T)
   unfolding list
-  list-length = short-lines (list T) size
+  list-length = concatMap-length bytesLine 35 (list T) line
     where
-      size : (v : List ℕ) → v ∈ list T → length v ≡ tagLength
-      size v m =
+      line : (v : List ℕ) → v ∈ list T → length (bytesLine v) ≤ 35
+      line v m =
           let r = concatMap-∈ (λ (r : Row). valuesOf (r .update .op)) _ m in
-          value-sized (sized .bounded (r .0) (sized .entry-row (r .0) (keep-∈ _ (entries T) (r .1) .0)) .op-bounded) (r .2)
+          let h = value-sized (sized .bounded (r .0) (sized .entry-row (r .0) (keep-∈ _ (entries T) (r .1) .0)) .op-bounded) (r .2) in
+          let e = bytes-line-length v in
+          omega arith
 
   -- no more values than Inserts
   list-few : length (list T) ≤ length (keep insertRow T)

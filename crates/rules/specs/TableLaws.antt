@@ -11,7 +11,7 @@ use Rattle.bytes_order.specs.BoolLaws.{not-true→false, and-true→, and-true}
 use Rattle.bytes_order.specs.OrderLaws.{same→eq, eq→same}
 use Rattle.bytes_order.specs.Distinct.{Distinct}
 use Rattle.bytes_order.specs.DistinctLaws.{distinct-eq, distinct-length-lt}
-use Rattle.update_format.specs.Update.{Id, Operation, Add, Remove, Insert, Delete, Update}
+use Rattle.update_format.specs.Update.{Id, tagLength, Operation, Add, Remove, Insert, Delete, BoundedOperation, add, remove, insert, delete, Update}
 use Rattle.rules.specs.Standing.{beginning, Ancestor, Fine, Held, Valid, InsertAncestor}
 use Rattle.rules.specs.SetEntry.{SetEntry}
 use Rattle.rules.specs.ReadOff.{Rank}
@@ -42,6 +42,17 @@ tagsOf-∈ (Delete i) m = absurd (List·Memᴰ·not-nil m)
 pub ∈-tagsOf : {o : Operation} {t : List ℕ} → o ≡ Add t → t ∈ tagsOf o
 unfolding tagsOf
 ∈-tagsOf {o} {t} e = subst (λ (p : Operation). t ∈ tagsOf p) (sym e) (List·Memᴰ·head refl)
+
+-- the tag of an Add has its length
+pub add-sized : {o : Operation} {t : List ℕ} → BoundedOperation o → o ≡ Add t → length t ≡ tagLength
+unfolding tagsOf
+add-sized {t = t} b e = step b (∈-tagsOf e)
+  where
+    step : {p : Operation} → BoundedOperation p → t ∈ tagsOf p → length t ≡ tagLength
+    step (add h) m = ap length (∈-singleton m) ∙ h
+    step (remove h is) m = absurd (List·Memᴰ·not-nil m)
+    step (insert h k) m = absurd (List·Memᴰ·not-nil m)
+    step (delete h) m = absurd (List·Memᴰ·not-nil m)
 
 pub setEntriesFrom-∈ : (u : Update) {e : SetEntry} → e ∈ setEntriesFrom u → (u .op ≡ Add (e .tag)) × (u .author ≡ e .author)
 unfolding setEntriesFrom

@@ -1,5 +1,5 @@
 -- `print_read_offs` meets its contract.
-use mathlib.Core.Path.{ap, _∙_}
+use mathlib.Core.Path.{ap}
 use native.Mathlib.Omega.{arith}
 use borrow.Author.Needs.{needs}
 use denote.Ref.{now}
@@ -7,7 +7,6 @@ use Rattle.ledger_state.specs.View.{bookOf}
 use Rattle.report_text.specs.Parts.{marksPart, partOf}
 use Rattle.bytes_print.proofs.Printing.{both, same-text}
 use Rattle.report_parts.proofs.Marking.{marks-are}
-use Rattle.report_parts.specs.PlacePartsLaws.{sorted-set-entries}
 use Rattle.report_text.proofs.TextLaws.{read-offs-is}
 use Rattle.report_wording.specs.declared.Part.the-variants.{Set, List as Entries}
 use Rattle.report_text.proofs.print_read_offs.Statement.{statement}
@@ -97,7 +96,7 @@ returns c =
     let s = now (args .store) in
     same-text (read-offs-is l s)
     (both (same-text (ap marksPart (marks-are l s (marked .result) (marked .ensures))) (print .ensures .0))
-    (both (same-text (ap (partOf l s Set) (sorted .ensures .are ∙ sorted-set-entries l s)) (print2 .ensures .0))
+    (both (same-text (ap (partOf l s Set) (sorted .ensures .are)) (print2 .ensures .0))
     (both (same-text (ap (partOf l s Entries) (entries .ensures .are)) (print3 .ensures .0)) (at-put .put .ensures))))
 
 pub print-read-offs-spec : {M : Type 1} → statement M
