@@ -1,6 +1,6 @@
 //! "Command and report": offers from input lines, one answer line each, then the report.
 
-use crate::ledger::{Answer, Ledger};
+use crate::ledger::{Answer, Form, Ledger};
 use std::io::{BufRead, BufReader, BufWriter, Read, Result, Write};
 
 /// "The command reads at most 4,294,967,296 bytes; its input counts as ended there."
@@ -48,8 +48,8 @@ pub fn run_limited(input: impl Read, output: impl Write, limit: u64) -> Result<(
             Answer::Refused { number } => writeln!(output, "(refused {number})")?,
         }
     }
-    // "Then comes the report"
-    output.write_all(&ledger.report())?;
+    // "Then comes the report"; of its two forms the command names the full one.
+    output.write_all(&ledger.report(Form::Full))?;
     output.flush()
 }
 

@@ -27,6 +27,13 @@ impl Standing {
     }
 }
 
+/// "The full report is had by naming it."
+#[derive(Clone, Copy, PartialEq, Eq, Debug)]
+pub enum Form {
+    Full,
+    Short,
+}
+
 #[derive(Clone, Copy, PartialEq, Eq, Debug)]
 pub enum Answer {
     Taken { standing: Standing, newly_held: usize, newly_void: usize },
@@ -275,17 +282,20 @@ impl Ledger {
         }
     }
 
-    /// "nested brackets with one form a line"
-    pub fn report(&self) -> Vec<u8> {
+    /// "nested brackets with one form a line"; the short form has "only those three parts, in the old
+    /// order, between the same outer brackets"
+    pub fn report(&self, form: Form) -> Vec<u8> {
         let mut out = String::from("(ledger 1\n");
-        self.part(&mut out, "held", Standing::Held);
-        out += "(heads\n";
-        for h in self.heads() {
-            out += &format!("({})\n", hex(&self.stored[h].id));
+        if form == Form::Full {
+            self.part(&mut out, "held", Standing::Held);
+            out += "(heads\n";
+            for h in self.heads() {
+                out += &format!("({})\n", hex(&self.stored[h].id));
+            }
+            out += ")\n";
+            self.part(&mut out, "waiting", Standing::Waiting);
+            self.part(&mut out, "void", Standing::Void);
         }
-        out += ")\n";
-        self.part(&mut out, "waiting", Standing::Waiting);
-        self.part(&mut out, "void", Standing::Void);
         out += "(marks\n";
         for author in self.marks() {
             out += &format!("({author})\n");
@@ -321,4 +331,32 @@ impl Ledger {
 pub fn hex(bytes: &[u8]) -> String {
     let digit = |d: u8| char::from_digit(d as u32, 16).unwrap();
     bytes.iter().flat_map(|&b| [digit(b >> 4), digit(b & 15)]).collect()
+}
+
+#[cfg(test)]
+mod tests {
+    use super::*;
+    use crate::command::read_offer;
+
+    /// The README's example, its short report by hand.
+    #[test]
+    fn the_short_report() {
+        assert_eq!(Ledger::new().report(Form::Short), b"(ledger 1\n(marks\n)\n(set\n)\n(list\n)\n)\n");
+        let mut ledger = Ledger::new();
+        let mut offered = Vec::new();
+        for line in include_str!("../../tests/sessions/example.in").lines() {
+            if read_offer(line.as_bytes(), &mut offered) {
+                ledger.offer(&offered);
+            }
+        }
+        let set = ["6d6f6e2031302d31322e2e2e2e2e2e2e 1", "6d6f6e2031302d31322e2e2e2e2e2e2e 6"];
+        let list = [
+            "6f6174732e2e2e2e2e2e2e2e2e2e2e2e",
+            "6261726c65792e2e2e2e2e2e2e2e2e2e",
+            "7279652e2e2e2e2e2e2e2e2e2e2e2e2e",
+        ];
+        let lines = |part: &[&str]| part.iter().map(|line| format!("({line})\n")).collect::<String>();
+        let short = format!("(ledger 1\n(marks\n(1)\n)\n(set\n{})\n(list\n{})\n)\n", lines(&set), lines(&list));
+        assert_eq!(String::from_utf8(ledger.report(Form::Short)).unwrap(), short);
+    }
 }

@@ -38,6 +38,14 @@ digit-large n = step (ltb n 10)
     step true = omega arith
     step false = omega arith
 
+pub digit-small : (n : ℕ) → n < 16 → digit n ≤ 102
+unfolding digit
+digit-small n h = step (ltb n 10) refl
+  where
+    step : (t : Bool) → ltb n 10 ≡ t → cond t (48 + n) (87 + n) ≤ 102
+    step true e = let k : n < 10 = ltb-true n 10 e in omega arith
+    step false e = omega arith
+
 digit-injective : (m n : ℕ) → digit m ≡ digit n → m ≡ n
 unfolding digit
 digit-injective m n e = step (ltb m 10) (ltb n 10) refl refl e

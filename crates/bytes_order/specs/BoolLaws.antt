@@ -44,6 +44,10 @@ pub and-true : (a b : Bool) → a ≡ true → b ≡ true → (a && b) ≡ true
 and-true true b p q = q
 and-true false b p q = absurd (false≢true p)
 
+pub and-false-right : (a : Bool) {b : Bool} → b ≡ false → (a && b) ≡ false
+and-false-right true e = e
+and-false-right false e = refl
+
 -- both tests agree, the second where the first passes
 pub and-agrees : (a : Bool) {a′ b b′ : Bool} → a ≡ a′ → (a′ ≡ true → b ≡ b′) → (a && b) ≡ (a′ && b′)
 and-agrees true {a′} {b} {b′} e h = step a′ e h

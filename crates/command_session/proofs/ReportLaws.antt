@@ -1,9 +1,10 @@
--- A report after the first bytes of the output buffer.
+-- The full report after the first bytes of the output buffer.
 use mathlib.Core.Path.{_≡_, sym, ap, subst, subst₂}
 use Prim.Native.Nat.{ℕ, _+_, _≤_}
 use native.Mathlib.Omega.{arith}
 use mathlib.Core.List.{List}
 use lib.ListN.{length, drop}
+use Rattle.rules.specs.declared.Form.the-variants.{Full}
 use Rattle.ledger_state.specs.State.{Book}
 use Rattle.ledger_refusals.specs.Numbers.{Output, putBytes, refusedBy}
 use Rattle.ledger.specs.Report.{ReportRow}
@@ -11,9 +12,9 @@ use Rattle.command_session.specs.Feeding.{withReport, withoutReport, Rep
 use Rattle.command_session.specs.FinishLaws.{report-within}
 use Rattle.command_session.proofs.OutLaws.{partFrom, withPart, part-is, part-length, with-is}
 
-module _ {l : Book} {s : List ℕ} (out : List ℕ) (at : ℕ) (inside : at ≤ length out) {v : Output} {o : List ℕ} (p : ReportRow l s (partFrom out at) v o) where
-  lent : (x : Output) → v ≡ x → ReportRow l s (drop at out) x o
-  lent x e = subst₂ (λ (y : List ℕ) (z : Output). ReportRow l s y z o) (part-is out at inside) e p
+module _ {l : Book} {s : List ℕ} (out : List ℕ) (at : ℕ) (inside : at ≤ length out) {v : Output} {o : List ℕ} (p : ReportRow Full l s (partFrom out at) v o) where
+  lent : (x : Output) → v ≡ x → ReportRow Full l s (drop at out) x o
+  lent x e = subst₂ (λ (y : List ℕ) (z : Output). ReportRow Full l s y z o) (part-is out at inside) e p
 
   pub at-within : (n : ℕ) → v ≡ putBytes n → at + n ≤ length out
   at-within n e = omega (arith, report-within (lent (putBytes n) e), ap length (sym (part-is out at inside)), part-length out at inside)

@@ -7,6 +7,7 @@ use Rattle.bytes_order.specs.Sort.{sort}
 use Rattle.update_format.specs.Decode.{decode, row2}
 use Rattle.rules.specs.Settle.{rounds, startAll, settledTable, heads, marks, setEntries, walk, entries, list, partsIn, partsOf}
 use Rattle.bytes_ascii.specs.Ascii.{codes, ascii, digit, decimalIn, decimal}
+use Rattle.rules.specs.declared.Form.the-variants.{Full}
 use Rattle.rules.specs.Report.{partText, reportText, reportOf}
 use Rattle.ledger.specs.Calls.{acceptDecoded}
 use Rattle.ledger.specs.Answers.{answerFor}
@@ -26,6 +27,6 @@ unfolding ascii codes outputOf feed feedByte endLine answerLine readLine framed 
 last-newline = refl
 
 -- no input at all: the empty report
-pub no-input : outputOf [] ≡ reportOf (Rattle.ledger_state.specs.Stands.ident) []
+pub no-input : outputOf [] ≡ reportOf Full (Rattle.ledger_state.specs.Stands.ident) []
 unfolding outputOf feed finish lastLine
 no-input = refl

@@ -5,6 +5,7 @@ use Prim.Native.Nat.{ℕ, _+_, _≤_, _<_}
 use mathlib.Core.List.{List, _++_}
 use mathlib.Core.Bool.{true, false}
 use lib.ListN.{length, take, drop}
+use Rattle.rules.specs.declared.Form.the-variants.{Full}
 use Rattle.rules.specs.Report.{maxReport}
 use Rattle.ledger_state.specs.declared.Ledger.{Ledger}
 use Rattle.ledger_state.specs.State.{Book}
@@ -70,10 +71,10 @@ pub data Feeding (l : Ledger) (s buffer : List ℕ) (fill : ℕ) (input out : Li
   fed : (r : Fed) (s′ buffer′ out′ : List ℕ) → length buffer ≡ maxLine → Feeds l s buffer fill input out r s′ buffer′ out′
       → Feeding l s buffer fill input out r s′ buffer′ out′
 
--- A report after the first `at` bytes of the output buffer: what the entry `report` ensures, of the rest of the buffer.
+-- The full report after the first `at` bytes of the output buffer: what the entry `report_as` ensures of that form, of the rest of the buffer.
 pub data ReportsAt (l : Book) (s : List ℕ) (at : ℕ) (out : List ℕ) : EndValues → List ℕ → Type 0 where
-  reported : (n : ℕ) (o : List ℕ) → ReportRow l s (drop at out) (putBytes n) o → ReportsAt l s at out (withReport (at + n)) (take at out ++ o)
-  unreported : (k : ℕ) (o : List ℕ) → ReportRow l s (drop at out) (refusedBy k) o → ReportsAt l s at out (withoutReport at k) (take at out ++ o)
+  reported : (n : ℕ) (o : List ℕ) → ReportRow Full l s (drop at out) (putBytes n) o → ReportsAt l s at out (withReport (at + n)) (take at out ++ o)
+  unreported : (k : ℕ) (o : List ℕ) → ReportRow Full l s (drop at out) (refusedBy k) o → ReportsAt l s at out (withoutReport at k) (take at out ++ o)
 
 -- The last line, if one is begun, is answered; and what that puts out.
 pub record LastLine (l : Ledger) (s buffer : List ℕ) (fill : ℕ) (l′ : Ledger) (s′ put : List ℕ) : Type 0 where
@@ -81,8 +82,8 @@ pub record LastLine (l : Ledger) (s buffer : List ℕ) (fill : ℕ) (l′ : Ledg
   pub answers : (line : List ℕ) → Keeps buffer fill line → AnswersLines l s (lastOf line) l′ s′ put
 
 -- The end of the input, with the output buffer `out`: a line buffer that has not maxLine bytes is refused, and so is an output buffer with no room for the longest end;
--- nothing changes then. With others, the last line is answered, and then comes what the entry `report` ensures: the report, or else the number of its refusal beside
--- the answer.
+-- nothing changes then. With others, the last line is answered, and then comes what the entry `report_as` ensures of the full form: the report, or else the number of
+-- its refusal beside the answer.
 pub data FinishRow (l : Ledger) (s buffer : List ℕ) (fill : ℕ) (out : List ℕ) : EndValues → List ℕ → List ℕ → Type 0 where
   unfit-line : (length buffer ≡ maxLine → ⊥) → FinishRow l s buffer fill out unfitLine s out
   short : length buffer ≡ maxLine → length out < maxEnd → FinishRow l s buffer fill out shortOutput s out

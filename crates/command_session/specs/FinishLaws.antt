@@ -1,13 +1,14 @@
 -- The end of the input, where the ledger, its store and the line buffer are where a machine is: with room for the longest end there is a report, and what is put out is
 -- what the machine ends with.
-use mathlib.Core.Path.{_≡_, refl, sym, ap, ap₂, subst, _∙_}
-use Prim.Native.Nat.{ℕ, _+_, _≤_, _<_}
+use mathlib.Core.Path.{_≡_, refl, sym, ap, subst, _∙_}
+use Prim.Native.Nat.{ℕ, _+_, _≤_}
 use native.Mathlib.Omega.{arith}
 use mathlib.Core.List.{List, _++_, append-assoc}
 use lib.ListN.{length, take, drop, length-append, length-drop}
-use lib.Seq.{take-at, drop-at}
+use lib.Seq.{take-at}
 use Rattle.bytes_order.specs.BoolLaws.{true-false}
 use Rattle.update_format.specs.Update.{Update}
+use Rattle.rules.specs.declared.Form.the-variants.{Full}
 use Rattle.rules.specs.Report.{reportOf, maxReport}
 use Rattle.rules.specs.ReportLaws.{report-length}
 use Rattle.ledger_state.specs.declared.Ledger.{Ledger}
@@ -25,17 +26,17 @@ use Rattle.command_session.specs.Feeding as feeding
 use Rattle.command_session.specs.FeedLaws.{Follows}
 
 -- a report that is written lies within its buffer
-pub report-within : {l : Book} {s out o : List ℕ} {n : ℕ} → ReportRow l s out (putBytes n) o → n ≤ length out
+pub report-within : {l : Book} {s out o : List ℕ} {n : ℕ} → ReportRow Full l s out (putBytes n) o → n ≤ length out
 report-within (written text e t j) = j
 
 -- a report of a ledger that stands has at most 12,000 bytes
-report-few : {l : Book} {s : List ℕ} (us : List Update) → Stands l s us → length (reportOf ident us) ≤ maxReport
-report-few us h = report-length ident ident-length us (h .holds .distinct) (h .holds .room) (h .holds .bounded)
+report-few : {l : Book} {s : List ℕ} (us : List Update) → Stands l s us → length (reportOf Full ident us) ≤ maxReport
+report-few us h = report-length Full ident ident-length us (h .holds .distinct) (h .holds .room) (h .holds .bounded)
 
 module _ {l : Book} {s : List ℕ} {us : List Update} (h : Stands l s us) (out : List ℕ) where
   -- .. and so it is written where there is room for 12,000
-  report-written : maxReport ≤ length out → {v : Output} {out′ : List ℕ} → ReportRow l s out v out′
-      → (v ≡ putBytes (length (reportOf ident us))) × (out′ ≡ reportOf ident us ++ drop (length (reportOf ident us)) out)
+  report-written : maxReport ≤ length out → {v : Output} {out′ : List ℕ} → ReportRow Full l s out v out′
+      → (v ≡ putBytes (length (reportOf Full ident us))) × (out′ ≡ reportOf Full ident us ++ drop (length (reportOf Full ident us)) out)
   report-written room (unfit e) = absurd (true-false (stands-sound l s us h) e)
   report-written room (short text e t j) = absurd (omega (arith, report-few us h, ap length (t .of-rules us h)))
   report-written room (written text e t j) =
@@ -53,7 +54,7 @@ module _ {l l′ : Ledger} {s s′ buffer : List ℕ} {fill : ℕ} (m : Machine)
   after = lastLine m (m .line)
 
   abbrev text : List ℕ
-  text = reportOf ident (after .stored)
+  text = reportOf Full ident (after .stored)
 
   abbrev page : List ℕ
   page = put ++ drop (length put) out

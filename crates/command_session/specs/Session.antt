@@ -8,6 +8,7 @@ use lib.Dec.{eqb}
 use Rattle.update_format.specs.Update.{Update}
 use Rattle.update_format.specs.Decode.{decode}
 use Rattle.bytes_ascii.specs.Ascii.{ascii}
+use Rattle.rules.specs.declared.Form.the-variants.{Full}
 use Rattle.rules.specs.Report.{reportOf}
 use Rattle.ledger_state.specs.Stands.{ident}
 use Rattle.command_syntax.specs.Syntax.{readLine}
@@ -43,9 +44,9 @@ unfoldable pub lastLine : Machine → List ℕ → Machine
 lastLine m [] = m
 lastLine m (c ∷ cs) = endLine m
 
--- "Then comes the report"
+-- "Then comes the report": the command names the full form (document 02, E10)
 unfoldable pub finish : Machine → List ℕ
-finish m = lastLine m (m .line) .out ++ reportOf ident (lastLine m (m .line) .stored)
+finish m = lastLine m (m .line) .out ++ reportOf Full ident (lastLine m (m .line) .stored)
 
 -- "The command reads at most 4,294,967,296 bytes; its input counts as ended there."
 abbrev pub maxInput : ℕ

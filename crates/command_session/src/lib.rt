@@ -14,6 +14,7 @@ use command_lines::take_line;
 use command_syntax::Line;
 use command_syntax::MAX_LINE;
 use command_syntax::MAX_OFFERED;
+use ledger::Form;
 use ledger::Ledger;
 use ledger::MAX_REPORT;
 use ledger::Refusal;
@@ -160,12 +161,12 @@ pub fn feed(
     feed_lines(ledger, store, line, fill, input, out)
 }
 
-// Puts the report after the first `at` bytes of the output buffer.
+// Puts the full report after the first `at` bytes of the output buffer.
 fn report_at(ledger: Ledger, store: &[u8], out: &mut [u8], at: usize) -> Finished
     requires { ⌜ at ≤ length (now out) ⌝ }
     ensures { λ r. ⌜ ReportsAt (bookOf ledger) (now (store .entry)) at (now (out .entry)) (endValues r) (now (out .exit)) ⌝ }
 {
-    match ledger::report(ledger, store, &mut out[at..]) {
+    match ledger::report_as(ledger, store, Form::Full, &mut out[at..]) {
         Reported::Written(n) => Finished::Written(at + n),
         Reported::Refused(refusal) => Finished::Unreported(at, refusal),
     }

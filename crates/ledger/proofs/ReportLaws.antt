@@ -1,10 +1,11 @@
--- What the entry `report` has shown at each of its ends.
-use mathlib.Core.Path.{_≡_, sym, subst, _∙_, ap}
+-- What the entry `report_as` has shown at each of its ends.
+use mathlib.Core.Path.{_≡_, refl, sym, subst, _∙_, ap}
 use Prim.Native.Nat.{ℕ, _≤_, _<_}
 use native.Mathlib.Nat.{zero-add}
 use mathlib.Core.List.{List, _++_}
 use mathlib.Core.Bool.{true}
 use lib.ListN.{length, drop}
+use Rattle.rules.specs.declared.Form.{Form}
 use Rattle.ledger_state.specs.Row1.{sound}
 use Rattle.ledger_state.specs.State.{Book}
 use Rattle.report_text.specs.Text.{textOf}
@@ -14,19 +15,22 @@ use Rattle.ledger_refusals.specs.declared.Refusal.the-variants.{Short}
 use Rattle.ledger.specs.declared.Reported.the-variants.{Written, Refused}
 use Rattle.ledger.specs.Report.{ReportText, Reporting, short, written}
 
-module _ (l : Book) (s : List ℕ) (fits : sound l s ≡ true) {page page₁ : List ℕ} {n : ℕ} (asked : Prints page 0 (textOf l s) page₁ n) (o : List ℕ) where
-  text : ReportText l s (textOf l s)
-  text = record { of-rules = text-right l s }
+module _ (form : Form) (l : Book) (s : List ℕ) (fits : sound l s ≡ true) {page page₁ : List ℕ} {n : ℕ} (asked : Prints page 0 (textOf l s form) page₁ n) (o : List ℕ) where
+  abbrev text : List ℕ
+  text = textOf l s form
 
-  long : n ≡ length (textOf l s)
-  long = asked .past ∙ zero-add (length (textOf l s))
+  is-text : ReportText form l s text
+  is-text = record { of-rules = text-right form l s; determined = refl }
 
-  pub reported-short : length o < n → Reporting l s o (Refused Short) o
-  reported-short h = short (textOf l s) fits text (subst (λ (k : ℕ). length o < k) long h)
+  long : n ≡ length text
+  long = asked .past ∙ zero-add (length text)
 
-  pub reported-written : n ≤ length o → {o′ : List ℕ} {m : ℕ} → Prints o 0 (textOf l s) o′ m → Reporting l s o (Written n) o′
+  pub reported-short : length o < n → Reporting form l s o (Refused Short) o
+  reported-short h = short text fits is-text (subst (λ (k : ℕ). length o < k) long h)
+
+  pub reported-written : n ≤ length o → {o′ : List ℕ} {m : ℕ} → Prints o 0 (textOf l s form) o′ m → Reporting form l s o (Written n) o′
   reported-written h {o′} {m} p =
       let same : m ≡ n = p .past ∙ sym (asked .past) in
-      let put : o′ ≡ textOf l s ++ drop (length (textOf l s)) o =
-      p .fits (subst (λ (k : ℕ). k ≤ length o) (sym same) h) ∙ ap (λ (k : ℕ). textOf l s ++ drop k o) (zero-add (length (textOf l s))) in
-      rw (put, long) (written (textOf l s) fits text (subst (λ (k : ℕ). k ≤ length o) long h))
+      let put : o′ ≡ text ++ drop (length text) o =
+      p .fits (subst (λ (k : ℕ). k ≤ length o) (sym same) h) ∙ ap (λ (k : ℕ). text ++ drop k o) (zero-add (length text)) in
+      rw (put, long) (written text fits is-text (subst (λ (k : ℕ). k ≤ length o) long h))

@@ -7,6 +7,7 @@ use lib.ListN.{length, take, drop}
 use lib.Seq.{take-append-seam}
 use Rattle.update_format.specs.Update.{Update}
 use Rattle.update_format.specs.Decode.{decode}
+use Rattle.rules.specs.declared.Form.{Form}
 use Rattle.rules.specs.Parts.{Parts, ReadFrom}
 use Rattle.rules.specs.Settle.{partsOf}
 use Rattle.rules.specs.Report.{reportText, reportOf}
@@ -23,22 +24,22 @@ use Rattle.ledger.specs.Report.{ReportRow, unfit, short, written, Report
 use Rattle.ledger.specs.Calls.{Calls, stored, offers-stand, AnswersFor, stands-answers}
 use Rattle.ledger.specs.Answers.{answerFor, answer-right}
 
--- the text is laid out from parts that are exactly those that the rules give for the updates
-pub record LaidOut (us : List Update) (text : List ℕ) : Type 0 where
+-- the text is laid out in the form from parts that are exactly those that the rules give for the updates
+pub record LaidOut (form : Form) (us : List Update) (text : List ℕ) : Type 0 where
   pub parts : Parts
   pub read : ReadFrom ident us parts
-  pub laid-out : text ≡ reportText ident parts
+  pub laid-out : text ≡ reportText form ident parts
 
--- What the entries say of a ledger and its store is what the rules give for the updates: the standing of every id, the bytes of a report, and the answer to a
--- further offer.
+-- What the entries say of a ledger and its store is what the rules give for the updates: the standing of every id, the bytes of a report in each form, and the
+-- answer to a further offer.
 pub record AsRuled (us : List Update) (l : Ledger) (s : List ℕ) : Type 0 where
   pub standing : AnswersFor (bookOf l) s us
-  pub reported : {o o′ : List ℕ} {n : ℕ} → Reporting (bookOf l) s o (Written n) o′ → LaidOut us (take n o′)
+  pub reported : (form : Form) {o o′ : List ℕ} {n : ℕ} → Reporting form (bookOf l) s o (Written n) o′ → LaidOut form us (take n o′)
   pub answered : (b : List ℕ) {v : OfferValues} {r : Ledger} {s′ : List ℕ} → OfferRow l s b v r s′ → v ≡ answerFor us (decode b)
 
 -- the bytes reported of a ledger that stands
-pub report-shown : {l : Book} {s o o′ : List ℕ} {v : Output} (us : List Update) → Stands l s us → ReportRow l s o v o′
-    → (n : ℕ) → v ≡ putBytes n → take n o′ ≡ reportOf ident us
+pub report-shown : {form : Form} {l : Book} {s o o′ : List ℕ} {v : Output} (us : List Update) → Stands l s us → ReportRow form l s o v o′
+    → (n : ℕ) → v ≡ putBytes n → take n o′ ≡ reportOf form ident us
 report-shown us h (unfit e) n q = let z : _≡_ {A = ℕ} 0 1 = cc in absurd (omega arith)
 report-shown us h (short text e t k) n q = let z : _≡_ {A = ℕ} 0 1 = cc in absurd (omega arith)
 report-shown {o = o} us h (written text e t k) n q =
@@ -50,7 +51,7 @@ unfolding reportOf
 stands-ruled l {s} us h =
     record {
       standing = stands-answers (bookOf l) s us h;
-      reported = λ {o} {o′} {n} r. record { parts = partsOf ident us; read = read-right ident us (h .holds .distinct); laid-out = report-shown us h r n refl };
+      reported = λ form {o} {o′} {n} r. record { parts = partsOf ident us; read = read-right ident us (h .holds .distinct); laid-out = report-shown us h r n refl };
       answered = λ b o. answer-right l s us h b o;
     }
 

@@ -1,6 +1,7 @@
 // The hours ledger: the public library. Copies of the ledger take updates in any order; each stored update is held, waiting or void by its ancestors
 // alone. The bookkeeping goes in by value and the new one comes back; the updates' bytes lie in a store that the caller lends.
 ghost use mathlib.Core.Path.{_≡_};
+ghost use Rattle.rules.specs.Report.{defaultForm, longest};
 ghost use Rattle.ledger_state.specs.View.{bookOf};
 ghost use Rattle.ledger_offering.specs.Offer.{Offering};
 ghost use Rattle.ledger.specs.Ask.{askedValues, askedOf};
@@ -18,6 +19,8 @@ pub use ledger_state::Standing;
 use ledger_state::find::find;
 pub use ledger_state::fresh;
 pub use report_text::MAX_REPORT;
+pub use report_text::MAX_SHORT_REPORT;
+pub use rules::Form;
 use update_format::Id;
 use update_format::Malformed;
 use update_format::ParseResult;
@@ -71,19 +74,36 @@ pub enum Reported {
     Refused(Refusal),
 }
 
-// Puts the report at the start of the output buffer; the bytes after it keep their values.
+// Room for every report in the form of a ledger that the library made.
+pub fn room(form: Form) -> usize
+    ensures { λ r. ⌜ r ≡ longest form ⌝ }
+{
+    match form {
+        Form::Full => MAX_REPORT,
+        Form::Short => MAX_SHORT_REPORT,
+    }
+}
+
+// Puts the report at the start of the output buffer; the bytes after it keep their values. No form is named: the report is the short one.
 pub fn report(ledger: Ledger, store: &[u8], out: &mut [u8]) -> Reported
-    ensures { λ r. ⌜ Reporting (bookOf ledger) (now (store .entry)) (now (out .entry)) r (now (out .exit)) ⌝ }
+    ensures { λ r. ⌜ Reporting defaultForm (bookOf ledger) (now (store .entry)) (now (out .entry)) r (now (out .exit)) ⌝ }
+{
+    report_as(ledger, store, Form::Short, out)
+}
+
+// The same in the form that is named.
+pub fn report_as(ledger: Ledger, store: &[u8], form: Form, out: &mut [u8]) -> Reported
+    ensures { λ r. ⌜ Reporting form (bookOf ledger) (now (store .entry)) (now (out .entry)) r (now (out .exit)) ⌝ }
 {
     if !sound(ledger, store) {
         return Reported::Refused(Refusal::Unfit);
     }
     let mut page = [0u8; 1];
-    let length = report_text::print(ledger, store, &mut page);
+    let length = report_text::print(ledger, store, form, &mut page);
     if out.len() < length {
         return Reported::Refused(Refusal::Short);
     }
-    report_text::print(ledger, store, out);
+    report_text::print(ledger, store, form, out);
     Reported::Written(length)
 }
 

@@ -5,6 +5,7 @@ use mathlib.Core.List.{List}
 use mathlib.Core.Bool.{true, false}
 use lib.ListN.{length, take}
 use Rattle.bytes_order.specs.Order.{same}
+use Rattle.rules.specs.declared.Form.the-variants.{Full}
 use Rattle.ledger_refusals.specs.declared.Refusal.{Refusal}
 use Rattle.ledger_refusals.specs.Numbers.{refusalNumber}
 use Rattle.ledger.specs.declared.Reported.{Reported}
@@ -17,8 +18,8 @@ use Rattle.replicas_check.specs.LengthLaws.{report-within, written-lengt
 use Rattle.replicas_check.specs.Check.{OneCopy, comparedOf, SecondChecking, unreported, compared, Checking, first-unreported, checking}
 
 module _ {s s′ o o′ : List ℕ} {bs : List (List ℕ)} {r : Reported} (c : OneCopy bs s o r s′ o′) where
-  answered : {x : Reported} → r ≡ x → Reporting (bookOf (c .ledger)) s′ o x o′
-  answered q = subst (λ (x : Reported). Reporting (bookOf (c .ledger)) s′ o x o′) q (c .reports)
+  answered : {x : Reported} → r ≡ x → Reporting Full (bookOf (c .ledger)) s′ o x o′
+  answered q = subst (λ (x : Reported). Reporting Full (bookOf (c .ledger)) s′ o x o′) q (c .reports)
 
   -- a report that is written lies within the buffer
   pub copy-within : {n : ℕ} → r ≡ Written n → n ≤ length o′
@@ -34,7 +35,7 @@ module _ {s s′ o o′ : List ℕ} {bs : List (List ℕ)} {r : Reported} (c : O
   pub first-not : {ys : List (List ℕ)} {t p : List ℕ} {e : Refusal} → r ≡ NotReported e → Checking bs ys s t o p (FirstUnreported e) s′ t o′ p
   first-not {ys} {t} {p} {e} q =
       subst (λ (x : List ℕ). Checking bs ys s t o p (FirstUnreported e) s′ t x p) (sym (silent q))
-      (first-unreported e (c .calls) (subst (λ (x : List ℕ). Reporting (bookOf (c .ledger)) s′ o (NotReported e) x) (silent q) (answered q)))
+      (first-unreported e (c .calls) (subst (λ (x : List ℕ). Reporting Full (bookOf (c .ledger)) s′ o (NotReported e) x) (silent q) (answered q)))
 
   pub both : {ys : List (List ℕ)} {t p : List ℕ} {n : ℕ} → r ≡ Written n → {a : Compared} {t′ p′ : List ℕ}
       → SecondChecking (take n o′) ys t p a t′ p′ → Checking bs ys s t o p a s′ t′ o′ p′
@@ -44,7 +45,7 @@ module _ {s s′ o o′ : List ℕ} {bs : List (List ℕ)} {r : Reported} (c : O
     pub second-not : {e : Refusal} → r ≡ NotReported e → SecondChecking first bs s o (SecondUnreported e) s′ o′
     second-not {e} q =
         subst (λ (x : List ℕ). SecondChecking first bs s o (SecondUnreported e) s′ x) (sym (silent q))
-        (unreported e (c .calls) (subst (λ (x : List ℕ). Reporting (bookOf (c .ledger)) s′ o (NotReported e) x) (silent q) (answered q)))
+        (unreported e (c .calls) (subst (λ (x : List ℕ). Reporting Full (bookOf (c .ledger)) s′ o (NotReported e) x) (silent q) (answered q)))
 
     module _ {n : ℕ} (q : r ≡ Written n) where
       second-is : (a : Compared) → comparedOf first (take n o′) ≡ a → SecondChecking first bs s o a s′ o′

@@ -5,6 +5,7 @@ use native.Mathlib.Omega.{arith}
 use mathlib.Core.List.{List}
 use lib.ListN.{length, take, drop, length-append}
 use lib.Seq.{length-take-le}
+use Rattle.rules.specs.declared.Form.{Form}
 use Rattle.ledger_state.specs.declared.Ledger.{Ledger}
 use Rattle.ledger_state.specs.State.{storeLength, Book}
 use Rattle.ledger_state.specs.View.{bookOf}
@@ -27,27 +28,27 @@ pub calls-length : {l l′ : Ledger} {s s′ : List ℕ} {bs : List (List ℕ)} 
 calls-length done = refl
 calls-length (call o c) = calls-length c ∙ offer-length o
 
-report-store : {l : Book} {s o o′ : List ℕ} {v : Output} → ReportRow l s o v o′ → (n : ℕ) → v ≡ putBytes n → length s ≡ storeLength
+report-store : {form : Form} {l : Book} {s o o′ : List ℕ} {v : Output} → ReportRow form l s o v o′ → (n : ℕ) → v ≡ putBytes n → length s ≡ storeLength
 report-store (not-fit e) n q = let z : _≡_ {A = ℕ} 0 1 = cc in absurd (omega arith)
 report-store (short text e t k) n q = let z : _≡_ {A = ℕ} 0 1 = cc in absurd (omega arith)
 report-store {l = l} {s = s} (written text e t k) n q = sound→ l s e .store
 
 -- so the first store had it too
-pub reported-store : {l l′ : Ledger} {s s′ o o′ : List ℕ} {bs : List (List ℕ)} {n : ℕ} → Calls l s bs l′ s′ → Reporting (bookOf l′) s′ o (Written n) o′
+pub reported-store : {form : Form} {l l′ : Ledger} {s s′ o o′ : List ℕ} {bs : List (List ℕ)} {n : ℕ} → Calls l s bs l′ s′ → Reporting form (bookOf l′) s′ o (Written n) o′
     → length s ≡ storeLength
 reported-store {n = n} c r = sym (calls-length c) ∙ report-store r n refl
 
 -- a report that is written lies within the buffer
-pub report-within : {l : Book} {s o o′ : List ℕ} {v : Output} → ReportRow l s o v o′ → (n : ℕ) → v ≡ putBytes n → n ≤ length o′
+pub report-within : {form : Form} {l : Book} {s o o′ : List ℕ} {v : Output} → ReportRow form l s o v o′ → (n : ℕ) → v ≡ putBytes n → n ≤ length o′
 report-within (not-fit e) n q = let z : _≡_ {A = ℕ} 0 1 = cc in absurd (omega arith)
 report-within (short text e t k) n q = let z : _≡_ {A = ℕ} 0 1 = cc in absurd (omega arith)
 report-within {o = o} (written text e t k) n q = let p : length text ≡ n = cc in omega (arith, p, length-append text (drop (length text) o))
 
-pub written-length : {l : Book} {s o o′ : List ℕ} {v : Output} → ReportRow l s o v o′ → (n : ℕ) → v ≡ putBytes n → length (take n o′) ≡ n
+pub written-length : {form : Form} {l : Book} {s o o′ : List ℕ} {v : Output} → ReportRow form l s o v o′ → (n : ℕ) → v ≡ putBytes n → length (take n o′) ≡ n
 written-length {o′ = o′} h n q = length-take-le n o′ (report-within h n q)
 
 -- a report that is refused leaves the buffer as it was
-pub refused-leaves : {l : Book} {s o o′ : List ℕ} {v : Output} → ReportRow l s o v o′ → (n : ℕ) → v ≡ refusedBy n → o′ ≡ o
+pub refused-leaves : {form : Form} {l : Book} {s o o′ : List ℕ} {v : Output} → ReportRow form l s o v o′ → (n : ℕ) → v ≡ refusedBy n → o′ ≡ o
 refused-leaves (not-fit e) n q = refl
 refused-leaves (short text e t k) n q = refl
 refused-leaves (written text e t k) n q = let z : _≡_ {A = ℕ} 0 1 = cc in absurd (omega arith)

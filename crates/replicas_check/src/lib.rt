@@ -3,6 +3,7 @@ ghost use mathlib.Core.List.{map};
 ghost use Rattle.ledger_state.specs.View.{freshLedger};
 ghost use Rattle.ledger.specs.Calls.{Calls};
 ghost use Rattle.replicas_check.specs.Check.{OneCopy, Checking, SecondChecking};
+use ledger::Form;
 use ledger::Ledger;
 use ledger::Refusal;
 use ledger::Reported;
@@ -36,12 +37,12 @@ fn offer_all(xs: &[&[u8]], store: &mut [u8]) -> Ledger
     l
 }
 
-// One copy: offers all of xs to a fresh ledger, and reports.
+// One copy: offers all of xs to a fresh ledger, and gives its full report.
 fn report_all(xs: &[&[u8]], store: &mut [u8], out: &mut [u8]) -> Reported
     ensures { λ r. ⌜ OneCopy (map (λ x. now x) (now (xs .entry))) (now (store .entry)) (now (out .entry)) r (now (store .exit)) (now (out .exit)) ⌝ }
 {
     let l = offer_all(xs, store);
-    ledger::report(l, store, out)
+    ledger::report_as(l, store, Form::Full, out)
 }
 
 // The second copy, beside the full report of the first.

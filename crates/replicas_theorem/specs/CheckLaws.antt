@@ -7,6 +7,7 @@ use mathlib.Core.Bool.{Bool, true, false}
 use lib.ListN.{length, take}
 use Rattle.bytes_order.specs.Order.{same}
 use Rattle.bytes_order.specs.OrderLaws.{same→eq, eq→same}
+use Rattle.rules.specs.declared.Form.the-variants.{Full}
 use Rattle.ledger_state.specs.declared.Ledger.{Ledger}
 use Rattle.ledger_state.specs.State.{storeLength}
 use Rattle.ledger_state.specs.View.{bookOf, freshLedger}
@@ -46,8 +47,8 @@ pub record BothReported (r : Compared) : Type 0 where
 pub record CheckSays (xs ys : List (List ℕ)) (r : Compared) (out other-out : List ℕ) : Type 0 where
   pub equal-sets-same : setOf xs ≡ setOf ys → (n : ℕ) × (r ≡ Same n)
   pub same-equal-sets : (n : ℕ) → r ≡ Same n → setOf xs ≡ setOf ys
-  pub first-right : take (firstLength r) out ≡ reportFor (setOf xs)
-  pub second-right : take (secondLength r) other-out ≡ reportFor (setOf ys)
+  pub first-right : take (firstLength r) out ≡ reportFor Full (setOf xs)
+  pub second-right : take (secondLength r) other-out ≡ reportFor Full (setOf ys)
 
 -- the answer for two full reports
 module _ (first second : List ℕ) where
@@ -85,8 +86,8 @@ module _ (first second : List ℕ) where
       }
 
 -- a copy that was reported
-reported-copy : {l : Ledger} {s s′ o o′ : List ℕ} {bs : List (List ℕ)} (n : ℕ) → Calls freshLedger s bs l s′ → Reporting (bookOf l) s′ o (Written n) o′
-    → Copy bs (take n o′)
+reported-copy : {l : Ledger} {s s′ o o′ : List ℕ} {bs : List (List ℕ)} (n : ℕ) → Calls freshLedger s bs l s′ → Reporting Full (bookOf l) s′ o (Written n) o′
+    → Copy Full bs (take n o′)
 reported-copy {l} {s} {s′} {o} {o′} n c h =
     record {
       first-store = s;
@@ -102,8 +103,8 @@ reported-copy {l} {s} {s′} {o} {o′} n c h =
     }
 
 compared-says : {l m : Ledger} {s s′ o o′ t t′ p p′ : List ℕ} {xs ys : List (List ℕ)} (n k : ℕ)
-    → Calls freshLedger s xs l s′ → Reporting (bookOf l) s′ o (Written n) o′
-    → Calls freshLedger t ys m t′ → Reporting (bookOf m) t′ p (Written k) p′
+    → Calls freshLedger s xs l s′ → Reporting Full (bookOf l) s′ o (Written n) o′
+    → Calls freshLedger t ys m t′ → Reporting Full (bookOf m) t′ p (Written k) p′
     → Fits xs → Fits ys → NoCollision xs ys → CheckSays xs ys (comparedOf (take n o′) (take k p′)) o′ p′
 compared-says {o′ = o′} {p′ = p′} {xs = xs} {ys = ys} n k c h d q fits-first fits-second none =
     let first = take n o′ in

@@ -2,11 +2,13 @@
 --
 -- The reports are equal, byte for byte, exactly when the two sets of well-formed updates are equal; and each report is, byte for byte, the one that the rules
 -- give for its set. What is assumed: neither list holds more than 64 distinct well-formed updates, and no two different ones of both lists share a SHA-256.
--- Assumes nothing else.
+-- Assumes nothing else. Of short reports (document 02, E10) the same is claimed, but for what unequal sets show.
 use mathlib.Core.Path.{_≡_, refl, sym, _∙_, ap}
 use Prim.Native.Nat.{ℕ}
 use mathlib.Core.List.{List}
 use lib.ListN.{length, take}
+use Rattle.rules.specs.declared.Form.{Form}
+use Rattle.rules.specs.declared.Form.the-variants.{Full}
 use Rattle.rules.specs.Report.{reportOf}
 use Rattle.rules.specs.ReportLaws.{same-report, report-shows-set}
 use Rattle.ledger_state.specs.declared.Ledger.{Ledger}
@@ -21,9 +23,9 @@ use Rattle.replicas_theorem.specs.Sets.{setOf, reportFor, Fits, NoCollis
 use Rattle.replicas_theorem.specs.SetLaws.{Apart, first-apart, second-apart, both-apart, updatesOf, updates-distinct, updates-identified, updates-unique}
 use Rattle.replicas_theorem.specs.StoredLaws.{stored-distinct, stored-same}
 
--- One copy: offers of the byte strings to a fresh ledger and a store of the stated length, holding anything, and then a report in the buffer o, which
--- answers with its length. "A full report is the bytes put at the start of the output buffer, as many as the returned length."
-pub record Copy (bs : List (List ℕ)) (full : List ℕ) : Type 0 where
+-- One copy: offers of the byte strings to a fresh ledger and a store of the stated length, holding anything, and then a report of the form in the buffer o,
+-- which answers with its length. "A full report is the bytes put at the start of the output buffer, as many as the returned length."
+pub record Copy (form : Form) (bs : List (List ℕ)) (text : List ℕ) : Type 0 where
   pub first-store : List ℕ
   pub store-length : length first-store ≡ storeLength
   pub ledger : Ledger
@@ -32,42 +34,55 @@ pub record Copy (bs : List (List ℕ)) (full : List ℕ) : Type 0 where
   pub buffer : List ℕ
   pub buffer-after : List ℕ
   pub answer : ℕ
-  pub reported : Reporting (bookOf ledger) store buffer (Written answer) buffer-after
-  pub shown : full ≡ take answer buffer-after
+  pub reported : Reporting form (bookOf ledger) store buffer (Written answer) buffer-after
+  pub shown : text ≡ take answer buffer-after
 
 pub record SideBySide (xs ys : List (List ℕ)) (first second : List ℕ) : Type 0 where
   pub equal-sets-equal-reports : setOf xs ≡ setOf ys → first ≡ second
   pub equal-reports-equal-sets : first ≡ second → setOf xs ≡ setOf ys
-  pub first-right : first ≡ reportFor (setOf xs)
-  pub second-right : second ≡ reportFor (setOf ys)
+  pub first-right : first ≡ reportFor Full (setOf xs)
+  pub second-right : second ≡ reportFor Full (setOf ys)
 
--- the full report of a copy is the report of the updates stored
-copy-report : (bs : List (List ℕ)) (full : List ℕ) → Copy bs full → full ≡ reportOf ident (stored bs)
-copy-report bs full c = c .shown ∙ report-shown (stored bs) (offers-stand (c .store-length) (c .calls)) (c .reported) (c .answer) refl
+-- What both forms have in common. "Mills with equal sets have equal short reports too, but unequal sets are promised to show only in the full one." (Two unequal sets
+-- with one short report: `unequal-sets`, `equal-short-reports`, `rules/specs/SmallLaws`.)
+pub record SideBySideIn (form : Form) (xs ys : List (List ℕ)) (first second : List ℕ) : Type 0 where
+  pub equal-sets-equal-reports : setOf xs ≡ setOf ys → first ≡ second
+  pub first-right : first ≡ reportFor form (setOf xs)
+  pub second-right : second ≡ reportFor form (setOf ys)
+
+-- the report of a copy is that of the updates stored
+copy-report : {form : Form} (bs : List (List ℕ)) (text : List ℕ) → Copy form bs text → text ≡ reportOf form ident (stored bs)
+copy-report bs text c = c .shown ∙ report-shown (stored bs) (offers-stand (c .store-length) (c .calls)) (c .reported) (c .answer) refl
 
 -- and so the one that the rules give for its set
-copy-right : (bs : List (List ℕ)) (full : List ℕ) → Copy bs full → Fits bs → Apart bs bs → full ≡ reportFor (setOf bs)
+copy-right : {form : Form} (bs : List (List ℕ)) (text : List ℕ) → Copy form bs text → Fits bs → Apart bs bs → text ≡ reportFor form (setOf bs)
 unfolding reportFor
-copy-right bs full c fits one =
-    copy-report bs full c
-    ∙ same-report ident (stored bs) (updatesOf bs) (stored-distinct bs fits one) (updates-distinct bs one) (stored-same bs fits one)
+copy-right {form} bs text c fits one =
+    copy-report bs text c
+    ∙ same-report form ident (stored bs) (updatesOf bs) (stored-distinct bs fits one) (updates-distinct bs one) (stored-same bs fits one)
 
--- equal reports of two sets show equal sets
-report-shows : (xs ys : List (List ℕ)) → NoCollision xs ys → reportFor (setOf xs) ≡ reportFor (setOf ys) → setOf xs ≡ setOf ys
+-- equal full reports of two sets show equal sets
+report-shows : (xs ys : List (List ℕ)) → NoCollision xs ys → reportFor Full (setOf xs) ≡ reportFor Full (setOf ys) → setOf xs ≡ setOf ys
 unfolding reportFor
 report-shows xs ys none e =
     updates-unique xs ys
     (report-shows-set ident (updatesOf xs) (updatesOf ys) (updates-distinct xs (first-apart xs ys none)) (updates-distinct ys (second-apart xs ys none))
     (updates-identified xs ys (both-apart xs ys none)) e)
 
-pub side-by-side : (xs ys : List (List ℕ)) (first second : List ℕ) → Copy xs first → Copy ys second → Fits xs → Fits ys → NoCollision xs ys
+pub side-by-side-in : (form : Form) (xs ys : List (List ℕ)) (first second : List ℕ) → Copy form xs first → Copy form ys second
+    → Fits xs → Fits ys → NoCollision xs ys → SideBySideIn form xs ys first second
+side-by-side-in form xs ys first second p q fits-first fits-second none =
+    let r : first ≡ reportFor form (setOf xs) = copy-right xs first p fits-first (first-apart xs ys none) in
+    let s : second ≡ reportFor form (setOf ys) = copy-right ys second q fits-second (second-apart xs ys none) in
+    record { equal-sets-equal-reports = λ e. r ∙ ap (reportFor form) e ∙ sym s; first-right = r; second-right = s }
+
+pub side-by-side : (xs ys : List (List ℕ)) (first second : List ℕ) → Copy Full xs first → Copy Full ys second → Fits xs → Fits ys → NoCollision xs ys
     → SideBySide xs ys first second
 side-by-side xs ys first second p q fits-first fits-second none =
-    let r : first ≡ reportFor (setOf xs) = copy-right xs first p fits-first (first-apart xs ys none) in
-    let s : second ≡ reportFor (setOf ys) = copy-right ys second q fits-second (second-apart xs ys none) in
+    let b = side-by-side-in Full xs ys first second p q fits-first fits-second none in
     record {
-      equal-sets-equal-reports = λ e. r ∙ ap reportFor e ∙ sym s;
-      equal-reports-equal-sets = λ e. report-shows xs ys none (sym r ∙ e ∙ s);
-      first-right = r;
-      second-right = s;
+      equal-sets-equal-reports = b .equal-sets-equal-reports;
+      equal-reports-equal-sets = λ e. report-shows xs ys none (sym (b .first-right) ∙ e ∙ b .second-right);
+      first-right = b .first-right;
+      second-right = b .second-right;
     }

@@ -8,6 +8,7 @@ use Rattle.bytes_order.specs.Member.{_∈_, keep}
 use Rattle.bytes_order.specs.Sort.{sort}
 use Rattle.sha256_fips180.specs.Fips180.{SHA-256}
 use Rattle.update_format.specs.Decode.{Decoded, refused, update, decode, updateOf}
+use Rattle.rules.specs.declared.Form.{Form}
 use Rattle.rules.specs.Report.{reportOf}
 use Rattle.ledger_state.specs.State.{places}
 use Rattle.ledger_state.specs.Stands.{ident}
@@ -25,8 +26,8 @@ unfoldable pub setOf : List (List ℕ) → List (List ℕ)
 setOf bs = sort (λ (b : List ℕ). b) (keep wellFormed bs)
 
 -- "The report that the rules give for a set"
-unfoldable pub reportFor : List (List ℕ) → List ℕ
-reportFor set = reportOf ident (map updateOf set)
+unfoldable pub reportFor : Form → List (List ℕ) → List ℕ
+reportFor form set = reportOf form ident (map updateOf set)
 
 -- the list holds no more distinct well-formed updates than there are places
 abbrev pub Fits : List (List ℕ) → Type 0

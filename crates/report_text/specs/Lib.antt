@@ -1,4 +1,4 @@
-pub mod Text
 pub mod Parts
+pub mod Text
 pub mod PartLaws
 pub mod TextRight

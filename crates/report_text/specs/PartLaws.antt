@@ -1,6 +1,6 @@
 -- The lines of the report's parts are those that the rules give.
 use Prim.Native.Nat.{ℕ, _<_}
-use mathlib.Core.Path.{_≡_, sym, _∙_, ap}
+use mathlib.Core.Path.{_≡_, refl, sym, _∙_, ap}
 use mathlib.Core.List.{List, _++_}
 use mathlib.Core.Bool.{Bool, not, _&&_}
 use lib.ListN.{length}
@@ -13,11 +13,12 @@ use Rattle.ledger_state.specs.Stands.{ident, Stands}
 use Rattle.ledger_state.specs.State.{Book}
 use Rattle.ledger_relations.specs.PlaceTests.{idAt, heldAt, waitingAt, voidAt, headAt, shownAt, idOrder}
 use Rattle.report_parts.specs.PlaceParts.{setEntryAt, setOrder, entriesOf, valueAt}
-use Rattle.report_text.specs.Text.{updateLineAt}
+use Rattle.report_wording.specs.declared.Part.the-variants.{Held, Heads, Waiting, Void, Set, List as Entries}
+use Rattle.report_text.specs.Parts.{updateLineAt, listedIn, lineOf, partLines}
 use Rattle.report_parts.specs.PlacePartsLaws.{set-entries-agree}
 use Rattle.report_parts.specs.ListedLaws.{values-agree}
 use Rattle.ledger_relations.specs.RowLaws.{rowAt, update-id, order-∈, table-rows, held-agrees, waiting-agrees, void-agrees, author-agrees, head-agrees}
-use Rattle.bytes_order.specs.MemberLaws.{concatMap-map, concatMap-keep-map}
+use Rattle.bytes_order.specs.MemberLaws.{keep-all, concatMap-map, concatMap-keep-map}
 
 module _ {l : Book} {s : List ℕ} {us : List Update} (stands : Stands l s us) where
   -- the lines of the updates whose rows pass a test
@@ -33,28 +34,32 @@ module _ {l : Book} {s : List ℕ} {us : List Update} (stands : Stands l s us) w
   unfolding updateLine updateLineAt
   update-line k h = λ i. ascii "(" ++ (hex (update-id stands h i) ++ (ascii " " ++ (decimal (author-agrees stands h i) ++ ascii ")\n")))
 
-  pub held-part : concatMap (updateLineAt l s) (keep (heldAt l s) (idOrder l s)) ≡ concatMap (updateLine ident) (partsOf ident us .held)
-  unfolding partsOf partsIn heldRow
+  pub held-part : partLines l s Held (idOrder l s) ≡ concatMap (updateLine ident) (partsOf ident us .held)
+  unfolding partLines partsOf partsIn heldRow
   held-part = lines-agree (updateLine ident) (λ (r : Row). isHeld (r .verdict)) (updateLineAt l s) (heldAt l s) update-line (held-agrees stands)
 
-  pub waiting-part : concatMap (updateLineAt l s) (keep (waitingAt l s) (idOrder l s)) ≡ concatMap (updateLine ident) (partsOf ident us .waiting)
-  unfolding partsOf partsIn
+  pub waiting-part : partLines l s Waiting (idOrder l s) ≡ concatMap (updateLine ident) (partsOf ident us .waiting)
+  unfolding partLines partsOf partsIn
   waiting-part = lines-agree (updateLine ident) (λ (r : Row). isWaiting (r .verdict)) (updateLineAt l s) (waitingAt l s) update-line (waiting-agrees stands)
 
-  pub void-part : concatMap (updateLineAt l s) (keep (voidAt l s) (idOrder l s)) ≡ concatMap (updateLine ident) (partsOf ident us .void)
-  unfolding partsOf partsIn
+  pub void-part : partLines l s Void (idOrder l s) ≡ concatMap (updateLine ident) (partsOf ident us .void)
+  unfolding partLines partsOf partsIn
   void-part = lines-agree (updateLine ident) (λ (r : Row). isVoid (r .verdict)) (updateLineAt l s) (voidAt l s) update-line (void-agrees stands)
 
-  pub heads-part : concatMap (λ (k : ℕ). bytesLine (idAt l s k)) (keep (headAt l s) (idOrder l s)) ≡ concatMap (idLine ident) (partsOf ident us .heads)
-  unfolding partsOf partsIn heads idLine
+  pub heads-part : partLines l s Heads (idOrder l s) ≡ concatMap (idLine ident) (partsOf ident us .heads)
+  unfolding partLines partsOf partsIn heads idLine
   heads-part =
       lines-agree (idLine ident) (λ (r : Row). heldRow r && not (covered (settledTable ident us) r)) (λ (k : ℕ). bytesLine (idAt l s k)) (headAt l s)
       (λ k h. ap bytesLine (update-id stands h)) (head-agrees stands)
 
-  pub set-part : concatMap (λ (k : ℕ). setLine (setEntryAt l s k)) (setOrder l s) ≡ concatMap setLine (partsOf ident us .set)
-  unfolding partsOf partsIn
-  set-part = sym (concatMap-map setLine (setEntryAt l s) (setOrder l s)) ∙ ap (concatMap setLine) (set-entries-agree stands)
+  -- all places of the set are listed
+  pub set-part : partLines l s Set (setOrder l s) ≡ concatMap setLine (partsOf ident us .set)
+  unfolding partLines partsOf partsIn
+  set-part =
+      ap (concatMap (lineOf l s Set)) (keep-all (listedIn l s Set) (setOrder l s) (λ x m. refl))
+      ∙ sym (concatMap-map setLine (setEntryAt l s) (setOrder l s))
+      ∙ ap (concatMap setLine) (set-entries-agree stands)
 
-  pub list-part : concatMap (λ (k : ℕ). bytesLine (valueAt l s k)) (keep (shownAt l s) (entriesOf l s)) ≡ concatMap bytesLine (partsOf ident us .list)
-  unfolding partsOf partsIn
+  pub list-part : partLines l s Entries (entriesOf l s) ≡ concatMap bytesLine (partsOf ident us .list)
+  unfolding partLines partsOf partsIn
   list-part = sym (concatMap-map bytesLine (valueAt l s) (keep (shownAt l s) (entriesOf l s))) ∙ ap (concatMap bytesLine) (values-agree stands)

@@ -7,14 +7,13 @@ use Rattle.bytes_ascii.specs.Ascii.{ascii}
 use Rattle.update_format.specs.Update.{maxAuthor}
 use Rattle.bitset.specs.Below.{upTo}
 use Rattle.bitset.specs.Bits.{has}
-use Rattle.rules.specs.Report.{setLine, bytesLine, markLine}
+use Rattle.rules.specs.Report.{authorLine, setLine, bytesLine, markLine}
 use Rattle.ledger_state.specs.State.{places, Book}
-use Rattle.ledger_relations.specs.PlaceTests.{idAt, heldAt, waitingAt, voidAt, headAt, shownAt, idOrder}
-use Rattle.report_parts.specs.PlaceParts.{marksOf, setEntryAt, setOrder, entriesOf, valueAt}
+use Rattle.ledger_relations.specs.PlaceTests.{idAt, authorAt, heldAt, waitingAt, voidAt, headAt, shownAt}
+use Rattle.report_parts.specs.PlaceParts.{setEntryAt, valueAt}
 use Rattle.report_wording.specs.declared.Part.{Part}
 use Rattle.report_wording.specs.declared.Part.the-variants.{Held, Heads, Waiting, Void, Set, List as Entries}
 use Rattle.report_wording.specs.Lines.{maxReportLine, wordOf}
-use Rattle.report_text.specs.Text.{updateLineAt}
 use Rattle.ledger_state.specs.Bounds.{PlaceIn}
 use Rattle.bytes_print.specs.Page.{farthest}
 use Rattle.ledger_sorting.specs.declared.Places.{Places}
@@ -28,7 +27,7 @@ authorsIn w = keep (has w) (upTo (suc maxAuthor))
 unfoldable pub marksPart : List ℕ → List ℕ
 marksPart authors = ascii "(marks\n" ++ (concatMap markLine authors ++ ascii ")\n")
 
--- what bounds the bytes of the lines of a part, one for each place; of a part, with its word and its closing bracket; of the heading and the first four parts
+-- what bounds the bytes of the lines of a part, one for each place; of a part, with its word and its closing bracket; of the opening line and the first four parts
 abbrev pub maxLines : ℕ
 maxLines = places * maxReportLine
 
@@ -61,12 +60,15 @@ pub record ListOnPage (l : Book) (o : Places) (at n : ℕ) : Type 0 where
   pub is-list : PlaceList o
   pub page-within : at + n ≤ farthest
 
--- the list has the places in their order, and the parts that go by standing end at byte `at`
-pub record StandingsEnd (l : Book) (s : List ℕ) (o : Places) (at : ℕ) : Type 0 where
+-- the list has the places in their order, and what is printed before them ends at byte `at`, which is at most n
+pub record InOrderFrom (l : Book) (s : List ℕ) (o : Places) (at n : ℕ) : Type 0 where
   pub in-order : InOrder l s o
-  pub at-within : at ≤ maxStandings
+  pub at-within : at ≤ n
 
 module _ (l : Book) (s : List ℕ) where
+  unfoldable pub updateLineAt : ℕ → List ℕ
+  updateLineAt k = authorLine (idAt l s k) (authorAt l s k)
+
   abbrev pub listedIn : Part → ℕ → Bool
   listedIn Held k = heldAt l s k
   listedIn Heads k = headAt l s k
@@ -76,10 +78,10 @@ module _ (l : Book) (s : List ℕ) where
   listedIn Entries k = shownAt l s k
 
   abbrev pub lineOf : Part → ℕ → List ℕ
-  lineOf Held k = updateLineAt l s k
+  lineOf Held k = updateLineAt k
   lineOf Heads k = bytesLine (idAt l s k)
-  lineOf Waiting k = updateLineAt l s k
-  lineOf Void k = updateLineAt l s k
+  lineOf Waiting k = updateLineAt k
+  lineOf Void k = updateLineAt k
   lineOf Set k = setLine (setEntryAt l s k)
   lineOf Entries k = bytesLine (valueAt l s k)
 
@@ -88,11 +90,3 @@ module _ (l : Book) (s : List ℕ) where
 
   unfoldable pub partOf : Part → List ℕ → List ℕ
   partOf p xs = wordOf p ++ (partLines p xs ++ ascii ")\n")
-
-  unfoldable pub standings : List ℕ
-  standings =
-      ascii "(ledger 1\n"
-      ++ (partOf Held (idOrder l s) ++ (partOf Heads (idOrder l s) ++ (partOf Waiting (idOrder l s) ++ partOf Void (idOrder l s))))
-
-  unfoldable pub readOffs : List ℕ
-  readOffs = marksPart (marksOf l s) ++ (partOf Set (setOrder l s) ++ (partOf Entries (entriesOf l s) ++ ascii ")\n"))

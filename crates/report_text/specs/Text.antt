@@ -1,25 +1,29 @@
--- The report's text from a ledger and its store, and what it is to print.
+-- The report's text from a ledger and its store, in each form.
 use Prim.Native.Nat.{ℕ}
-use mathlib.Core.List.{List, _++_}
-use Rattle.bytes_order.specs.Member.{keep}
+use mathlib.Core.List.{List, [], _++_}
 use Rattle.bytes_ascii.specs.Ascii.{ascii}
-use Rattle.rules.specs.Report.{authorLine, setLine, bytesLine, markLine, partText}
+use Rattle.rules.specs.declared.Form.{Form}
+use Rattle.rules.specs.declared.Form.the-variants.{Full, Short}
+use Rattle.rules.specs.Report.{opening}
 use Rattle.ledger_state.specs.State.{Book}
-use Rattle.ledger_relations.specs.PlaceTests.{idAt, authorAt, heldAt, waitingAt, voidAt, headAt, shownAt, idOrder}
-use Rattle.report_parts.specs.PlaceParts.{marksOf, setOrder, setEntryAt, entriesOf, valueAt}
+use Rattle.ledger_relations.specs.PlaceTests.{idOrder}
+use Rattle.report_parts.specs.PlaceParts.{marksOf, setOrder, entriesOf}
+use Rattle.report_wording.specs.declared.Part.the-variants.{Held, Heads, Waiting, Void, Set, List as Entries}
+use Rattle.report_text.specs.Parts.{marksPart, partOf}
 
 module _ (l : Book) (s : List ℕ) where
-  unfoldable pub updateLineAt : ℕ → List ℕ
-  updateLineAt k = authorLine (idAt l s k) (authorAt l s k)
+  -- the parts that go by standing
+  unfoldable pub standings : List ℕ
+  standings = partOf l s Held (idOrder l s) ++ (partOf l s Heads (idOrder l s) ++ (partOf l s Waiting (idOrder l s) ++ partOf l s Void (idOrder l s)))
 
-  unfoldable pub textOf : List ℕ
-  textOf =
-      ascii "(ledger 1\n"
-      ++ partText "(held\n" updateLineAt (keep (heldAt l s) (idOrder l s))
-      (partText "(heads\n" (λ (k : ℕ). bytesLine (idAt l s k)) (keep (headAt l s) (idOrder l s))
-      (partText "(waiting\n" updateLineAt (keep (waitingAt l s) (idOrder l s))
-      (partText "(void\n" updateLineAt (keep (voidAt l s) (idOrder l s))
-      (partText "(marks\n" markLine (marksOf l s)
-      (partText "(set\n" (λ (k : ℕ). setLine (setEntryAt l s k)) (setOrder l s)
-      (partText "(list\n" (λ (k : ℕ). bytesLine (valueAt l s k)) (keep (shownAt l s) (entriesOf l s))
-      (ascii ")\n")))))))
+  -- those that are read from the held updates, and the closing bracket
+  unfoldable pub readOffs : List ℕ
+  readOffs = marksPart (marksOf l s) ++ (partOf l s Set (setOrder l s) ++ (partOf l s Entries (entriesOf l s) ++ ascii ")\n"))
+
+  -- only the full form has the first
+  abbrev pub standingsIn : Form → List ℕ
+  standingsIn Full = standings
+  standingsIn Short = []
+
+  unfoldable pub textOf : Form → List ℕ
+  textOf form = opening ++ (standingsIn form ++ readOffs)

@@ -20,6 +20,7 @@ pub mod ReadOffLaws
 pub mod PartsLaws
 pub mod SmallLaws
 pub mod TextLaws
+pub mod ShortLaws
 pub mod ReportLengthLaws
 pub mod ReportLaws
 pub mod Writing

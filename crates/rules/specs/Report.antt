@@ -1,10 +1,14 @@
--- Document 01, "Command and report", with the set lines of document 02, E5: the report's text, byte for byte, from a set alone.
+-- Document 01, "Command and report", with the set lines of document 02, E5, and the two forms of E10: the report's text, byte for byte, from a set alone.
 use Prim.Native.Nat.{ℕ}
 use Prim.Native.String.{String}
-use mathlib.Core.List.{List, _++_}
+use mathlib.Core.List.{List, [], _∷_, _++_}
+use mathlib.Core.Bool.{Bool, true, false, cond, _&&_}
+use lib.Dec.{eqb}
 use Rattle.bytes_order.specs.Member.{concatMap}
 use Rattle.bytes_ascii.specs.Ascii.{ascii, hex, decimal}
 use Rattle.update_format.specs.Update.{Id, Update}
+use Rattle.rules.specs.declared.Form.{Form}
+use Rattle.rules.specs.declared.Form.the-variants.{Full, Short}
 use Rattle.rules.specs.SetEntry.{SetEntry}
 use Rattle.rules.specs.Parts.{Parts}
 use Rattle.rules.specs.Settle.{partsOf}
@@ -33,23 +37,61 @@ markLine a = ascii "(" ++ (decimal a ++ ascii ")\n")
 unfoldable pub partText : {A : Type 0} → String → (A → List ℕ) → List A → List ℕ → List ℕ
 partText word line xs rest = ascii word ++ (concatMap line xs ++ (ascii ")\n" ++ rest))
 
--- the text laid out from the parts
-unfoldable pub reportText : (Update → Id) → Parts → List ℕ
-reportText ident parts =
-    ascii "(ledger 1\n"
-    ++ partText "(held\n" (updateLine ident) (parts .held)
-    (partText "(heads\n" (idLine ident) (parts .heads)
-    (partText "(waiting\n" (updateLine ident) (parts .waiting)
-    (partText "(void\n" (updateLine ident) (parts .void)
-    (partText "(marks\n" markLine (parts .marks)
-    (partText "(set\n" setLine (parts .set)
-    (partText "(list\n" bytesLine (parts .list)
-    (ascii ")\n")))))))
+-- the seven parts, each with what follows it
+module _ (ident : Update → Id) (parts : Parts) where
+  abbrev pub heldText : List ℕ → List ℕ
+  heldText = partText "(held\n" (updateLine ident) (parts .held)
+
+  abbrev pub headsText : List ℕ → List ℕ
+  headsText = partText "(heads\n" (idLine ident) (parts .heads)
+
+  abbrev pub waitingText : List ℕ → List ℕ
+  waitingText = partText "(waiting\n" (updateLine ident) (parts .waiting)
+
+  abbrev pub voidText : List ℕ → List ℕ
+  voidText = partText "(void\n" (updateLine ident) (parts .void)
+
+module _ (parts : Parts) where
+  abbrev pub marksText : List ℕ → List ℕ
+  marksText = partText "(marks\n" markLine (parts .marks)
+
+  abbrev pub setText : List ℕ → List ℕ
+  setText = partText "(set\n" setLine (parts .set)
+
+  abbrev pub listText : List ℕ → List ℕ
+  listText = partText "(list\n" bytesLine (parts .list)
+
+-- what the full form has of them before its marks
+abbrev pub standingsText : (Update → Id) → Parts → List ℕ → List ℕ
+standingsText ident parts rest = heldText ident parts (headsText ident parts (waitingText ident parts (voidText ident parts rest)))
+
+-- the line that opens a report
+abbrev pub opening : List ℕ
+opening = ascii "(ledger 1\n"
+
+-- The text laid out from the parts. The short form has "only those three parts, in the old order, between the same outer brackets".
+unfoldable pub reportText : Form → (Update → Id) → Parts → List ℕ
+reportText Full ident parts = opening ++ standingsText ident parts (marksText parts (setText parts (listText parts (ascii ")\n"))))
+reportText Short ident parts = opening ++ marksText parts (setText parts (listText parts (ascii ")\n")))
 
 -- "The report that the rules give for a set is the text laid out below, each part worked out from that set alone." (`read-right` of `PartsLaws`: the
 -- parts are exactly those of the definitions.)
-unfoldable pub reportOf : (Update → Id) → List Update → List ℕ
-reportOf ident S = reportText ident (partsOf ident S)
+unfoldable pub reportOf : Form → (Update → Id) → List Update → List ℕ
+reportOf form ident S = reportText form ident (partsOf ident S)
+
+-- a text's bytes from its first `(marks` on
+unfoldable pub startsWith : List ℕ → List ℕ → Bool
+startsWith [] text = true
+startsWith (w ∷ ws) [] = false
+startsWith (w ∷ ws) (b ∷ bs) = eqb w b && startsWith ws bs
+
+unfoldable pub fromMarks : List ℕ → List ℕ
+fromMarks [] = []
+fromMarks (b ∷ bs) = cond (startsWith (ascii "(marks\n") (b ∷ bs)) (b ∷ bs) (fromMarks bs)
+
+-- "A report with no form named"
+abbrev pub defaultForm : Form
+defaultForm = Short
 
 -- "There are 64 places.": a ledger's set has no more updates
 abbrev pub places : ℕ
@@ -58,3 +100,11 @@ places = 64
 -- "none passes 12,000": the bound of `report-length` (`ReportLaws`)
 abbrev pub maxReport : ℕ
 maxReport = 12000
+
+-- .. and that of the short form: 116 bytes, and 38 for each of 64 updates
+abbrev pub maxShortReport : ℕ
+maxShortReport = 2548
+
+abbrev pub longest : Form → ℕ
+longest Full = maxReport
+longest Short = maxShortReport

@@ -1,5 +1,6 @@
--- The report: it is laid out from the parts that the definitions give; the same members give the same bytes; equal bytes show the same ids, and equal sets where no
--- two updates share an id; its set entries, their order, and that their lines show them; its length.
+-- The report: it is laid out from the parts that the definitions give; the same members give the same bytes in each form; equal bytes of the full form show the same ids,
+-- and equal sets where no two updates share an id; the order of its set entries; that equal bytes of either form show the same set entries, marks and list; the short
+-- form from the full one; its length.
 use mathlib.Core.Path.{_≡_, refl, sym, _∙_, ap, subst}
 use mathlib.Core.Bool.{true}
 use mathlib.Core.Logic.{_⊎_, inl, inr}
@@ -16,12 +17,15 @@ use Rattle.bytes_order.specs.Sort.{sort}
 use Rattle.bytes_order.specs.Ascending.{Ascending}
 use Rattle.bytes_order.specs.SortLaws.{ascending-head, ascending-tail, same-sort}
 use Rattle.update_format.specs.Update.{Id, idLength, tagLength, maxAuthor, Update, Bounded}
+use Rattle.rules.specs.declared.Form.{Form}
+use Rattle.rules.specs.declared.Form.the-variants.{Full, Short}
 use Rattle.rules.specs.Standing.{Held, Void, Waiting}
 use Rattle.rules.specs.SetEntry.{SetEntry, entryKey, entryBefore}
 use Rattle.rules.specs.Parts.{Parts, ReadFrom}
-use Rattle.rules.specs.Settle.{isInsert, rounds, start, startAll, settledTable, heads, marks, setEntries, walk, entries, list, partsIn, partsOf}
-use Rattle.bytes_ascii.specs.Ascii.{codes, ascii}
-use Rattle.rules.specs.Report.{setLine, partText, reportText, reportOf, places, maxReport}
+use Rattle.rules.specs.Settle.{Table, isInsert, rounds, start, startAll, settledTable, heads, marks, setEntries, walk, entries, list, partsIn, partsOf}
+use Rattle.bytes_ascii.specs.Ascii.{codes, ascii, decimal}
+use Rattle.bytes_ascii.specs.AsciiLaws.{decimal-injective}
+use Rattle.rules.specs.Report.{setLine, partText, opening, reportText, reportOf, fromMarks, places, longest}
 use Rattle.rules.specs.Decides.{Decides}
 use Rattle.rules.specs.LeastSets.{held-stored, void-stored}
 use Rattle.rules.specs.Settling.{settled-decides, covers}
@@ -29,23 +33,26 @@ use Rattle.rules.specs.SetEntryLaws.{entry-order}
 use Rattle.rules.specs.TableLaws.{add-sized}
 use Rattle.rules.specs.ReadOffLaws.{entry-right, entry-once}
 use Rattle.rules.specs.PartsLaws.{read-right, read-unique}
-use Rattle.rules.specs.TextLaws.{set-line-injective, SameShown, text-shows}
-use Rattle.rules.specs.ReportLengthLaws.{SizedTable, text-length}
+use Rattle.rules.specs.TextLaws.{set-line-injective, SameReadOffs, SameShown, text-shows, text-shows-read-offs}
+use Rattle.rules.specs.ShortLaws.{short-text}
+use Rattle.rules.specs.ReportLengthLaws.{SizedTable, text-length, short-text-length}
 
 -- the report is laid out from the parts that the definitions give
-pub report-laid-out : (ident : Update → Id) (S : List Update) → Distinct ident S → {parts : Parts} → ReadFrom ident S parts → reportOf ident S ≡ reportText ident parts
+pub report-laid-out : (form : Form) (ident : Update → Id) (S : List Update) → Distinct ident S → {parts : Parts} → ReadFrom ident S parts
+    → reportOf form ident S ≡ reportText form ident parts
 unfolding reportOf
-report-laid-out ident S d f = ap (reportText ident) (read-unique ident S d (read-right ident S d) f)
+report-laid-out form ident S d f = ap (reportText form ident) (read-unique ident S d (read-right ident S d) f)
 
--- only the set counts
-pub same-report : (ident : Update → Id) (S S′ : List Update) → Distinct ident S → Distinct ident S′ → SameMembers S S′ → reportOf ident S ≡ reportOf ident S′
+-- only the set counts, in each form
+pub same-report : (form : Form) (ident : Update → Id) (S S′ : List Update) → Distinct ident S → Distinct ident S′ → SameMembers S S′
+    → reportOf form ident S ≡ reportOf form ident S′
 unfolding reportOf partsOf settledTable startAll
-same-report ident S S′ d d′ s =
-    λ i. reportText ident (partsIn (rounds (distinct-same-length d d′ s i) (map (start ident) (same-sort ident (distinct-identifies d) s i))))
+same-report form ident S S′ d d′ s =
+    λ i. reportText form ident (partsIn (rounds (distinct-same-length d d′ s i) (map (start ident) (same-sort ident (distinct-identifies d) s i))))
 
--- the report shows its set
+-- the full report shows its set
 pub report-shows-ids : (ident : Update → Id) (S S′ : List Update) → Distinct ident S → Distinct ident S′
-    → reportOf ident S ≡ reportOf ident S′ → (u : Update) → u ∈ S → (v : Update) × (v ∈ S′) × (ident v ≡ ident u)
+    → reportOf Full ident S ≡ reportOf Full ident S′ → (u : Update) → u ∈ S → (v : Update) × (v ∈ S′) × (ident v ≡ ident u)
 unfolding reportOf
 report-shows-ids ident S S′ d d′ e u m = step (covers ident S d u m)
   where
@@ -68,7 +75,7 @@ report-shows-ids ident S S′ d d′ e u m = step (covers ident S d u m)
     step (inr (inr h)) = let r = shown (same .void-ids) (P .void .all u h) in (r .0, void-stored ident S′ (Q .void .right (r .0) (r .1)), r .2)
 
 pub report-shows-set : (ident : Update → Id) (S S′ : List Update) → Distinct ident S → Distinct ident S′
-    → ((u v : Update) → u ∈ S → v ∈ S′ → ident u ≡ ident v → u ≡ v) → reportOf ident S ≡ reportOf ident S′ → SameMembers S S′
+    → ((u v : Update) → u ∈ S → v ∈ S′ → ident u ≡ ident v → u ≡ v) → reportOf Full ident S ≡ reportOf Full ident S′ → SameMembers S S′
 report-shows-set ident S S′ d d′ one e =
     record {
       forth = λ u m. let r = report-shows-ids ident S S′ d d′ e u m in ∈-cast (one u (r .0) m (r .1) (sym (r .2))) (r .1);
@@ -101,43 +108,97 @@ module _ {ident : Update → Id} {S : List Update} (bounded : (u : Update) → u
       following [] a = ascending-head a f m
       following (x ∷ xs) a = following xs (ascending-tail a)
 
--- the lines `(TAG author)` show the entries: equal reports have the same
-pub report-shows-entries : (ident : Update → Id) (S S′ : List Update) → Distinct ident S → Distinct ident S′
-    → ((u : Update) → u ∈ S → Bounded u) → ((u : Update) → u ∈ S′ → Bounded u) → reportOf ident S ≡ reportOf ident S′ → partsOf ident S .set ≡ partsOf ident S′ .set
+  mark-author : (a : ℕ) → a ∈ parts .marks → a ≤ maxAuthor
+  mark-author a m =
+      let p = reads .marks .right a m in
+      subst (λ (b : ℕ). b ≤ maxAuthor) (p .one-by) (bounded (p .one) (held-stored ident S (p .one-held)) .author-small)
+
+-- The lines show what they are of: equal reports, of either form, have the same set entries, marks and list.
+module _ (form : Form) (ident : Update → Id) (S S′ : List Update) (d : Distinct ident S) (d′ : Distinct ident S′)
+    (bounded : (u : Update) → u ∈ S → Bounded u) (bounded′ : (u : Update) → u ∈ S′ → Bounded u) (e : reportOf form ident S ≡ reportOf form ident S′) where
+  abbrev P : Parts
+  P = partsOf ident S
+
+  abbrev P′ : Parts
+  P′ = partsOf ident S′
+
+  shown : SameReadOffs P P′
+  unfolding reportOf
+  shown = text-shows-read-offs form ident P P′ e
+
+  pub report-shows-entries : P .set ≡ P′ .set
+  report-shows-entries =
+      map-injective setLine (P .set) (P′ .set)
+      (λ x y m n. set-line-injective x y (set-entry-author bounded (read-right ident S d) x m) (set-entry-author bounded′ (read-right ident S′ d′) y n))
+      (shown .set-lines)
+
+  pub report-shows-marks : P .marks ≡ P′ .marks
+  report-shows-marks =
+      map-injective decimal (P .marks) (P′ .marks)
+      (λ a b m n q.
+      let h : a ≤ maxAuthor = mark-author bounded (read-right ident S d) a m in
+      let k : b ≤ maxAuthor = mark-author bounded′ (read-right ident S′ d′) b n in
+      decimal-injective a b (omega arith) (omega arith) q)
+      (shown .mark-digits)
+
+  pub report-shows-list : P .list ≡ P′ .list
+  report-shows-list = map-injective (λ (v : List ℕ). v) (P .list) (P′ .list) (λ v w m n q. q) (shown .list-values)
+
+-- Document 02, E10: the short report is the first line, and what the full one has from its marks to its end
+pub short-from-full : (ident : Update → Id) (S : List Update) → reportOf Short ident S ≡ opening ++ fromMarks (reportOf Full ident S)
 unfolding reportOf
-report-shows-entries ident S S′ d d′ bounded bounded′ e =
-    map-injective setLine (partsOf ident S .set) (partsOf ident S′ .set)
-    (λ x y m n. set-line-injective x y (set-entry-author bounded (read-right ident S d) x m) (set-entry-author bounded′ (read-right ident S′ d′) y n))
-    (text-shows ident (partsOf ident S) (partsOf ident S′) e .set-lines)
+short-from-full ident S = short-text ident (partsOf ident S)
 
 -- the report of no update
 pub empty-text : (ident : Update → Id)
-    → reportOf ident [] ≡ ascii "(ledger 1\n(held\n)\n(heads\n)\n(waiting\n)\n(void\n)\n(marks\n)\n(set\n)\n(list\n)\n)\n"
+    → reportOf Full ident [] ≡ ascii "(ledger 1\n(held\n)\n(heads\n)\n(waiting\n)\n(void\n)\n(marks\n)\n(set\n)\n(list\n)\n)\n"
 unfolding reportOf partsOf partsIn settledTable startAll rounds sort reportText partText keep concatMap heads marks setEntries list entries walk ascii codes
 empty-text ident = refl
 
+pub empty-short-text : (ident : Update → Id) → reportOf Short ident [] ≡ ascii "(ledger 1\n(marks\n)\n(set\n)\n(list\n)\n)\n"
+unfolding reportOf partsOf partsIn settledTable startAll rounds sort reportText partText keep concatMap marks setEntries list entries walk ascii codes
+empty-short-text ident = refl
+
 -- "The empty report is 72 bytes; none passes 12,000."
-pub empty-length : (ident : Update → Id) → length (reportOf ident []) ≡ 72
+pub empty-length : (ident : Update → Id) → length (reportOf Full ident []) ≡ 72
 unfolding ascii codes
 empty-length ident = ap length (empty-text ident)
 
-pub report-length : (ident : Update → Id) → ((u : Update) → length (ident u) ≡ idLength) → (S : List Update) → Distinct ident S → length S ≤ places
-    → ((u : Update) → u ∈ S → Bounded u) → length (reportOf ident S) ≤ maxReport
-unfolding reportOf partsOf isInsert
-report-length ident sized S d few bounded =
-    let rows = distinct-length (D .once) (map ident S) (λ r m. ∈-cast (D .has-id r m) (∈-map ident (D .of-set r m))) in
-    let size = length-map S ident in
-    let long = text-length ident sized (settledTable ident S) sizes in
-    omega arith
-  where
-    D : Decides ident S (settledTable ident S)
-    D = settled-decides ident S d
+pub empty-short-length : (ident : Update → Id) → length (reportOf Short ident []) ≡ 36
+unfolding ascii codes
+empty-short-length ident = ap length (empty-short-text ident)
 
-    sizes : SizedTable (settledTable ident S)
-    sizes =
-        record {
-          bounded = λ r m. bounded (r .update) (D .of-set r m);
-          entry-row = λ r m. entry-right ident S (settledTable ident S) d D r m .0;
-          entry-insert = λ r m. ap isInsert (entry-right ident S (settledTable ident S) d D r m .2 .is-insert);
-          entry-once = entry-once ident S (settledTable ident S) d D;
-        }
+module _ (ident : Update → Id) (S : List Update) (d : Distinct ident S) where
+  abbrev T : Table
+  T = settledTable ident S
+
+  D : Decides ident S T
+  D = settled-decides ident S d
+
+  table-few : length S ≤ places → length T ≤ places
+  table-few few =
+      let rows = distinct-length (D .once) (map ident S) (λ r m. ∈-cast (D .has-id r m) (∈-map ident (D .of-set r m))) in
+      let size = length-map S ident in
+      omega arith
+
+  table-sized : ((u : Update) → u ∈ S → Bounded u) → SizedTable T
+  unfolding isInsert
+  table-sized bounded =
+      record {
+        bounded = λ r m. bounded (r .update) (D .of-set r m);
+        entry-row = λ r m. entry-right ident S T d D r m .0;
+        entry-insert = λ r m. ap isInsert (entry-right ident S T d D r m .2 .is-insert);
+        entry-once = entry-once ident S T d D;
+      }
+
+pub report-length : (form : Form) (ident : Update → Id) → ((u : Update) → length (ident u) ≡ idLength) → (S : List Update) → Distinct ident S → length S ≤ places
+    → ((u : Update) → u ∈ S → Bounded u) → length (reportOf form ident S) ≤ longest form
+unfolding reportOf partsOf
+report-length Full ident sized S d few bounded =
+    let rows = table-few ident S d few in
+    let long = text-length ident sized (settledTable ident S) (table-sized ident S d bounded) in
+    omega arith
+report-length Short ident sized S d few bounded =
+    let rows = table-few ident S d few in
+    let long = short-text-length ident sized (settledTable ident S) (table-sized ident S d bounded) in
+    omega arith

@@ -1,4 +1,4 @@
--- How long a report is: the lines of each part are bounded, and each row of a table shows in few of them.
+-- How long a report is, in each form: the lines of each part are bounded, and each row of a table shows in few of them.
 use Prim.Native.Nat.{ℕ, zero, suc, _+_, _*_, _≤_, _<_, zero-le, suc-le-suc}
 use Prim.Native.String.{String}
 use native.Mathlib.Nat.{not-suc-le-zero, le-of-suc-le-suc, le-trans, eq-or-lt-of-le}
@@ -14,12 +14,13 @@ use Rattle.bytes_order.specs.Distinct.{Distinct}
 use Rattle.bytes_order.specs.DistinctLaws.{distinct-length, distinct-subset-length}
 use Rattle.bytes_order.specs.SortLaws.{sort-∈, sort-length, sort-distinct}
 use Rattle.update_format.specs.Update.{Id, idLength, tagLength, maxAuthor, Operation, Add, Remove, Insert, Delete, BoundedOperation, add, remove, insert, delete, Update, Bounded}
+use Rattle.rules.specs.declared.Form.the-variants.{Full, Short}
 use Rattle.rules.specs.SetEntry.{SetEntry, entryKey}
 use Rattle.rules.specs.Settle.{Row, Table, Verdict, held, waiting, void, isHeld, isWaiting, isVoid, isInsert, heads, marks, tagsOf, setEntriesFrom, setEntries, entries, valuesOf, list, updatesIn, partsIn}
 use Rattle.bytes_ascii.specs.Ascii.{codes, ascii, hex, decimal}
 use Rattle.bytes_ascii.specs.AsciiLaws.{hex-length, decimal-length}
 use Rattle.rules.specs.TableLaws.{add-sized, setEntriesFrom-∈}
-use Rattle.rules.specs.Report.{authorLine, updateLine, setLine, bytesLine, idLine, markLine, partText, reportText}
+use Rattle.rules.specs.Report.{authorLine, updateLine, setLine, bytesLine, idLine, markLine, partText, marksText, setText, listText, reportText}
 use Rattle.bytes_order.specs.CountLaws.{concatMap-length, keep-concatMap-length}
 
 -- lines
@@ -56,18 +57,18 @@ unfolding setLine
 set-line-length e h a = let f = author-line-length (e .tag) (e .author) a in omega arith
 
 -- at most n bytes
-record Short (bs : List ℕ) (n : ℕ) : Type 0 where
-  short : length bs ≤ n
+record AtMost (bs : List ℕ) (n : ℕ) : Type 0 where
+  at-most : length bs ≤ n
 
 -- a part, whose word has w bytes and whose lines have n
-part-short : {A : Type 0} (word : String) (line : A → List ℕ) (xs : List A) {rest : List ℕ} {w n m : ℕ} → length (ascii word) ≡ w
-    → length (concatMap line xs) ≤ n → Short rest m → Short (partText word line xs rest) (w + n + 2 + m)
+part-at-most : {A : Type 0} (word : String) (line : A → List ℕ) (xs : List A) {rest : List ℕ} {w n m : ℕ} → length (ascii word) ≡ w
+    → length (concatMap line xs) ≤ n → AtMost rest m → AtMost (partText word line xs rest) (w + n + 2 + m)
 unfolding partText ascii codes
-part-short word line xs {rest} p h k =
+part-at-most word line xs {rest} p h k =
     let a = length-append (ascii word) (concatMap line xs ++ (ascii ")\n" ++ rest)) in
     let b = length-append (concatMap line xs) (ascii ")\n" ++ rest) in
-    let c = k .short in
-    record { short = omega arith }
+    let c = k .at-most in
+    record { at-most = omega arith }
 
 -- the numbers below n, as keys
 below : ℕ → List (List ℕ)
@@ -216,24 +217,45 @@ module _ (ident : Update → Id) (id-sized : (u : Update) → length (ident u) �
       let d = distinct-subset-length (sized .entry-once) (keep insertRow T) (λ r m. ∈-keep insertRow (sized .entry-row r m) (sized .entry-insert r m)) in
       omega arith
 
-  -- all of the text: of a row at most 70 bytes by its verdict, 67 as a head and 38 as an Add or 35 as an Insert
-  pub text-length : length (reportText ident (partsIn T)) ≤ 152 + 175 * length T
-  unfolding reportText partsIn ascii codes
-  text-length =
-      let l = part-short "(list\n" bytesLine (list T) refl list-length end in
-      let s = part-short "(set\n" setLine (setEntries T) refl set-length l in
-      let m = part-short "(marks\n" markLine (marks T) refl marks-length s in
-      let v = part-short "(void\n" (updateLine ident) (partsIn T .void) refl (updates-length (λ r. isVoid (r .verdict))) m in
-      let w = part-short "(waiting\n" (updateLine ident) (partsIn T .waiting) refl (updates-length (λ r. isWaiting (r .verdict))) v in
-      let t = part-short "(heads\n" (idLine ident) (partsIn T .heads) refl heads-length w in
-      let h = part-short "(held\n" (updateLine ident) (partsIn T .held) refl (updates-length (λ r. isHeld (r .verdict))) t in
-      let all = h .short in
-      let rows = by-verdict T in
-      let tops = heads-few in
+  -- the parts of both forms
+  read-offs-at-most : AtMost (marksText (partsIn T) (setText (partsIn T) (listText (partsIn T) (ascii ")\n")))) (106 + 38 * length (setEntries T) + 35 * length (list T))
+  unfolding partsIn ascii codes
+  read-offs-at-most =
+      let l = part-at-most "(list\n" bytesLine (list T) refl list-length end in
+      let s = part-at-most "(set\n" setLine (setEntries T) refl set-length l in
+      let m = part-at-most "(marks\n" markLine (marks T) refl marks-length s in
+      let all = m .at-most in
+      record { at-most = omega arith }
+    where
+      end : AtMost (ascii ")\n") 2
+      end = record { at-most = omega arith }
+
+  -- no more entries and values than Adds and Inserts
+  read-offs-few : length (setEntries T) + length (list T) ≤ length T
+  read-offs-few =
       let shown-entries = set-few in
       let shown-values = list-few in
       let shown = adds-inserts T in
       omega arith
-    where
-      end : Short (ascii ")\n") 2
-      end = record { short = omega arith }
+
+  -- all of the full form: of a row at most 70 bytes by its verdict, 67 as a head and 38 as an Add or 35 as an Insert
+  pub text-length : length (reportText Full ident (partsIn T)) ≤ 152 + 175 * length T
+  unfolding reportText partsIn ascii codes
+  text-length =
+      let v = part-at-most "(void\n" (updateLine ident) (partsIn T .void) refl (updates-length (λ r. isVoid (r .verdict))) read-offs-at-most in
+      let w = part-at-most "(waiting\n" (updateLine ident) (partsIn T .waiting) refl (updates-length (λ r. isWaiting (r .verdict))) v in
+      let t = part-at-most "(heads\n" (idLine ident) (partsIn T .heads) refl heads-length w in
+      let h = part-at-most "(held\n" (updateLine ident) (partsIn T .held) refl (updates-length (λ r. isHeld (r .verdict))) t in
+      let all = h .at-most in
+      let rows = by-verdict T in
+      let tops = heads-few in
+      let shown = read-offs-few in
+      omega arith
+
+  -- .. and of the short one
+  pub short-text-length : length (reportText Short ident (partsIn T)) ≤ 116 + 38 * length T
+  unfolding reportText ascii codes
+  short-text-length =
+      let all = read-offs-at-most .at-most in
+      let shown = read-offs-few in
+      omega arith

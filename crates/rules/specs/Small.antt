@@ -1,5 +1,5 @@
 -- Document 01, "Sixteen small ledgers": small sets with short stand-in ids, as a table, and the rules computed on it. The theorem that covers the table is
--- `small-ledgers` of `SmallLaws`. At the end document 02's four answers, computed.
+-- `small-ledgers` of `SmallLaws`. At the end document 02's four answers, and two sets with one short report, computed.
 --
 -- The stand-in ids are chosen so that the careless rules of "Where a careful hand goes wrong" fail here:
 --   a Remove judged by the whole set: 10 (it would be held, and remove a);
@@ -12,18 +12,21 @@
 use Prim.Native.Nat.{ℕ}
 use mathlib.Core.Path.{_≡_, refl}
 use mathlib.Core.List.{List, [], _∷_, map, _++_}
-use mathlib.Core.Bool.{Bool, true, cond, not, _&&_}
+use mathlib.Core.Bool.{Bool, true, false, cond, not, _&&_}
 use Rattle.bytes_order.specs.Order.{same, before}
 use Rattle.bytes_order.specs.Member.{member, keep, any, all, concatMap}
 use Rattle.bytes_order.specs.Sort.{insert, sort}
+use Rattle.bytes_ascii.specs.Ascii.{codes, ascii, digit, hexByte, hex, decimalIn, decimal}
 use Rattle.update_format.specs.Update.{Id, Operation, Add, Remove, Insert, Delete, Update, encode, encodeOperation}
 use Rattle.rules.specs.declared.CausalOrder.{CausalOrder}
 use Rattle.rules.specs.declared.CausalOrder.the-variants.{Same, Before, After, Apart}
+use Rattle.rules.specs.declared.Form.the-variants.{Full, Short}
 use Rattle.rules.specs.Standing.{beginning}
 use Rattle.rules.specs.SetEntry.{SetEntry, entryKey}
 use Rattle.rules.specs.Parts.{Parts}
 use Rattle.rules.specs.CausalOrder.{orderBy, isBefore, isApart, beforeOrAfter}
 use Rattle.rules.specs.Settle.{held, Table, isHeld, isWaiting, isVoid, isAdd, isInsert, heldIn, voidIn, addIn, insertIn, aboveIn, orderIn, ancestorsOf, antichain, validOp, fineBy, ruled, judgeFine, judgeKnown, judgeBy, judgeFrom, judge, round, rounds, start, startAll, settledTable, heldRow, covered, heads, forkedBy, marks, names, removed, tagsOf, setEntriesFrom, setEntries, rank, anchored, siblings, under, walk, entries, deletes, deleted, valuesOf, list, partsIn, partsOf, causalOrder}
+use Rattle.rules.specs.Report.{updateLine, setLine, bytesLine, idLine, markLine, partText, reportText, reportOf}
 
 -- an update with its stand-in id
 pub record Named : Type 0 where
@@ -401,3 +404,22 @@ crossedRows =
 pub orders-crossed : (orderIn crossedRows #a #a ∷ orderIn crossedRows #a #b ∷ orderIn crossedRows #b #a ∷ []) ≡ (Same ∷ Apart ∷ Apart ∷ [])
 unfolding same member any aboveIn orderIn orderBy
 orders-crossed = refl
+
+-- Document 02, E10: of two sets the second has one more Add of the tag, by the same author and after the first: the entry is the same, and so is the short report
+abbrev pub oneAdd : List Update
+oneAdd = namedUpdates (a ∷ [])
+
+abbrev pub twoAdds : List Update
+twoAdds = namedUpdates (a ∷ c ∷ [])
+
+abbrev pub addIdent : Update → Id
+addIdent = nameIn (a ∷ c ∷ [])
+
+abbrev pub addShort : List ℕ
+addShort = ascii "(ledger 1\n(marks\n)\n(set\n(07 1)\n)\n(list\n)\n)\n"
+
+-- .. but the full one has the second Add's id
+pub forms-computed : (reportOf Short addIdent oneAdd ≡ addShort) × (reportOf Short addIdent twoAdds ≡ addShort)
+    × (same (reportOf Full addIdent oneAdd) (reportOf Full addIdent twoAdds) ≡ false)
+unfolding by nameIn encode encodeOperation same before member keep any all concatMap insert sort isHeld isWaiting isVoid isAdd isInsert heldIn voidIn addIn insertIn aboveIn orderIn orderBy isBefore isApart beforeOrAfter ancestorsOf antichain validOp fineBy ruled judgeFine judgeKnown judgeBy judgeFrom judge round rounds start startAll settledTable heldRow covered heads forkedBy marks names removed tagsOf setEntriesFrom setEntries entryKey rank anchored siblings under walk entries deletes deleted valuesOf list partsIn partsOf a c codes ascii digit hexByte hex decimalIn decimal updateLine idLine setLine bytesLine markLine partText reportText reportOf
+forms-computed = (refl, refl, refl)

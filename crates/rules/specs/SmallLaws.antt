@@ -1,17 +1,22 @@
 -- Document 01, "Sixteen small ledgers": one theorem covers the table. For each of its sets the parts that document 01 gives are exactly those that `Standing` and
--- `ReadOff` define.
-use mathlib.Core.Path.{_≡_, sym, subst}
+-- `ReadOff` define. At the end two unequal sets with one short report.
+use mathlib.Core.Path.{_≡_, refl, sym, ap, _∙_, subst}
 use mathlib.Core.Logic.{⊎-elim}
-use mathlib.Core.List.{List, [], _∷_, map, head-eq-of-cons-eq, tail-eq-of-cons-eq, List·Memᴰ·not-nil}
+use mathlib.Core.List.{List, [], _∷_, map, head-eq-of-cons-eq, tail-eq-of-cons-eq, List·Memᴰ·head, List·Memᴰ·tail, List·Memᴰ·not-nil}
 use mathlib.Core.Bool.{true, not}
 use Prim.Native.Nat.{ℕ}
-use Rattle.bytes_order.specs.Member.{_∈_, member}
-use Rattle.bytes_order.specs.MemberLaws.{∈-cases, ∈-cast, ∈-map, member-false→, all→∈}
-use Rattle.bytes_order.specs.BoolLaws.{and-true→}
+use native.Mathlib.Omega.{arith}
+use Rattle.bytes_order.specs.Member.{_∈_, SameMembers, member}
+use Rattle.bytes_order.specs.MemberLaws.{∈-cases, ∈-singleton, ∈-cast, ∈-map, member-false→, all→∈}
+use Rattle.bytes_order.specs.BoolLaws.{true-false, and-true→}
+use Rattle.bytes_order.specs.OrderLaws.{eq→same}
 use Rattle.bytes_order.specs.Distinct.{Distinct, distinct-nil, distinct-cons}
+use Rattle.update_format.specs.Update.{Id, Update}
+use Rattle.rules.specs.declared.Form.the-variants.{Full, Short}
 use Rattle.rules.specs.Parts.{ReadFrom}
 use Rattle.rules.specs.Settle.{partsOf}
-use Rattle.rules.specs.Small.{Small, identOf, smallSet, smallLedgers, computed, apart, ids-apart}
+use Rattle.rules.specs.Report.{reportOf}
+use Rattle.rules.specs.Small.{#a, Small, by, a, c, identOf, smallSet, smallLedgers, computed, apart, ids-apart, oneAdd, twoAdds, addIdent, forms-computed}
 use Rattle.rules.specs.TableLaws.{not-true→}
 use Rattle.rules.specs.PartsLaws.{read-right}
 
@@ -34,3 +39,19 @@ small-ledgers c m =
     subst (ReadFrom (identOf c) (smallSet c))
     (agree (λ (c : Small). partsOf (identOf c) (smallSet c)) (λ (c : Small). c .gives) smallLedgers computed m)
     (read-right (identOf c) (smallSet c) (apart-distinct (identOf c) (smallSet c) (all→∈ (λ (c : Small). apart (map (identOf c) (smallSet c))) smallLedgers ids-apart c m)))
+
+-- Document 02, E10: "unequal sets are promised to show only in the full one". These two are unequal, and their short reports are equal.
+pub unequal-sets : SameMembers oneAdd twoAdds → ⊥
+unfolding a c by
+unequal-sets s =
+    let m : c .update ∈ oneAdd = s .back (c .update) (List·Memᴰ·tail (List·Memᴰ·head refl)) in
+    let e : _≡_ {A = List Id} (#a ∷ []) [] = ap (λ (u : Update). u .preds) (∈-singleton m) in
+    let z : _≡_ {A = ℕ} 0 1 = cc in
+    omega arith
+
+pub equal-short-reports : reportOf Short addIdent oneAdd ≡ reportOf Short addIdent twoAdds
+equal-short-reports = forms-computed .0 ∙ sym (forms-computed .1)
+
+-- .. and their full ones are not
+pub unequal-full-reports : reportOf Full addIdent oneAdd ≡ reportOf Full addIdent twoAdds → ⊥
+unequal-full-reports e = true-false (eq→same (reportOf Full addIdent oneAdd) (reportOf Full addIdent twoAdds) e) (forms-computed .2)

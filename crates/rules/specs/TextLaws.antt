@@ -6,11 +6,13 @@ use mathlib.Core.Path.{_≡_, refl, sym, _∙_, ap}
 use mathlib.Core.List.{List, [], _∷_, _++_, map, append-assoc, append-cancel-left, head-eq-of-cons-eq, tail-eq-of-cons-eq}
 use Rattle.bytes_order.specs.Member.{concatMap}
 use Rattle.update_format.specs.Update.{Id, maxAuthor, Update}
+use Rattle.rules.specs.declared.Form.{Form}
+use Rattle.rules.specs.declared.Form.the-variants.{Full, Short}
 use Rattle.rules.specs.SetEntry.{SetEntry}
 use Rattle.rules.specs.Parts.{Parts}
 use Rattle.bytes_ascii.specs.Ascii.{codes, ascii, hex, decimal}
 use Rattle.bytes_ascii.specs.AsciiLaws.{hex-injective, hex-digits, decimal-digits, decimal-injective, cut}
-use Rattle.rules.specs.Report.{authorLine, updateLine, setLine, bytesLine, idLine, markLine, partText, reportText}
+use Rattle.rules.specs.Report.{authorLine, updateLine, setLine, bytesLine, idLine, markLine, partText, marksText, setText, listText, opening, reportText}
 
 -- Lines that can be read back: each begins with a bracket, and shows its key, wherever it stands.
 pub record Readable {A : Type 0} (line key : A → List ℕ) : Type 0 where
@@ -121,20 +123,37 @@ mark-readable =
         let h = cut (decimal a) (decimal b) (decimal-digits a) (decimal-digits b) (omega arith) (omega arith) e in
         (h .0, tail-eq-of-cons-eq (h .1))
 
--- equal texts show the same ids, part by part, and the same lines of the set
+-- What the parts of both forms show: the digits of the marks, the lines of the set, and the list.
+pub record SameReadOffs (P Q : Parts) : Type 0 where
+  pub mark-digits : map decimal (P .marks) ≡ map decimal (Q .marks)
+  pub set-lines : map setLine (P .set) ≡ map setLine (Q .set)
+  pub list-values : map (λ (v : List ℕ). v) (P .list) ≡ map (λ (v : List ℕ). v) (Q .list)
+
+-- .. and what the full form shows too: the ids, part by part
 pub record SameShown (ident : Update → Id) (P Q : Parts) : Type 0 where
   pub held-ids : map ident (P .held) ≡ map ident (Q .held)
   pub waiting-ids : map ident (P .waiting) ≡ map ident (Q .waiting)
   pub void-ids : map ident (P .void) ≡ map ident (Q .void)
-  pub set-lines : map setLine (P .set) ≡ map setLine (Q .set)
+  pub read-offs : SameReadOffs P Q
 
-pub text-shows : (ident : Update → Id) (P Q : Parts) → reportText ident P ≡ reportText ident Q → SameShown ident P Q
+read-offs-show : (P Q : Parts) → marksText P (setText P (listText P (ascii ")\n"))) ≡ marksText Q (setText Q (listText Q (ascii ")\n"))) → SameReadOffs P Q
+read-offs-show P Q e =
+    let m = part-reads mark-readable "(marks\n" _ _ _ _ e in
+    let s = part-reads set-readable "(set\n" _ _ _ _ (m .1) in
+    let l = part-reads bytes-readable "(list\n" _ _ _ _ (s .1) in
+    record { mark-digits = m .0; set-lines = s .0; list-values = l .0 }
+
+-- equal texts show the same
+pub text-shows : (ident : Update → Id) (P Q : Parts) → reportText Full ident P ≡ reportText Full ident Q → SameShown ident P Q
 unfolding reportText
 text-shows ident P Q e =
-    let h = part-reads (update-readable ident) "(held\n" _ _ _ _ (append-cancel-left (ascii "(ledger 1\n") _ _ e) in
+    let h = part-reads (update-readable ident) "(held\n" _ _ _ _ (append-cancel-left opening _ _ e) in
     let t = part-reads (id-readable ident) "(heads\n" _ _ _ _ (h .1) in
     let w = part-reads (update-readable ident) "(waiting\n" _ _ _ _ (t .1) in
     let v = part-reads (update-readable ident) "(void\n" _ _ _ _ (w .1) in
-    let m = part-reads mark-readable "(marks\n" _ _ _ _ (v .1) in
-    let s = part-reads set-readable "(set\n" _ _ _ _ (m .1) in
-    record { held-ids = h .0; waiting-ids = w .0; void-ids = v .0; set-lines = s .0 }
+    record { held-ids = h .0; waiting-ids = w .0; void-ids = v .0; read-offs = read-offs-show P Q (v .1) }
+
+pub text-shows-read-offs : (form : Form) (ident : Update → Id) (P Q : Parts) → reportText form ident P ≡ reportText form ident Q → SameReadOffs P Q
+unfolding reportText
+text-shows-read-offs Full ident P Q e = text-shows ident P Q e .read-offs
+text-shows-read-offs Short ident P Q e = read-offs-show P Q (append-cancel-left opening _ _ e)

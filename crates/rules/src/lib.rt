@@ -1,4 +1,4 @@
-// The rules of documents 01 and 02, as definitions and theorems: all of it is in specs/, but for an enum that the code answers with too.
+// The rules of documents 01 and 02, as definitions and theorems: all of it is in specs/, but for two enums that the code has too.
 
 // How one update stands to another: document 02's four answers, E4.
 pub enum CausalOrder {
@@ -6,4 +6,10 @@ pub enum CausalOrder {
     Before,
     After,
     Apart,
+}
+
+// The two forms of a report: document 02, E10.
+pub enum Form {
+    Full,
+    Short,
 }

@@ -5,6 +5,7 @@ use crate::show::decimal;
 use crate::show::digest;
 use crate::show::text;
 use ledger::Answer;
+use ledger::Form;
 use ledger::Kind;
 use ledger::Ledger;
 use ledger::Reported;
@@ -46,12 +47,33 @@ pub fn ask(l: Ledger, store: &[u8], update: &[u8]) {
     show::asked(ledger::standing(l, store, sha256_digest::digest(update)));
 }
 
-// Prints the report.
-pub fn report(l: Ledger, store: &[u8], out: &mut [u8]) {
-    match ledger::report(l, store, out) {
+// Prints a report, or why there is none.
+fn reported(r: Reported, out: &[u8]) {
+    match r {
         Reported::Written(n) => text(slice_of(out, 0, n)),
-        Reported::Refused(r) => answered(Answer::Refused(r)),
+        Reported::Refused(e) => answered(Answer::Refused(e)),
     }
+}
+
+// Prints the report with no form named.
+pub fn report(l: Ledger, store: &[u8], out: &mut [u8]) {
+    let r = ledger::report(l, store, out);
+    reported(r, out);
+}
+
+// Prints the report in the form.
+pub fn report_as(l: Ledger, store: &[u8], form: Form, out: &mut [u8]) {
+    let r = ledger::report_as(l, store, form, out);
+    reported(r, out);
+}
+
+// Prints what every report of each form has room in.
+pub fn rooms() {
+    text(b"(room ");
+    decimal(ledger::room(Form::Full));
+    text(b" ");
+    decimal(ledger::room(Form::Short));
+    text(b")\n");
 }
 
 fn kind(b: u8) -> Kind {

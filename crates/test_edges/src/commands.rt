@@ -34,12 +34,18 @@ pub const READ: usize = 14;
 
 pub const ORDER: usize = 15;
 
+pub const FULL: usize = 16;
+
+pub const SHORT: usize = 17;
+
+pub const ROOMS: usize = 18;
+
 // A line without words, or that is a comment; a heading; a line that is none of these.
-pub const NOTHING: usize = 16;
+pub const NOTHING: usize = 19;
 
-pub const HEADING: usize = 17;
+pub const HEADING: usize = 20;
 
-pub const UNREAD: usize = 18;
+pub const UNREAD: usize = 21;
 
 // The command of a line.
 pub fn command(line: &[u8]) -> usize {
@@ -48,7 +54,7 @@ pub fn command(line: &[u8]) -> usize {
         b'#' => HEADING,
         _ => {
             let c = test_script::command(
-                b"store:-n buffer:-n other-store:-n other-buffer:-n let:ps fresh:- offer:ss ask:-s write:ps new:ps report:- change:-nnnn view:- compare:-ll read:-s order:-nn",
+                b"store:-n buffer:-n other-store:-n other-buffer:-n let:ps fresh:- offer:ss ask:-s write:ps new:ps report:- change:-nnnn view:- compare:-ll read:-s order:-nn full:- short:- rooms:-",
                 line,
             );
             if c <= NOTHING { c } else { UNREAD }

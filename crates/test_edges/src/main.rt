@@ -9,14 +9,18 @@ use commands::ASK;
 use commands::BUFFER;
 use commands::CHANGE;
 use commands::FRESH;
+use commands::FULL;
 use commands::NEW;
 use commands::OFFER;
 use commands::ORDER;
 use commands::REPORT;
+use commands::ROOMS;
+use commands::SHORT;
 use commands::STORE;
 use commands::VIEW;
 use commands::WRITE;
 use commands::command;
+use ledger::Form;
 use ledger::Ledger;
 use libc::STDIN_FILENO;
 use plain::BUFFER_ROOM;
@@ -45,6 +49,9 @@ fn look(l: Ledger, store: &[u8], slots: &mut [u8], out: &mut [u8], c: usize, lin
         REPORT => calls::report(l, store, out),
         VIEW => show::view(store, out),
         ORDER => calls::order(l, line),
+        FULL => calls::report_as(l, store, Form::Full, out),
+        SHORT => calls::report_as(l, store, Form::Short, out),
+        ROOMS => calls::rooms(),
         _ => {}
     }
 }

@@ -15,35 +15,35 @@ n→slice-known2 c = c .before .before
 abbrev refusal→slice-known2 : tie.After-refusal → tie.After-slice-known2
 refusal→slice-known2 c = c .before .before
 
--- the places of the call of `report` and of the entry
-abbrev at-report : tie.After-slice-known2 → tie.After-report
+-- the places of the call of `report_as` and of the entry
+abbrev at-report : tie.After-slice-known2 → tie.After-report-as
 at-report c = c .before .before
 
-abbrev at-start : tie.After-report → tie.Start
+abbrev at-start : tie.After-report-as → tie.Start
 at-start c = c .before .before .before .before
 
-sub-report : tie.Need-sub-report
+sub-report : tie.Need-sub-report-as
 sub-report c = search needs
 
-part-report-start : tie.Need-part-report-start
+part-report-start : tie.Need-part-report-as-start
 part-report-start c = search needs
 
-part-report-end : tie.Need-part-report-end
+part-report-end : tie.Need-part-report-as-end
 part-report-end c = search needs
 
-report-requires : tie.Need-report-requires
+report-requires : tie.Need-report-as-requires
 report-requires c κs = search needs
 
 enum-known-n : tie.Need-enum-known-n
 enum-known-n c = search needs
 
-add-written : tie.Need-add-t13
+add-written : tie.Need-add-t14
 add-written c =
     let at-n = c .before in
     let at-slice-known2 = n→slice-known2 at-n in
     let r = at-report at-slice-known2 in
     let s = at-start r in
-    omega (arith, at-within (now (s .args .out)) (s .args .at) (s .pre) (r .report .ensures) _ (ap reportValues (at-n .n .given .1)), s .good)
+    omega (arith, at-within (now (s .args .out)) (s .args .at) (s .pre) (r .report-as .ensures) _ (ap reportValues (at-n .n .given .1)), s .good)
 
 enum-known-refusal : tie.Need-enum-known-refusal
 enum-known-refusal c = search needs
@@ -57,7 +57,7 @@ returns-written c =
     let at-slice-known2 = n→slice-known2 at-n in
     let r = at-report at-slice-known2 in
     let s = at-start r in
-    at-reported (now (s .args .out)) (s .args .at) (s .pre) (r .report .ensures) _ (ap reportValues (at-n .n .given .1))
+    at-reported (now (s .args .out)) (s .args .at) (s .pre) (r .report-as .ensures) _ (ap reportValues (at-n .n .given .1))
 
 same-length-2 : tie.Need-same-length-2
 same-length-2 c = search needs
@@ -68,7 +68,7 @@ returns-refused c =
     let at-slice-known2 = refusal→slice-known2 at-refusal in
     let r = at-report at-slice-known2 in
     let s = at-start r in
-    at-refused (now (s .args .out)) (s .args .at) (s .pre) (r .report .ensures) _ (ap reportValues (at-refusal .refusal .given .1))
+    at-refused (now (s .args .out)) (s .args .at) (s .pre) (r .report-as .ensures) _ (ap reportValues (at-refusal .refusal .given .1))
 
 pub report-at-spec : {M : Type 1} → statement M
 report-at-spec =

@@ -1,4 +1,4 @@
--- `report` meets its contract: the length is asked of a page that is too short for the text, and the text is then printed where it fits.
+-- `report_as` meets its contract: the length is asked of a page that is too short for the text, and the text is then printed where it fits.
 use mathlib.Core.Path.{sym, _∙_}
 use borrow.Author.Needs.{needs}
 use borrow.Author.Tests.{not-true, not-false}
@@ -7,8 +7,8 @@ use Rattle.ledger_state.specs.View.{bookOf}
 use Rattle.ledger_state.specs.Row1Laws.{sound→}
 use Rattle.ledger.specs.Report.{unfit}
 use Rattle.ledger.proofs.ReportLaws.{reported-short, reported-written}
-use Rattle.ledger.proofs.report.Statement.{statement}
-use Rattle.ledger.proofs.report.Tie as tie
+use Rattle.ledger.proofs.report_as.Statement.{statement}
+use Rattle.ledger.proofs.report_as.Tie as tie
 
 -- places of the code, each from a later one
 abbrev sound→start : tie.After-sound → tie.Start
@@ -55,7 +55,7 @@ returns-2 c =
     let at-sound = in-else1 .before in
     let at-start = sound→start at-sound in
     let a = at-start .args in
-    reported-short (bookOf (a .ledger)) (now (a .store)) (sym (at-sound .sound .ensures) ∙ not-false _ (in-else1 .if1 .left)) (at-print .print .ensures) (now (a .out)) (c .if2 .taken)
+    reported-short (a .form) (bookOf (a .ledger)) (now (a .store)) (sym (at-sound .sound .ensures) ∙ not-false _ (in-else1 .if1 .left)) (at-print .print .ensures) (now (a .out)) (c .if2 .taken)
 
 print-requires-2 : tie.Need-print-requires-2
 print-requires-2 c κs =
@@ -77,10 +77,10 @@ returns-3 c =
     let at-sound = in-else1 .before in
     let at-start = sound→start at-sound in
     let a = at-start .args in
-    reported-written (bookOf (a .ledger)) (now (a .store)) (sym (at-sound .sound .ensures) ∙ not-false _ (in-else1 .if1 .left)) (at-print .print .ensures) (now (a .out)) (in-else2 .if2 .left)
+    reported-written (a .form) (bookOf (a .ledger)) (now (a .store)) (sym (at-sound .sound .ensures) ∙ not-false _ (in-else1 .if1 .left)) (at-print .print .ensures) (now (a .out)) (in-else2 .if2 .left)
     (at-print2 .print2 .ensures)
 
-pub report-spec : {M : Type 1} → statement M
-report-spec =
+pub report-as-spec : {M : Type 1} → statement M
+report-as-spec =
     tie.close
     (tie.spec sound-requires returns slice-aggregate-print print-requires returns-2 print-requires-2 same-length returns-3)
