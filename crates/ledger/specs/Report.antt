@@ -26,8 +26,8 @@ abbrev pub reportValues : Reported → Output
 reportValues (Written n) = putBytes n
 reportValues (Refused r) = refusedBy (refusalNumber r)
 
--- "The report checks 1, 11.", the second by the length of the form. "The writer and the report put their result at the start of the output buffer and return its length; the bytes after it keep their
--- values."
+-- "The report checks 1, 11.", the second by the length of the text in the form. "The writer and the report put their result at the start of the output buffer and return
+-- its length; the bytes after it keep their values."
 pub data ReportRow (form : Form) (l : Book) (s o : List ℕ) : Output → List ℕ → Type 0 where
   unfit : sound l s ≡ false → ReportRow form l s o (refusedBy row1Number) o
   short : (text : List ℕ) → sound l s ≡ true → ReportText form l s text → length o < length text → ReportRow form l s o (refusedBy row11Number) o

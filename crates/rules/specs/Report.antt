@@ -79,12 +79,13 @@ reportText Short ident parts = opening ++ marksText parts (setText parts (listTe
 unfoldable pub reportOf : Form → (Update → Id) → List Update → List ℕ
 reportOf form ident S = reportText form ident (partsOf ident S)
 
--- a text's bytes from its first `(marks` on
+-- whether the text begins with the word
 unfoldable pub startsWith : List ℕ → List ℕ → Bool
 startsWith [] text = true
 startsWith (w ∷ ws) [] = false
 startsWith (w ∷ ws) (b ∷ bs) = eqb w b && startsWith ws bs
 
+-- the text from its first `(marks` on
 unfoldable pub fromMarks : List ℕ → List ℕ
 fromMarks [] = []
 fromMarks (b ∷ bs) = cond (startsWith (ascii "(marks\n") (b ∷ bs)) (b ∷ bs) (fromMarks bs)

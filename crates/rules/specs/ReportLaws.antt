@@ -33,8 +33,8 @@ use Rattle.rules.specs.SetEntryLaws.{entry-order}
 use Rattle.rules.specs.TableLaws.{add-sized}
 use Rattle.rules.specs.ReadOffLaws.{entry-right, entry-once}
 use Rattle.rules.specs.PartsLaws.{read-right, read-unique}
-use Rattle.rules.specs.TextLaws.{set-line-injective, SameReadOffs, SameShown, text-shows, text-shows-read-offs}
 use Rattle.rules.specs.ShortLaws.{short-text}
+use Rattle.rules.specs.TextLaws.{set-line-injective, SameReadOffs, SameShown, text-shows, text-shows-read-offs}
 use Rattle.rules.specs.ReportLengthLaws.{SizedTable, text-length, short-text-length}
 
 -- the report is laid out from the parts that the definitions give
