@@ -10,7 +10,7 @@ use Rattle.rules.specs.declared.Form.the-variants.{Full, Short}
 use Rattle.rules.specs.Parts.{Parts}
 use Rattle.rules.specs.Settle.{partsIn, partsOf}
 use Rattle.bytes_ascii.specs.Ascii.{ascii}
-use Rattle.rules.specs.Report.{updateLine, setLine, bytesLine, idLine, markLine, partText, marksText, setText, listText, standingsText, opening, reportText, reportOf}
+use Rattle.rules.specs.Report.{updateLine, setLine, bytesLine, idLine, markLine, partText, standingsText, readOffsText, opening, reportText, reportOf}
 use Rattle.ledger_state.specs.Stands.{ident, Stands}
 use Rattle.ledger_state.specs.State.{Book}
 use Rattle.ledger_relations.specs.PlaceTests.{idOrder}
@@ -45,7 +45,7 @@ module _ {l : Book} {s : List ℕ} {us : List Update} (stands : Stands l s us) w
       (part-then "(waiting\n" (updateLine ident) (P .waiting) (waiting-part stands)
       (part-then "(void\n" (updateLine ident) (P .void) (void-part stands) e)))
 
-  read-offs-right : readOffs l s ≡ marksText P (setText P (listText P (ascii ")\n")))
+  read-offs-right : readOffs l s ≡ readOffsText P
   unfolding readOffs marksPart partOf partsOf partsIn
   read-offs-right =
       part-then "(marks\n" markLine (P .marks) (ap (concatMap markLine) (marks-part stands))

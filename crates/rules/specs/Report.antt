@@ -61,9 +61,12 @@ module _ (parts : Parts) where
   abbrev pub listText : List ℕ → List ℕ
   listText = partText "(list\n" bytesLine (parts .list)
 
--- what the full form has of them before its marks
+-- those that go by standing; and those that are read from the held updates, with the closing bracket
 abbrev pub standingsText : (Update → Id) → Parts → List ℕ → List ℕ
 standingsText ident parts rest = heldText ident parts (headsText ident parts (waitingText ident parts (voidText ident parts rest)))
+
+abbrev pub readOffsText : Parts → List ℕ
+readOffsText parts = marksText parts (setText parts (listText parts (ascii ")\n")))
 
 -- the line that opens a report
 abbrev pub opening : List ℕ
@@ -71,8 +74,8 @@ opening = ascii "(ledger 1\n"
 
 -- The text laid out from the parts. The short form has "only those three parts, in the old order, between the same outer brackets".
 unfoldable pub reportText : Form → (Update → Id) → Parts → List ℕ
-reportText Full ident parts = opening ++ standingsText ident parts (marksText parts (setText parts (listText parts (ascii ")\n"))))
-reportText Short ident parts = opening ++ marksText parts (setText parts (listText parts (ascii ")\n")))
+reportText Full ident parts = opening ++ standingsText ident parts (readOffsText parts)
+reportText Short ident parts = opening ++ readOffsText parts
 
 -- "The report that the rules give for a set is the text laid out below, each part worked out from that set alone." (`read-right` of `PartsLaws`: the
 -- parts are exactly those of the definitions.)

@@ -20,7 +20,7 @@ use Rattle.rules.specs.Settle.{Row, Table, Verdict, held, waiting, void,
 use Rattle.bytes_ascii.specs.Ascii.{codes, ascii, hex, decimal}
 use Rattle.bytes_ascii.specs.AsciiLaws.{hex-length, decimal-length}
 use Rattle.rules.specs.TableLaws.{add-sized, setEntriesFrom-∈}
-use Rattle.rules.specs.Report.{authorLine, updateLine, setLine, bytesLine, idLine, markLine, partText, marksText, setText, listText, reportText}
+use Rattle.rules.specs.Report.{authorLine, updateLine, setLine, bytesLine, idLine, markLine, partText, readOffsText, reportText}
 use Rattle.bytes_order.specs.CountLaws.{concatMap-length, keep-concatMap-length}
 
 -- lines
@@ -218,7 +218,7 @@ module _ (ident : Update → Id) (id-sized : (u : Update) → length (ident u) �
       omega arith
 
   -- the parts of both forms
-  read-offs-at-most : AtMost (marksText (partsIn T) (setText (partsIn T) (listText (partsIn T) (ascii ")\n")))) (106 + 38 * length (setEntries T) + 35 * length (list T))
+  read-offs-at-most : AtMost (readOffsText (partsIn T)) (106 + 38 * length (setEntries T) + 35 * length (list T))
   unfolding partsIn ascii codes
   read-offs-at-most =
       let l = part-at-most "(list\n" bytesLine (list T) refl list-length end in

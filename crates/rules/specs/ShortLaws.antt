@@ -15,7 +15,7 @@ use Rattle.bytes_ascii.specs.AsciiLaws.{Digits, digit-small, hex-digits, decima
 use Rattle.update_format.specs.Update.{Id, Update}
 use Rattle.rules.specs.declared.Form.the-variants.{Full, Short}
 use Rattle.rules.specs.Parts.{Parts}
-use Rattle.rules.specs.Report.{authorLine, updateLine, bytesLine, idLine, partText, headsText, waitingText, voidText, marksText, setText, listText, standingsText, opening, reportText, startsWith, fromMarks}
+use Rattle.rules.specs.Report.{authorLine, updateLine, bytesLine, idLine, partText, headsText, waitingText, voidText, standingsText, readOffsText, opening, reportText, startsWith, fromMarks}
 
 -- nothing in xs, and nothing that begins in it, reads `(marks`
 record Passed (xs : List ℕ) : Type 0 where
@@ -110,13 +110,11 @@ module _ (ident : Update → Id) (P : Parts) where
       ∙ part-passed "(waiting\n" (updateLine ident) (P .waiting) (voidText ident P rest) (record { passes = λ r. refl }) update-passed
       ∙ part-passed "(void\n" (updateLine ident) (P .void) rest (record { passes = λ r. refl }) update-passed
 
-  marks-found : (rest : List ℕ) → fromMarks (marksText P rest) ≡ marksText P rest
+  marks-found : fromMarks (readOffsText P) ≡ readOffsText P
   unfolding fromMarks startsWith partText ascii codes
-  marks-found rest = refl
+  marks-found = refl
 
 -- the short text is the first line, and what the full one has from its marks to its end
 pub short-text : (ident : Update → Id) (P : Parts) → reportText Short ident P ≡ opening ++ fromMarks (reportText Full ident P)
 unfolding reportText
-short-text ident P =
-    let tail = setText P (listText P (ascii ")\n")) in
-    ap (λ (t : List ℕ). opening ++ t) (sym (standings-passed ident P (marksText P tail) ∙ marks-found ident P tail))
+short-text ident P = ap (λ (t : List ℕ). opening ++ t) (sym (standings-passed ident P (readOffsText P) ∙ marks-found ident P))

@@ -12,7 +12,7 @@ use Rattle.rules.specs.SetEntry.{SetEntry}
 use Rattle.rules.specs.Parts.{Parts}
 use Rattle.bytes_ascii.specs.Ascii.{codes, ascii, hex, decimal}
 use Rattle.bytes_ascii.specs.AsciiLaws.{hex-injective, hex-digits, decimal-digits, decimal-injective, cut}
-use Rattle.rules.specs.Report.{authorLine, updateLine, setLine, bytesLine, idLine, markLine, partText, marksText, setText, listText, opening, reportText}
+use Rattle.rules.specs.Report.{authorLine, updateLine, setLine, bytesLine, idLine, markLine, partText, readOffsText, opening, reportText}
 
 -- Lines that can be read back: each begins with a bracket, and shows its key, wherever it stands.
 pub record Readable {A : Type 0} (line key : A → List ℕ) : Type 0 where
@@ -136,7 +136,7 @@ pub record SameShown (ident : Update → Id) (P Q : Parts) : Type 0 where
   pub void-ids : map ident (P .void) ≡ map ident (Q .void)
   pub read-offs : SameReadOffs P Q
 
-read-offs-show : (P Q : Parts) → marksText P (setText P (listText P (ascii ")\n"))) ≡ marksText Q (setText Q (listText Q (ascii ")\n"))) → SameReadOffs P Q
+read-offs-show : (P Q : Parts) → readOffsText P ≡ readOffsText Q → SameReadOffs P Q
 read-offs-show P Q e =
     let m = part-reads mark-readable "(marks\n" _ _ _ _ e in
     let s = part-reads set-readable "(set\n" _ _ _ _ (m .1) in
