@@ -74,7 +74,7 @@ pub enum Reported {
     Refused(Refusal),
 }
 
-// Room for every report in the form of a ledger that the library made.
+// Room for every report in the form, where the library made the ledger.
 pub fn room(form: Form) -> usize
     ensures { λ r. ⌜ r ≡ longest form ⌝ }
 {

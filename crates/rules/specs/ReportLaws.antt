@@ -113,9 +113,8 @@ module _ {ident : Update → Id} {S : List Update} (bounded : (u : Update) → u
       let p = reads .marks .right a m in
       subst (λ (b : ℕ). b ≤ maxAuthor) (p .one-by) (bounded (p .one) (held-stored ident S (p .one-held)) .author-small)
 
--- The lines show what they are of: equal reports, of either form, have the same set entries, marks and list.
-module _ (form : Form) (ident : Update → Id) (S S′ : List Update) (d : Distinct ident S) (d′ : Distinct ident S′)
-    (bounded : (u : Update) → u ∈ S → Bounded u) (bounded′ : (u : Update) → u ∈ S′ → Bounded u) (e : reportOf form ident S ≡ reportOf form ident S′) where
+-- The lines show what they are of: equal reports, of either form, have the same list, set entries and marks.
+module _ (form : Form) (ident : Update → Id) (S S′ : List Update) (e : reportOf form ident S ≡ reportOf form ident S′) where
   abbrev P : Parts
   P = partsOf ident S
 
@@ -126,23 +125,25 @@ module _ (form : Form) (ident : Update → Id) (S S′ : List Update) (d : Disti
   unfolding reportOf
   shown = text-shows-read-offs form ident P P′ e
 
-  pub report-shows-entries : P .set ≡ P′ .set
-  report-shows-entries =
-      map-injective setLine (P .set) (P′ .set)
-      (λ x y m n. set-line-injective x y (set-entry-author bounded (read-right ident S d) x m) (set-entry-author bounded′ (read-right ident S′ d′) y n))
-      (shown .set-lines)
-
-  pub report-shows-marks : P .marks ≡ P′ .marks
-  report-shows-marks =
-      map-injective decimal (P .marks) (P′ .marks)
-      (λ a b m n q.
-      let h : a ≤ maxAuthor = mark-author bounded (read-right ident S d) a m in
-      let k : b ≤ maxAuthor = mark-author bounded′ (read-right ident S′ d′) b n in
-      decimal-injective a b (omega arith) (omega arith) q)
-      (shown .mark-digits)
-
   pub report-shows-list : P .list ≡ P′ .list
   report-shows-list = map-injective (λ (v : List ℕ). v) (P .list) (P′ .list) (λ v w m n q. q) (shown .list-values)
+
+  -- authors of well-formed updates are told apart by their digits
+  module _ (d : Distinct ident S) (d′ : Distinct ident S′) (bounded : (u : Update) → u ∈ S → Bounded u) (bounded′ : (u : Update) → u ∈ S′ → Bounded u) where
+    pub report-shows-entries : P .set ≡ P′ .set
+    report-shows-entries =
+        map-injective setLine (P .set) (P′ .set)
+        (λ x y m n. set-line-injective x y (set-entry-author bounded (read-right ident S d) x m) (set-entry-author bounded′ (read-right ident S′ d′) y n))
+        (shown .set-lines)
+
+    pub report-shows-marks : P .marks ≡ P′ .marks
+    report-shows-marks =
+        map-injective decimal (P .marks) (P′ .marks)
+        (λ a b m n q.
+        let h : a ≤ maxAuthor = mark-author bounded (read-right ident S d) a m in
+        let k : b ≤ maxAuthor = mark-author bounded′ (read-right ident S′ d′) b n in
+        decimal-injective a b (omega arith) (omega arith) q)
+        (shown .mark-digits)
 
 -- Document 02, E10: the short report is the first line, and what the full one has from its marks to its end
 pub short-from-full : (ident : Update → Id) (S : List Update) → reportOf Short ident S ≡ opening ++ fromMarks (reportOf Full ident S)

@@ -49,8 +49,8 @@ passed-digits (x ∷ xs) d =
 passed-end : Passed (41 ∷ 10 ∷ [])
 passed-end = passed-other 41 (λ e. omega arith) (passed-other 10 (λ e. omega arith) passed-nil)
 
--- An opening bracket before hexadecimal digits and a separator. `marks` does not follow: its fourth letter is no hexadecimal digit, and with fewer than four of them a
--- separator stands in its place.
+-- An opening bracket before hexadecimal digits and a separator. `marks` does not follow: its fourth letter is no hexadecimal digit, and with fewer than four digits
+-- the separator, which is no letter, comes before that.
 hex-not-marks : (bs : List ℕ) (s : ℕ) → s < 48 → (t : List ℕ) → startsWith marksRest (hex bs ++ s ∷ t) ≡ false
 unfolding startsWith hex concatMap hexByte
 hex-not-marks [] s h t = ap (λ (x : Bool). x && startsWith (97 ∷ 114 ∷ 107 ∷ 115 ∷ 10 ∷ []) t) (ne-eqb 109 s (λ e. omega arith))
