@@ -1,4 +1,4 @@
-//! The stored updates, their standings, and what is read from the held ones.
+//! The stored updates, their standings, the marks, and what is read from the held updates.
 
 use crate::sha256::sha256;
 use crate::update::{read_update, Id, Operation, Tag, Update, ZERO};
@@ -206,10 +206,10 @@ impl Ledger {
         held.iter().copied().filter(|&h| !held.iter().any(|&u| self.is_ancestor(h, u))).collect()
     }
 
-    /// "Mark: an author with two held updates, neither an ancestor of the other."
-    fn marks(&self) -> BTreeSet<u8> {
+    /// "Forks are found as before": "an author with two held updates, neither an ancestor of the other."
+    fn forked(&self) -> BTreeSet<u8> {
         let held = self.with(Standing::Held);
-        let mut marks = BTreeSet::new();
+        let mut authors = BTreeSet::new();
         for &a in &held {
             for &b in &held {
                 let author = self.stored[a].update.author;
@@ -218,11 +218,35 @@ impl Ledger {
                     && !self.is_ancestor(a, b)
                     && !self.is_ancestor(b, a)
                 {
-                    marks.insert(author);
+                    authors.insert(author);
                 }
             }
         }
-        marks
+        authors
+    }
+
+    /// "An author is marked for a fault if an update of theirs is void while all its predecessors are held."
+    fn faulty(&self) -> BTreeSet<u8> {
+        let held = |id: &Id| self.standing(id) == Some(Standing::Held);
+        self.with(Standing::Void)
+            .into_iter()
+            .map(|p| &self.stored[p].update)
+            .filter(|update| update.predecessors.iter().all(held))
+            .map(|update| update.author)
+            .collect()
+    }
+
+    /// "Mark lines become `(author fork)`, `(author fault)` or `(author both)`."
+    fn marks(&self) -> BTreeMap<u8, &'static str> {
+        let (forked, faulty) = (self.forked(), self.faulty());
+        forked
+            .union(&faulty)
+            .map(|author| match (forked.contains(author), faulty.contains(author)) {
+                (true, true) => (*author, "both"),
+                (true, false) => (*author, "fork"),
+                (false, _) => (*author, "fault"),
+            })
+            .collect()
     }
 
     /// "Set: the tags with a held Add that no held Remove names.", and document 02's E5: "Count a set
@@ -297,8 +321,8 @@ impl Ledger {
             self.part(&mut out, "void", Standing::Void);
         }
         out += "(marks\n";
-        for author in self.marks() {
-            out += &format!("({author})\n");
+        for (author, word) in self.marks() {
+            out += &format!("({author} {word})\n");
         }
         out += ")\n(set\n";
         for (tag, author) in self.set() {
@@ -356,7 +380,7 @@ mod tests {
             "7279652e2e2e2e2e2e2e2e2e2e2e2e2e",
         ];
         let lines = |part: &[&str]| part.iter().map(|line| format!("({line})\n")).collect::<String>();
-        let short = format!("(ledger 1\n(marks\n(1)\n)\n(set\n{})\n(list\n{})\n)\n", lines(&set), lines(&list));
+        let short = format!("(ledger 1\n(marks\n(1 fork)\n(5 fault)\n)\n(set\n{})\n(list\n{})\n)\n", lines(&set), lines(&list));
         assert_eq!(String::from_utf8(ledger.report(Form::Short)).unwrap(), short);
     }
 }

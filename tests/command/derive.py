@@ -55,12 +55,13 @@ def line(x):
 
 
 def report(held=(), heads=(), waiting=(), void=(), marks=(), set=(), list=()):
-    """The set's entries are pairs of a tag and its adding author, in the order in which they are shown."""
+    """The marks are pairs of an author and its word, the set's entries pairs of a tag and its adding author, each in
+    the order in which they are shown."""
     full = lambda us: ["%s %d" % (u.id.hex(), u.author) for u in sorted(us, key=lambda u: u.id)]
     out = ["(ledger 1"]
     for name, lines in [
         ("held", full(held)), ("heads", sorted(u.id.hex() for u in heads)), ("waiting", full(waiting)),
-        ("void", full(void)), ("marks", [str(m) for m in marks]), ("set", ["%s %d" % (t.hex(), a) for t, a in set]),
+        ("void", full(void)), ("marks", ["%d %s" % m for m in marks]), ("set", ["%s %d" % (t.hex(), a) for t, a in set]),
         ("list", [v.hex() for v in list]),
     ]:
         out += ["(" + name] + ["(" + l + ")" for l in lines] + [")"]
@@ -92,18 +93,19 @@ session("small-02", [(a, H1)], held=[a], heads=[a], set=[(T1, 1)])
 session("small-03", [(b, W)], waiting=[b])
 session("small-04", [(b, W), (a, "taken held 2 0")], held=[a, b], heads=[b], set=[(T1, 1), (T2, 1)])
 root = add(1, [], T2)
-session("small-05", [(a, H1), (root, H1)], held=[a, root], heads=[a, root], marks=[1],
+session("small-05", [(a, H1), (root, H1)], held=[a, root], heads=[a, root], marks=[(1, "fork")],
         set=[(T1, 1), (T2, 1)])
 session("small-06", [(a, H1), (b, H1)], held=[a, b], heads=[b], set=[(T1, 1), (T2, 1)])
 d = add(1, [a, b], T3)
 e = add(1, [d], T4)
 ab = dict(held=[a, b], heads=[b], set=[(T1, 1), (T2, 1)])
-session("small-07", [(a, H1), (b, H1), (d, V1)], void=[d], **ab)
-session("small-08", [(a, H1), (b, H1), (d, V1), (e, V1)], void=[d, e], **ab)
+bad_d = dict(marks=[(1, "fault")], **ab)
+session("small-07", [(a, H1), (b, H1), (d, V1)], void=[d], **bad_d)
+session("small-08", [(a, H1), (b, H1), (d, V1), (e, V1)], void=[d, e], **bad_d)
 e = add(1, [d, MISSING], T4)
-session("small-09", [(a, H1), (b, H1), (d, V1), (e, V1)], void=[d, e], **ab)
+session("small-09", [(a, H1), (b, H1), (d, V1), (e, V1)], void=[d, e], **bad_d)
 r = remove(2, [], T1, [a])
-session("small-10", [(a, H1), (r, V1)], held=[a], heads=[a], void=[r], set=[(T1, 1)])
+session("small-10", [(a, H1), (r, V1)], held=[a], heads=[a], void=[r], marks=[(2, "fault")], set=[(T1, 1)])
 r = remove(2, [a], T1, [a])
 session("small-11", [(a, H1), (r, H1)], held=[a, r], heads=[r])
 # The other Add by the same author, then by another one, then both.
@@ -147,7 +149,7 @@ pairs = [(u, H1) for us in two.values() for u in us]
 session("authors",
         pairs + [(add(16, [], T1), "refused 4"), (add(255, [], T1), "refused 4"), (zero, H1)],
         held=[u for us in two.values() for u in us] + [zero],
-        heads=[u for us in two.values() for u in us] + [zero], marks=[2, 9, 10, 15],
+        heads=[u for us in two.values() for u in us] + [zero], marks=[(n, "fork") for n in (2, 9, 10, 15)],
         set=[(T1, 2), (T1, 9), (T1, 10), (T1, 15), (T2, 2), (T2, 9), (T2, 10), (T2, 15), (T3, 0)])
 
 # Counts n and m, 8 and 9.
@@ -204,14 +206,14 @@ session("full",
         + [(over, "refused 10"), (late, "refused 10"), (chain[0], "known held"), (vd, "known void"),
            (wt, "known waiting"), (last, "known held"), (over.bytes[:19], "refused 2"),
            (over.bytes + b"\0", "refused 8"), ("(offer", "unread"), (over, "refused 10"), (vc, "known void")],
-        held=chain + [last], heads=[chain[-1], last], waiting=[wt], void=[vd, vc], set=[(T1, 3)],
-        list=[T4])
+        held=chain + [last], heads=[chain[-1], last], waiting=[wt], void=[vd, vc], marks=[(4, "fault")],
+        set=[(T1, 3)], list=[T4])
 
 # The largest report: 64 roots of as many tags, authors 0 to 9 with two each, 10 to 15 with the rest.
 many = [add(i // 2 if i < 20 else 10 + i % 6, [], TAG(i)) for i in range(64)]
-session("largest", [(u, H1) for u in many], held=many, heads=many, marks=range(16),
+session("largest", [(u, H1) for u in many], held=many, heads=many, marks=[(n, "fork") for n in range(16)],
         set=[(TAG(i), i // 2 if i < 20 else 10 + i % 6) for i in range(64)])
-assert len(SESSIONS["largest"][1]) - 64 * len("(taken held 1 0)\n") == 11_302
+assert len(SESSIONS["largest"][1]) - 64 * len("(taken held 1 0)\n") == 11_382
 
 # A chain offered backwards; then one that ends in void updates.
 c = [add(7, [], T1)]
@@ -225,9 +227,9 @@ e = add(7, [d], T2)
 session("chain-void",
         [(e, W), (d, W), (c[3], W), (d, "known waiting"), (c[2], W), (c[1], W), (c[0], "taken held 4 2"),
          (d, "known void"), (e, "known void"), (c[3], "known held")],
-        held=c[:4], heads=[c[3]], void=[d, e], set=[(T1, 7)])
+        held=c[:4], heads=[c[3]], void=[d, e], marks=[(7, "fault")], set=[(T1, 7)])
 
-# Forks: two roots; two successors apart; none from a waiting or a void update, none in a chain.
+# Forks: two roots; two successors apart; none from a waiting or a void update, none in a chain. z2 is a fault.
 f1, f2 = add(1, [], T1), add(1, [], T2)
 c1 = add(2, [f1], T1)
 c2 = add(2, [c1, f2], T1)
@@ -239,7 +241,8 @@ merge = insert(4, [c2, g, h, x, z1], Z, T4)
 session("forks",
         [(f1, H1), (f2, H1), (c1, H1), (c2, H1), (g, H1), (h, H1), (x, H1), (y, W), (z1, H1), (z2, V1),
          (merge, H1)],
-        held=[f1, f2, c1, c2, g, h, x, z1, merge], heads=[merge], waiting=[y], void=[z2], marks=[1, 3],
+        held=[f1, f2, c1, c2, g, h, x, z1, merge], heads=[merge], waiting=[y], void=[z2],
+        marks=[(1, "fork"), (3, "fork"), (6, "fault")],
         set=[(T1, 1), (T1, 2), (T2, 1), (T3, 3), (T5, 5), (T6, 6)], list=[T4])
 
 # A void cascade, all at once when the root comes last.
@@ -261,7 +264,30 @@ session("void-cascade",
         [(b, W), (d, W), (e, W), (f, W), (g, W), (h, W), (k, W), (i0, H1), (l, V1), (m, V1), (w, W),
          (w2, W), (w3, W), (a, "taken held 2 7"), (w2, "known void"), (w3, "known waiting"), (b, "known held")],
         held=[a, b, i0], heads=[b, i0], waiting=[w, w3], void=[d, e, f, g, h, k, l, m, w2],
-        set=[(T1, 1), (T2, 1)], list=[T4])
+        marks=[(1, "fault"), (3, "fault"), (4, "fault")], set=[(T1, 1), (T2, 1)], list=[T4])
+
+# Document 02, E7: author 1 has a fork and a fault, author 9 a fork; two faults of author 10 are one line, one of them
+# once the update that it waits for is there; 0 and 15, each with one. Authors 3, 4 and 5 have updates after void ones,
+# beside a held, a missing and another void one, and author 6 a bad one that waits: none of them is marked.
+x1, x2 = add(1, [], T1), add(1, [], T2)
+b1 = remove(1, [x1], T2, [x2])        # x2 no ancestor
+x3 = add(2, [x1], T3)
+b2 = add(2, [x1, x3], T3)             # antichain
+n3, n4, n5 = add(3, [b2, x2], T4), add(4, [b2, MISSING], T4), add(5, [b1, b2], T4)
+w6 = remove(6, [MISSING], T1, [x1])
+late = add(7, [], T5)
+c10, d10 = insert(10, [late], x1, T5), remove(10, [], T1, [x1])  # x1 no Insert; x1 no ancestor
+d0 = delete(0, [], x1)                # x1 no ancestor
+y15 = add(15, [], T6)
+d15 = remove(15, [y15], T1, [y15])    # another tag
+s9, t9 = add(9, [], T1), add(9, [], T2)
+session("faults",
+        [(x1, H1), (x2, H1), (b1, V1), (x3, H1), (b2, V1), (n3, V1), (n4, V1), (n5, V1), (w6, W), (c10, W), (d10, V1),
+         (d0, V1), (y15, H1), (d15, V1), (s9, H1), (t9, H1), (late, "taken held 1 1"), (c10, "known void")],
+        held=[x1, x2, x3, y15, s9, t9, late], heads=[x2, x3, y15, s9, t9, late], waiting=[w6],
+        void=[b1, b2, n3, n4, n5, c10, d10, d0, d15],
+        marks=[(0, "fault"), (1, "both"), (2, "fault"), (9, "fork"), (10, "fault"), (15, "fault")],
+        set=[(T1, 1), (T1, 9), (T2, 1), (T2, 9), (T3, 2), (T5, 7), (T6, 15)])
 
 # The list: rank before id among siblings, a deleted entry's children, deletes twice.
 p = insert(1, [], Z, T1)                                                  # rank 0
@@ -278,7 +304,7 @@ val = lambda y: y.bytes[-16:]
 session("list",
         [(y, H1) for y in (p, w, q, r, s, u, v, d1, d2, d3, x)] + [(dv, V1), (dw, W)],
         held=[p, w, q, r, s, u, v, d1, d2, d3, x], heads=[w, x, d1, d2], waiting=[dw], void=[dv],
-        list=[T2, val(w), T6, val(s), T3, T5])
+        marks=[(5, "fault")], list=[T2, val(w), T6, val(s), T3, T5])
 
 # Rank is the number of ancestors, not the length of the longest chain below.
 c1 = add(1, [], T1)
@@ -307,7 +333,7 @@ session("set",
         [(a1, H1), (a2, H1), (r1, H1), (a3, H1), (r2, H1), (r3, H1), (r4, H1), (a4, H1), (a5, H1), (r5, V1),
          (r6, V1), (a6, H1), (r7, H1), (r8, V1), (r9, V1)],
         held=[a1, a2, r1, a3, r2, r3, r4, a4, a5, a6, r7], heads=[a2, r1, r4, a4, a5, r7],
-        void=[r5, r6, r8, r9], set=[(T1, 3), (T2, 2), (T3, 5)])
+        void=[r5, r6, r8, r9], marks=[(5, "fault"), (7, "fault")], set=[(T1, 3), (T2, 2), (T3, 5)])
 
 # Document 02, E5: entries by tag, then by author as a number. Author 2's Add of T1 is removed, author 10's two
 # stay, and show once; a Remove names two authors' Adds of T2 and leaves the third; of author 6's two Adds of T3
@@ -342,8 +368,8 @@ pv = insert(6, [p], p, TAG(0))
 session("zero-ids",
         [(p, H1), (q, W), (dz, V1), (dr, V1), (rz, V1), (az, H1), (ra, V1), (n2, W),
          (add(4, [Z, Z], T2), "refused 9"), (vz, V1), (pv, H1)],
-        held=[p, az, pv], heads=[az, pv], waiting=[q, n2], void=[dz, dr, rz, ra, vz], set=[(TAG(0), 3)],
-        list=[T1, TAG(0)])
+        held=[p, az, pv], heads=[az, pv], waiting=[q, n2], void=[dz, dr, rz, ra, vz],
+        marks=[(2, "fault"), (3, "fault")], set=[(TAG(0), 3)], list=[T1, TAG(0)])
 
 # Lines of 2,000 characters and about it, the last one too long and without newline.
 offer = lambda digits: "(offer " + "0" * digits + ")"
@@ -409,7 +435,7 @@ session("example",
         [(barley, W), (hours, "taken held 2 0"), (rye, H1), (later, H1), (oats, H1), (gone, H1), (same_hours, H1),
          (tue, W), (wrong, V1), (hours, "known held"), (b"\1\2", "refused 2"), ("hello", "unread")],
         held=[hours, barley, rye, later, oats, gone, same_hours], heads=[same_hours], waiting=[tue], void=[wrong],
-        marks=[1], set=[(text16("mon 10-12"), 1), (text16("mon 10-12"), 6)],
+        marks=[(1, "fork"), (5, "fault")], set=[(text16("mon 10-12"), 1), (text16("mon 10-12"), 6)],
         list=[text16("oats"), text16("barley"), text16("rye")])
 
 

@@ -13,10 +13,10 @@ use lib.Dec.{eqb}
 use borrow.Author.Tests.{eq-eqb, ne-eqb, eqb-true}
 use Rattle.bytes_order.specs.BoolLaws.{true-false, not-true→false, or-true→, or-left, or-right, and-true→, and-true}
 use Rattle.bytes_order.specs.Member.{_∈_, keep}
-use Rattle.bytes_order.specs.Ascending.{Ascending, ascending-nil, ascending-cons}
+use Rattle.bytes_order.specs.Ascending.{Ascending, ascending-nil}
 use Rattle.bytes_order.specs.OrderLaws.{before-less}
 use Rattle.bytes_order.specs.MemberLaws.{∈-singleton, append-∈, ∈-append-left, ∈-append-right, keep-append}
-use Rattle.bytes_order.specs.SortLaws.{ascending-append}
+use Rattle.bytes_order.specs.SortLaws.{ascending-one, ascending-append}
 use Rattle.bitset.specs.Below.{allBelow, anyBelow, countBelow, upTo, orElse, firstBelow}
 
 -- a number below n + 1 is below n or is n
@@ -93,7 +93,7 @@ pub upTo-ascending : (n : ℕ) → Ascending (λ (k : ℕ). k ∷ []) (upTo n)
 unfolding upTo
 upTo-ascending zero = ascending-nil
 upTo-ascending (suc n) =
-    ascending-append (upTo-ascending n) (ascending-cons (λ y m. absurd (List·Memᴰ·not-nil m)) ascending-nil)
+    ascending-append (upTo-ascending n) ascending-one
     (λ x y m k. before-less [] [] (let h : x < n = upTo-∈ n m in let q : y ≡ n = ∈-singleton k in omega arith))
 
 -- countBelow

@@ -20,10 +20,10 @@ use Rattle.bytes_ascii.specs.Ascii.{digit, hexByte, hex, decimalIn, deci
 abbrev pub Digits : List ℕ → Type 0
 Digits bs = (b : ℕ) → b ∈ bs → 48 ≤ b
 
-digits-cons : {b : ℕ} {bs : List ℕ} → 48 ≤ b → Digits bs → Digits (b ∷ bs)
+pub digits-cons : {b : ℕ} {bs : List ℕ} → 48 ≤ b → Digits bs → Digits (b ∷ bs)
 digits-cons {b} {bs} h d c m = ⊎-elim (λ (e : c ≡ b). subst (λ (n : ℕ). 48 ≤ n) (sym e) h) (λ (k : c ∈ bs). d c k) (∈-cases m)
 
-digits-nil : Digits []
+pub digits-nil : Digits []
 digits-nil c m = absurd (List·Memᴰ·not-nil m)
 
 digits-append : {bs cs : List ℕ} → Digits bs → Digits cs → Digits (bs ++ cs)

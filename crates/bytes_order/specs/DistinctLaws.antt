@@ -4,7 +4,7 @@ use native.Mathlib.Nat.{le-antisymm, le-of-suc-le-suc, not-suc-le-zero}
 use native.Mathlib.Omega.{arith}
 use mathlib.Core.Path.{_≡_, refl, sym, _∙_, ap, subst}
 use mathlib.Core.Logic.{_⊎_, inl, inr, ⊎-elim}
-use mathlib.Core.List.{List, _∷_, _++_, map, List·Memᴰ·head, List·Memᴰ·tail, List·Memᴰ·not-nil, reverse, reverseAux}
+use mathlib.Core.List.{List, [], _∷_, _++_, map, List·Memᴰ·head, List·Memᴰ·tail, List·Memᴰ·not-nil, reverse, reverseAux}
 use mathlib.Core.Bool.{Bool, true, false, cond}
 use lib.ListN.{length, getD, length-map}
 use Rattle.bytes_order.specs.Member.{_∈_, keep, SameMembers}
@@ -48,7 +48,23 @@ module _ {A : Type 0} {key : A → List ℕ} where
   pub distinct-identifies : {xs : List A} → Distinct key xs → Identifies key xs
   distinct-identifies d x y m k e = distinct-eq d m k e
 
-  -- and stand at one index
+  -- a member stands in one place, and its key in no other
+  pub distinct-split : {x : A} {xs : List A} → Distinct key xs → x ∈ xs → (ys zs : List A) × (xs ≡ ys ++ (x ∷ zs)) × ((y : A) → y ∈ ys ++ zs → key y ≡ key x → ⊥)
+  distinct-split distinct-nil m = absurd (List·Memᴰ·not-nil m)
+  distinct-split {x} (distinct-cons {x = w} {xs = xs} n d) m = step (∈-cases m) (λ (k : x ∈ xs). distinct-split d k)
+    where
+      step : (x ≡ w) ⊎ (x ∈ xs) → (x ∈ xs → (ys zs : List A) × (xs ≡ ys ++ (x ∷ zs)) × ((y : A) → y ∈ ys ++ zs → key y ≡ key x → ⊥))
+          → (ys zs : List A) × (w ∷ xs ≡ ys ++ (x ∷ zs)) × ((y : A) → y ∈ ys ++ zs → key y ≡ key x → ⊥)
+      step (inl e) below = ([], xs, ap (λ (z : A). z ∷ xs) (sym e), λ y k q. n y k (sym (q ∙ ap key e)))
+      step (inr k) below =
+          let f = below k in (
+            w ∷ f .0,
+            f .1,
+            ap (λ (l : List A). w ∷ l) (f .2),
+            λ y h q. ⊎-elim (λ (e : y ≡ w). n x k (ap key (sym e) ∙ q)) (λ (j : y ∈ f .0 ++ f .1). f .3 y j q) (∈-cases h),
+          )
+
+  -- members with one key stand at one index
   pub distinct-index : {xs : List A} (d : A) → Distinct key xs → (i j : ℕ) → i < length xs → j < length xs
       → key (getD xs i d) ≡ key (getD xs j d) → i ≡ j
   distinct-index d distinct-nil i j h g e = absurd (not-suc-le-zero h)

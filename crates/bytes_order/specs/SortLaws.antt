@@ -8,13 +8,13 @@ use mathlib.Core.List.{List, [], _∷_, _++_, map, List·Memᴰ·head, List·Mem
 use mathlib.Core.Bool.{Bool, true, false, cond}
 use lib.ListN.{length}
 use Rattle.bytes_order.specs.Order.{before, same, ascending}
-use Rattle.bytes_order.specs.Member.{_∈_, keep, SameMembers}
+use Rattle.bytes_order.specs.Member.{_∈_, keep, SameMembers, concatMap}
 use Rattle.bytes_order.specs.Sort.{insert, sort}
 use Rattle.bytes_order.specs.Distinct.{Distinct, distinct-nil, distinct-cons, Identifies}
 use Rattle.bytes_order.specs.Ascending.{Ascending, ascending-nil, ascending-cons}
 use Rattle.bytes_order.specs.BoolLaws.{true-false, and-true→, and-true}
 use Rattle.bytes_order.specs.OrderLaws.{same→eq, before-trans, before-asym, before→ne, not-before→after}
-use Rattle.bytes_order.specs.MemberLaws.{∈-cases, ∈-singleton, ∈-cast, append-∈, keep-∈, same-members-refl, same-members-sym, same-members-trans, map-∈, reverse-∈}
+use Rattle.bytes_order.specs.MemberLaws.{∈-cases, ∈-singleton, ∈-cast, append-∈, keep-∈, same-members-refl, same-members-sym, same-members-trans, map-∈, reverse-∈, concatMap-∈}
 use Rattle.bytes_order.specs.DistinctLaws.{distinct-identifies}
 
 -- ascending lists
@@ -24,6 +24,9 @@ module _ {A : Type 0} {key : A → List ℕ} where
 
   pub ascending-tail : {x : A} {xs : List A} → Ascending key (x ∷ xs) → Ascending key xs
   ascending-tail (ascending-cons h d) = d
+
+  pub ascending-one : {x : A} → Ascending key (x ∷ [])
+  ascending-one = ascending-cons (λ y m. absurd (List·Memᴰ·not-nil m)) ascending-nil
 
   pub ascending-distinct : {xs : List A} → Ascending key xs → Distinct key xs
   ascending-distinct ascending-nil = distinct-nil
@@ -66,7 +69,7 @@ module _ {A : Type 0} {key : A → List ℕ} where
   pub ascending→Ascending : (xs : List A) → ascending (map key xs) ≡ true → Ascending key xs
   unfolding ascending
   ascending→Ascending [] e = ascending-nil
-  ascending→Ascending (x ∷ []) e = ascending-cons (λ y m. absurd (List·Memᴰ·not-nil m)) ascending-nil
+  ascending→Ascending (x ∷ []) e = ascending-one
   ascending→Ascending (x ∷ y ∷ ys) e = step (and-true→ (before (key x) (key y)) (ascending (map key (y ∷ ys))) e) (ascending→Ascending (y ∷ ys))
     where
       step : (before (key x) (key y) ≡ true) × (ascending (map key (y ∷ ys)) ≡ true) → (ascending (map key (y ∷ ys)) ≡ true → Ascending key (y ∷ ys)) → Ascending key (x ∷ y ∷ ys)
@@ -145,7 +148,7 @@ module _ {A : Type 0} (key : A → List ℕ) where
 
   pub insert-ascending : (x : A) {ys : List A} → Ascending key ys → Ascending key (insert key x ys)
   unfolding insert
-  insert-ascending x ascending-nil = ascending-cons (λ y m. absurd (List·Memᴰ·not-nil m)) ascending-nil
+  insert-ascending x ascending-nil = ascending-one
   insert-ascending x (ascending-cons {x = y} {xs = ys} h d) = step (before (key x) (key y)) refl (same (key x) (key y)) refl (insert-ascending x d)
     where
       step : (b : Bool) → before (key x) (key y) ≡ b → (s : Bool) → same (key x) (key y) ≡ s → Ascending key (insert key x ys) → Ascending key (cond b (x ∷ y ∷ ys) (cond s (y ∷ ys) (y ∷ insert key x ys)))
@@ -260,6 +263,17 @@ module _ {A : Type 0} (key : A → List ℕ) where
   greatest-first (x ∷ xs) a m =
       let f = greatest-reverseAux x xs [] a in
       (f .0, f .1, f .2, reverse-∈ (x ∷ xs) (subst (λ (ys : List A). f .0 ∈ ys) (sym (f .2)) (List·Memᴰ·head refl)), f .3)
+
+-- lists of elements with the keys of an ascending list, one after the other
+pub ascending-concatMap : {A B : Type 0} {key : A → List ℕ} (key′ : B → List ℕ) (f : A → List B) {xs : List A} → Ascending key xs
+    → ((x : A) → Ascending key′ (f x)) → ((x : A) (y : B) → y ∈ f x → key′ y ≡ key x) → Ascending key′ (concatMap f xs)
+unfolding concatMap
+ascending-concatMap key′ f ascending-nil a e = ascending-nil
+ascending-concatMap key′ f (ascending-cons {x = x} {xs = xs} b d) a e =
+    ascending-append (a x) (ascending-concatMap key′ f d a e)
+    (λ u v m n.
+    let q = concatMap-∈ f xs n in
+    subst₂ (λ (i j : List ℕ). before i j ≡ true) (sym (e x u m)) (sym (e (q .0) v (q .2))) (b (q .0) (q .1)))
 
 -- a map that keeps the keys keeps the order
 pub ascending-map : {A B : Type 0} {key : A → List ℕ} (key′ : B → List ℕ) (f : A → B) {xs : List A} → Ascending key xs

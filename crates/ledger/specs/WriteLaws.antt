@@ -1,5 +1,5 @@
 -- What is written is a well-formed update, whatever the ledger. For a ledger that stands it is of the author and the operation asked for, is held where it is
--- offered next, and forms no fork with the held updates of an author who is not marked.
+-- offered next, and so no fault, and forms no fork with the held updates of an author without a fork.
 use mathlib.Core.Path.{_≡_, refl, sym, ap, subst, _∙_}
 use Prim.Native.Nat.{ℕ, _+_, _-_, _≤_, _<_}
 use native.Mathlib.Omega.{arith}
@@ -15,9 +15,9 @@ use Rattle.update_format.specs.Decode.{refused, decode, update}
 use Rattle.update_format.specs.Laws.{decode-complete}
 use Rattle.rules.specs.Standing.{Ancestor, Held}
 use Rattle.rules.specs.Settle.{held}
-use Rattle.rules.specs.ReadOff.{Marked}
+use Rattle.rules.specs.ReadOff.{Forked, Fault}
 use Rattle.rules.specs.Writing.{writtenOf, writableOf}
-use Rattle.rules.specs.WritingLaws.{written-held, written-no-fork, add-writable}
+use Rattle.rules.specs.WritingLaws.{written-held, written-no-fault, written-no-fork, add-writable}
 use Rattle.bitset.specs.Below.{countBelow}
 use Rattle.bitset.specs.BelowLaws.{countBelow-more, countBelow-mono}
 use Rattle.ledger_state.specs.declared.Standing.{Standing}
@@ -154,8 +154,8 @@ module _ (l : Book) (s : List ℕ) (us : List Update) (stands : Stands l s us) (
   pub written-operation : writtenOf ident us a (operationFor k t i named) .op ≡ operationFor k t i named
   written-operation = ap (λ (u : Update). u .op) (sym is-new) ∙ W .is-written .with-operation
 
-  -- it forms no fork: every held update of an author who is not marked is its ancestor
-  pub written-forks-not : (Marked ident us a → ⊥) → (u : Update) → Held ident us u → u .author ≡ a
+  -- it forms no fork: every held update of an author without a fork is its ancestor, also where the author has a fault
+  pub written-forks-not : (Forked ident us a → ⊥) → (u : Update) → Held ident us u → u .author ≡ a
       → Ancestor ident us u (writtenOf ident us a (operationFor k t i named))
   written-forks-not m u h e = written-no-fork ident us (stands .holds .distinct) a op m u h e
 
@@ -170,6 +170,10 @@ module _ (l : Book) (s : List ℕ) (us : List Update) (stands : Stands l s us) (
   module _ (fresh : (u : Update) → u ∈ us → ident u ≡ SHA-256 (take n o′) → ⊥) where
     is-held : Held ident (us ++ (new ∷ [])) new
     is-held = written-held ident us (stands .holds .distinct) a op (λ u m e. fresh u m (e ∙ id-is)) (W .may us stands)
+
+    -- by the rules after the offer it is held, and so none of the faults
+    pub written-faults-not : Fault ident (us ++ (writtenOf ident us a (operationFor k t i named) ∷ [])) (writtenOf ident us a (operationFor k t i named)) → ⊥
+    written-faults-not = written-no-fault ident us (stands .holds .distinct) a op (λ u m e. fresh u m (e ∙ id-is)) (W .may us stands)
 
     -- the place that the update took
     stands-held : (u : Update) (r : Book) {s′ : List ℕ} → u ≡ new → Stands r s′ (us ++ (u ∷ [])) → placeAt r (l .used) .standing ≡ IsHeld

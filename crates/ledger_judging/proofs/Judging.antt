@@ -26,7 +26,7 @@ use Rattle.ledger_state.specs.declared.Standing.the-variants.{Held, Waiting, Vo
 use Rattle.ledger_judging.specs.declared.Judgement.the-variants.{Holds, Fails, Waits}
 use Rattle.ledger_state.specs.State.{Place, Book, placeAt, storedAt, findIn}
 use Rattle.ledger_judging.specs.Antichain.{antichainAt}
-use Rattle.ledger_judging.specs.Judge.{gatherBy, gatherAt, namesAt, namesAncestor, valid, nothingGathered, gather, judgeReady, judgeGathered, judgeDecoded, judgeAt}
+use Rattle.ledger_judging.specs.Judge.{gatherBy, gatherAt, namesAt, namesAncestor, valid, nothingGathered, gather, judgeReady, judgeGathered, judgeDecoded, judgeAt, allHeld, readyDecoded, readyAt}
 
 -- what is gathered with the predecessor p at place j, by its standing
 module _ (p : Place) (g : Gathered) (j : ℕ) (l : Book) (at : placeAt l j ≡ p) where
@@ -58,6 +58,30 @@ module _ (l : Book) (s b : List ℕ) (r : ParseResult) (read : decodedOf b r ≡
   pub judge-refused : (m : Malformed) → r ≡ Refused m → Waits ≡ judgeDecoded l s (decode b)
   unfolding judgeDecoded
   judge-refused m e = ap (judgeDecoded l s) (ap (decodedOf b) (sym e) ∙ read)
+
+-- whether all predecessors are held, by the same
+module _ (l : Book) (b : List ℕ) (r : ParseResult) (read : decodedOf b r ≡ decode b) where
+  pub ready-update : (u : Parsed) → r ≡ Accepted u → allHeld (gather l nothingGathered (valueOf b u .preds)) ≡ readyDecoded l (decode b)
+  unfolding readyDecoded
+  ready-update u e = ap (readyDecoded l) (ap (decodedOf b) (sym e) ∙ read)
+
+  pub ready-refused : (m : Malformed) → r ≡ Refused m → false ≡ readyDecoded l (decode b)
+  unfolding readyDecoded
+  ready-refused m e = ap (readyDecoded l) (ap (decodedOf b) (sym e) ∙ read)
+
+pub ready-stored : (l : Book) (s : List ℕ) (j : ℕ) (b : List ℕ) → b ≡ storedAt l s j → readyDecoded l (decode b) ≡ readyAt l s j
+unfolding readyAt
+ready-stored l s j b stored = ap (λ (x : List ℕ). readyDecoded l (decode x)) stored
+
+-- what was gathered says so
+module _ (g : Gathered) where
+  pub some-void : g .void ≡ true → false ≡ allHeld g
+  unfolding allHeld
+  some-void v = rw v
+
+  pub none-void : g .void ≡ false → g .ready ≡ allHeld g
+  unfolding allHeld
+  none-void v = rw v
 
 -- the judgement of the bytes of a place
 pub judge-stored : (l : Book) (s : List ℕ) (j : ℕ) (b : List ℕ) → b ≡ storedAt l s j

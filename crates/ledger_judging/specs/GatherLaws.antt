@@ -1,5 +1,5 @@
 -- What is gathered from a list of ids, with places that hold the updates `us`: whether one of them is that of a void place; whether each is that
--- of a place that does not wait; the held places among them; and the ancestors of these.
+-- of a place that does not wait; whether each is that of a held one; the held places among them; and the ancestors of these.
 use mathlib.Core.Path.{_≡_, refl, sym, _∙_, ap, ap₂, subst}
 use Prim.Native.Nat.{ℕ, zero, suc, _+_, _≤_, _<_}
 use native.Mathlib.Omega.{arith}
@@ -12,7 +12,9 @@ use borrow.Author.Tests.{eq-eqb, eqb-true}
 use Rattle.bytes_order.specs.Member.{_∈_, any}
 use Rattle.bytes_order.specs.BoolLaws.{true-false, not-true→false, and-true→, and-true}
 use Rattle.bytes_order.specs.MemberLaws.{∈-cast, any→∈, ∈→any, any-false→, any-false}
+use Rattle.bytes_order.specs.DistinctLaws.{distinct-index}
 use Rattle.update_format.specs.Update.{Id, Update}
+use Rattle.rules.specs.TableLaws.{not-true→, not-true}
 use Rattle.bitset.specs.Below.{countBelow}
 use Rattle.bitset.specs.BelowLaws.{countBelow-cong, countBelow-with}
 use Rattle.bitset.specs.Bits.{has, including, within}
@@ -21,8 +23,8 @@ use Rattle.ledger_state.specs.declared.Standing.{Standing}
 use Rattle.ledger_state.specs.declared.Standing.the-variants.{Held, Waiting, Void}
 use Rattle.ledger_judging.specs.declared.Gathered.{Gathered}
 use Rattle.ledger_state.specs.State.{Book, placeAt, findIn, isHeld, isWaiting, isVoid}
-use Rattle.ledger_judging.specs.Judge.{nothingGathered, gatherBy, gatherAt, gather}
-use Rattle.ledger_state.specs.Stands.{ident, updateAt, Holds}
+use Rattle.ledger_judging.specs.Judge.{nothingGathered, gatherBy, gatherAt, gather, allHeld}
+use Rattle.ledger_state.specs.Stands.{ident, noUpdate, updateAt, Holds}
 use Rattle.ledger_state.specs.StandingLaws.{isHeld→, isVoid→, held-left}
 use Rattle.ledger_state.specs.FindLaws.{find-taken, find-right, find-all}
 
@@ -227,6 +229,24 @@ module _ (l : Book) (s : List ℕ) (us : List Update) (holds : Holds l s us) whe
         each i m =
             let r = h i m in
             ap (passes (waitingAt l) true) (ap (findIn l) (sym (r .2)) ∙ find-all l s us holds (r .0) (r .1)) ∙ ap isWaiting (r .3)
+
+    -- exactly where each id is that of an update at a held place, all are held
+    pub all-held→ : allHeld gathered ≡ true → AllHeld l us is
+    unfolding allHeld
+    all-held→ e =
+        let h = and-true→ (not (gathered .void)) (gathered .ready) e in
+        gathered-ready→ (not-true→ (gathered .void) (h .0)) (h .1)
+
+    pub →all-held : AllHeld l us is → allHeld gathered ≡ true
+    unfolding allHeld isVoid
+    →all-held h = and-true (not (gathered .void)) (gathered .ready) (not-true (gathered .void) none-void) (gathered-ready← h)
+      where
+        none-void : gathered .void ≡ true → ⊥
+        none-void t =
+            let v = gathered-void→ t in
+            let r = h (ident (updateAt us (v .0))) (v .2) in
+            let one : r .0 ≡ v .0 = distinct-index noUpdate (holds .distinct) (r .0) (v .0) (r .1) (v .1) (r .2) in
+            true-false (ap isVoid (v .3)) (ap (λ (j : ℕ). isVoid (placeAt l j .standing)) (sym one) ∙ ap isVoid (r .3))
 
     pub gathered-direct→ : (j : ℕ) → has (gathered .direct) j ≡ true → (j < length us) × (ident (updateAt us j) ∈ is) × (placeAt l j .standing ≡ Held)
     unfolding directAt

@@ -3,7 +3,7 @@
 use Prim.Native.Nat.{ℕ}
 use mathlib.Core.List.{List, [], _∷_}
 use mathlib.Core.Option.{Option, none, some}
-use mathlib.Core.Bool.{Bool, true, false, cond, _&&_, _||_}
+use mathlib.Core.Bool.{Bool, true, false, cond, not, _&&_, _||_}
 use Rattle.bytes_order.specs.Order.{same}
 use Rattle.bytes_order.specs.Member.{all}
 use Rattle.update_format.specs.Update.{Id, Operation, Add, Remove, Insert, Delete}
@@ -38,6 +38,10 @@ unfoldable pub gather : Book → Gathered → List Id → Gathered
 gather l g [] = g
 gather l g (i ∷ is) = gather l (gatherAt l g (findIn l i)) is
 
+-- all predecessors are held: each was found, and at a held place
+unfoldable pub allHeld : Gathered → Bool
+allHeld g = not (g .void) && g .ready
+
 -- the place j is in the set `up`, and the operation of its update passes a test
 unfoldable pub namesAt : Book → List ℕ → (Operation → Bool) → ℕ → Option ℕ → Bool
 namesAt l s p up none = false
@@ -67,3 +71,11 @@ judgeDecoded l s (update u) = judgeGathered l s (u .op) (gather l nothingGathere
 
 unfoldable pub judgeAt : Book → List ℕ → ℕ → Judgement
 judgeAt l s k = judgeDecoded l s (decode (storedAt l s k))
+
+-- the predecessors of the update at place k are all held; not so where its bytes are no update
+unfoldable pub readyDecoded : Book → Decoded → Bool
+readyDecoded l (refused n) = false
+readyDecoded l (update u) = allHeld (gather l nothingGathered (u .preds))
+
+unfoldable pub readyAt : Book → List ℕ → ℕ → Bool
+readyAt l s k = readyDecoded l (decode (storedAt l s k))

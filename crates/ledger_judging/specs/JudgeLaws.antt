@@ -1,5 +1,6 @@
 -- The judgement of a place is that of the rules: with places that hold the updates `us` and say only what is so, a place judged to hold is Held, with
--- exactly its ancestors in the word; one judged to fail is Void; and one that goes on waiting is not decided by what its predecessors say.
+-- exactly its ancestors in the word; one judged to fail is Void; and one that goes on waiting is not decided by what its predecessors say. At the start when the
+-- predecessors of a place are all held.
 use mathlib.Core.Path.{_≡_, refl, sym, _∙_, ap, subst, subst₂}
 use mathlib.Core.Logic.{inl, inr, ⊎-elim}
 use Prim.Native.Nat.{ℕ, _<_}
@@ -16,7 +17,7 @@ use Rattle.bytes_order.specs.DistinctLaws.{distinct-index}
 use Rattle.update_format.specs.Update.{Id, Operation, Add, Remove, Insert, Delete, Update}
 use Rattle.update_format.specs.Decode.{Decoded, update, decode}
 use Rattle.update_format.specs.Laws.{decode-complete}
-use Rattle.rules.specs.Standing.{beginning, Ancestor, InsertAncestor, Valid, Known, Antichain, Held, Void}
+use Rattle.rules.specs.Standing.{beginning, Ancestor, InsertAncestor, Valid, Known, Antichain, Held, PredsHeld, Void}
 use Rattle.rules.specs.Settle.{isAdd, isInsert}
 use Rattle.update_fields.specs.Fields.{testOf}
 use Rattle.rules.specs.LeastSets.{ancestor-stored, ancestor-cases}
@@ -30,16 +31,28 @@ use Rattle.ledger_judging.specs.declared.Judgement.the-variants.{Holds a
 use Rattle.ledger_state.specs.State.{Book, placeAt, storedAt, findIn}
 use Rattle.ledger_judging.specs.Antichain.{antichainAt}
 use Rattle.ledger_judging.specs.AntichainLaws.{antichain-at→, →antichain-at}
-use Rattle.ledger_judging.specs.Judge.{nothingGathered, gather, namesAt, namesAncestor, valid, judgeReady, judgeGathered, judgeDecoded, judgeAt}
+use Rattle.ledger_judging.specs.Judge.{nothingGathered, gather, namesAt, namesAncestor, valid, judgeReady, judgeGathered, judgeDecoded, judgeAt, allHeld, readyDecoded, readyAt}
 use Rattle.ledger_state.specs.Stands.{ident, noUpdate, updateAt, Holds, Truthful}
 use Rattle.ledger_state.specs.FindLaws.{stored-at, place-of, find-right, find-all}
-use Rattle.ledger_judging.specs.GatherLaws.{AllHeld, gathered-void→, gathered-void←, gathered-ready→, gathered-ready←, gathered-direct→, gathered-direct←, gathered-held, gathered-above→, gathered-above←}
+use Rattle.ledger_judging.specs.GatherLaws.{AllHeld, gathered-void→, gathered-void←, gathered-ready→, gathered-ready←, all-held→, →all-held, gathered-direct→, gathered-direct←, gathered-held, gathered-above→, gathered-above←}
 
 -- what is read from a place is its update
 stored-update : (l : Book) (s : List ℕ) (us : List Update) → Holds l s us → (k : ℕ) → k < length us
     → decode (storedAt l s k) ≡ update (updateAt us k)
 stored-update l s us holds k h =
     ap decode (holds .bytes k h) ∙ decode-complete (updateAt us k) (holds .bounded (updateAt us k) (stored-at us k h))
+
+-- the predecessors of its update are all held exactly where each is at a held place
+module _ (l : Book) (s : List ℕ) (us : List Update) (holds : Holds l s us) (k : ℕ) (h : k < length us) where
+  ready-update : readyAt l s k ≡ allHeld (gather l nothingGathered (updateAt us k .preds))
+  unfolding readyAt readyDecoded
+  ready-update = ap (readyDecoded l) (stored-update l s us holds k h)
+
+  pub ready-at→ : readyAt l s k ≡ true → AllHeld l us (updateAt us k .preds)
+  ready-at→ e = all-held→ l s us holds (updateAt us k .preds) (sym ready-update ∙ e)
+
+  pub →ready-at : AllHeld l us (updateAt us k .preds) → readyAt l s k ≡ true
+  →ready-at a = ready-update ∙ →all-held l s us holds (updateAt us k .preds) a
 
 -- the word has exactly the places of the ancestors of u
 record AncestorWord (us : List Update) (u : Update) (w : ℕ) : Type 0 where
@@ -125,7 +138,7 @@ module _ (l : Book) (s : List ℕ) (us : List Update) (holds : Holds l s us) whe
             let r = ready (ident (updateAt us j)) p in
             ap (λ (k : ℕ). placeAt l k .standing) (sym (distinct-index noUpdate (holds .distinct) (r .0) j (r .1) h (r .2))) ∙ r .3
 
-        preds-held : (v : Update) → v ∈ us → ident v ∈ u .preds → Held ident us v
+        preds-held : PredsHeld ident us u
         preds-held v m p =
             let r = place-of us m in
             subst (Held ident us) (r .2) (truthful .held-right (r .0) (r .1) (pred-held (r .0) (r .1) (∈-cast (ap ident (r .2)) p)))

@@ -1,4 +1,4 @@
-// Judging a waiting update: by its predecessors, its ancestors and its operation.
+// Judging a waiting update: by its predecessors, its ancestors and its operation. And whether the predecessors of an update are all held.
 ghost use mathlib.Core.Path.{_≡_};
 ghost use mathlib.Core.Option.{some};
 ghost use mathlib.Core.Bool.{Bool, not};
@@ -15,7 +15,7 @@ ghost use Rattle.ledger_state.specs.View.{placeOf, bookOf};
 ghost use Rattle.ledger_state.specs.Bounds.{PlaceIn};
 ghost use Rattle.ledger_state.specs.PlaceOrder.{placeOrder};
 ghost use Rattle.ledger_judging.specs.Antichain.{clearBelow, antichainAt};
-ghost use Rattle.ledger_judging.specs.Judge.{nothingGathered, gatherAt, gather, namesAncestor, valid, judgeReady, judgeGathered, judgeDecoded, judgeAt};
+ghost use Rattle.ledger_judging.specs.Judge.{nothingGathered, gatherAt, gather, namesAncestor, valid, judgeReady, judgeGathered, judgeDecoded, judgeAt, allHeld, readyDecoded, readyAt};
 use bitset::Set;
 use ledger_state::Found;
 use ledger_state::Ledger;
@@ -296,4 +296,33 @@ pub fn judge(l: Ledger, store: &[u8], k: usize) -> Judgement
 {
     let p = l.places[k];
     judge_bytes(l, store, stored(store, k, p.length))
+}
+
+// Whether the predecessors of the update b are all held.
+fn all_held(l: Ledger, b: &[u8], u: Parsed) -> bool
+    requires { ⌜ bookOf l .used ≤ places ⌝ }
+    ensures { λ r. ⌜ r ≡ allHeld (gather (bookOf l) nothingGathered (valueOf (now (b .entry)) u .preds)) ⌝ }
+{
+    let g = gather(l, b, u.count);
+    if g.void { false } else { g.ready }
+}
+
+// Whether the bytes b are an update whose predecessors are all held.
+fn bytes_ready(l: Ledger, b: &[u8]) -> bool
+    requires { ⌜ bookOf l .used ≤ places ⌝ }
+    ensures { λ r. ⌜ r ≡ readyDecoded (bookOf l) (decode (now (b .entry))) ⌝ }
+{
+    match update_parsing::read(b) {
+        ParseResult::Update(u) => all_held(l, b, u),
+        ParseResult::Refused(_) => false,
+    }
+}
+
+// Whether the predecessors of the update at place k are all held.
+pub fn is_ready(l: Ledger, store: &[u8], k: usize) -> bool
+    requires { ⌜ PlaceIn (bookOf l) k ⌝ }
+    ensures { λ r. ⌜ r ≡ readyAt (bookOf l) (now (store .entry)) k ⌝ }
+{
+    let p = l.places[k];
+    bytes_ready(l, stored(store, k, p.length))
 }

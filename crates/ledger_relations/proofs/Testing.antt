@@ -18,9 +18,10 @@ use Rattle.ledger_state.specs.PlaceOrder.{placeOrder}
 use Rattle.ledger_state.specs.Number.{hasStanding}
 use Rattle.ledger_state.specs.NumberLaws.{is-held, is-waiting, is-void}
 use Rattle.update_fields.specs.Fields.{testOf, authorIn, isAnyAdd}
+use Rattle.ledger_judging.specs.Judge.{readyAt}
 use Rattle.ledger_relations.specs.declared.Effect.{Effect}
 use Rattle.ledger_relations.specs.declared.Effect.the-variants.{Removes, Deletes}
-use Rattle.ledger_relations.specs.PlaceTests.{idAt, decodedAt, heldAt, waitingAt, voidAt, removedAt, presentAt, deletedAt, shownAt}
+use Rattle.ledger_relations.specs.PlaceTests.{idAt, decodedAt, heldAt, waitingAt, voidAt, faultAt, removedAt, presentAt, deletedAt, shownAt}
 use Rattle.ledger_relations.specs.Effects.{decodedIn, forks, heldAffects, rankedIn, someHeld}
 
 -- a test of the numbers below n
@@ -98,6 +99,15 @@ module _ (l : Book) (s : List ℕ) (k : ℕ) where
   pub void-is : {b : Bool} → b ≡ hasStanding Void (placeAt l k .standing) → b ≡ voidAt l s k
   unfolding voidAt
   void-is e = e ∙ is-void (placeAt l k .standing)
+
+  module _ {b : Bool} (h : b ≡ hasStanding Void (placeAt l k .standing)) where
+    pub fault-ready : {c : Bool} → b ≡ true → c ≡ readyAt l s k → c ≡ faultAt l s k
+    unfolding faultAt
+    fault-ready e f = both-true (sym (void-is h) ∙ e) f
+
+    pub fault-none : b ≡ false → false ≡ faultAt l s k
+    unfolding faultAt
+    fault-none e = first-false (readyAt l s k) (sym (void-is h) ∙ e)
 
   module _ {b : Bool} (h : b ≡ hasStanding Held (placeAt l k .standing)) where
     pub present-none : b ≡ false → false ≡ presentAt l s k

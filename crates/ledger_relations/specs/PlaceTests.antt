@@ -1,5 +1,5 @@
--- What a ledger and its store say of its places, for every ledger: their order; and of one its standing, its rank, whether it is a head, whether it marks its
--- author, and whether the set or the list shows it.
+-- What a ledger and its store say of its places, for every ledger: their order; and of one its standing, its rank, whether it is a head, whether it is in a fork,
+-- whether it is a fault, and whether the set or the list shows it.
 use Prim.Native.Nat.{ℕ}
 use mathlib.Core.List.{List}
 use mathlib.Core.Bool.{Bool, not, _&&_}
@@ -14,6 +14,7 @@ use Rattle.bitset.specs.Bits.{count}
 use Rattle.ledger_state.specs.State.{Book, placeAt, storedAt, isHeld, isWaiting, isVoid}
 use Rattle.ledger_state.specs.PlaceOrder.{orderAt}
 use Rattle.update_fields.specs.Fields.{testOf, authorIn, isAnyAdd}
+use Rattle.ledger_judging.specs.Judge.{readyAt}
 
 module _ (l : Book) (s : List ℕ) where
   abbrev pub idAt : ℕ → Id
@@ -48,12 +49,16 @@ module _ (l : Book) (s : List ℕ) where
   unfoldable pub headAt : ℕ → Bool
   headAt k = heldAt k && not (coveredAt k)
 
-  -- marks: q is a held place of r's author, and the two are apart
+  -- forks: q is a held place of r's author, and the two are apart
   unfoldable pub forkedWith : ℕ → ℕ → Bool
   forkedWith r q = heldAt q && (eqb (authorAt r) (authorAt q) && isApart (orderAt l r q))
 
   unfoldable pub forkedAt : ℕ → Bool
   forkedAt r = heldAt r && anyBelow (l .used) (forkedWith r)
+
+  -- faults: void while all its predecessors are held
+  unfoldable pub faultAt : ℕ → Bool
+  faultAt k = voidAt k && readyAt l s k
 
   -- the set: an Add that no held Remove names
   unfoldable pub removedAt : Id → Bool

@@ -7,21 +7,21 @@ use mathlib.Core.Bool.{Bool, true, cond, not, _&&_}
 use lib.ListN.{length}
 use lib.Dec.{eqb}
 use Rattle.bytes_order.specs.Order.{same, ascending}
-use Rattle.bytes_order.specs.Member.{_∈_, member, any}
+use Rattle.bytes_order.specs.Member.{_∈_, member, any, all}
 use Rattle.bytes_order.specs.Distinct.{Distinct, distinct-nil, distinct-cons, Identifies}
 use Rattle.bytes_order.specs.Ascending.{Ascending}
 use Rattle.bytes_order.specs.BoolLaws.{test-ext, and-agrees}
 use Rattle.bytes_order.specs.OrderLaws.{eq→same, ne→same-false}
-use Rattle.bytes_order.specs.MemberLaws.{∈-cases, ∈-cast, ∈-map, map-∈, member→∈, ∈→member, any→∈, ∈→any, map-cong}
+use Rattle.bytes_order.specs.MemberLaws.{∈-cases, ∈-cast, ∈-map, map-∈, member→∈, ∈→member, any→∈, ∈→any, ∈→all, map-cong}
 use Rattle.bytes_order.specs.DistinctLaws.{distinct-eq}
 use Rattle.bytes_order.specs.SortLaws.{Ascending→ascending, ascending→Ascending, ascending-unique, sort-ascending, sort-∈, ∈-sort}
 use Rattle.update_format.specs.Update.{Id, Operation, Update}
 use Rattle.rules.specs.Standing.{Ancestor, Held, Void}
 use Rattle.rules.specs.CausalOrder.{isBefore, isApart}
-use Rattle.rules.specs.Settle.{Verdict, held, waiting, void, Row, Table, isHeld, isWaiting, isVoid, heldRow, orderIn, settledTable, covered, forkedBy}
+use Rattle.rules.specs.Settle.{Verdict, held, waiting, void, Row, Table, isHeld, isWaiting, isVoid, heldIn, heldRow, orderIn, settledTable, covered, forkedBy, forkedRow, faultRow}
 use Rattle.rules.specs.Decides.{Decides}
 use Rattle.rules.specs.LeastSets.{ancestor-stored, held-not-void}
-use Rattle.rules.specs.SettlingTable.{isHeld→}
+use Rattle.rules.specs.SettlingTable.{isHeld→, held-in, all-held}
 use Rattle.rules.specs.TableLaws.{held-order}
 use Rattle.rules.specs.Settling.{settled-ascending, settled-decides}
 use Rattle.bitset.specs.Below.{anyBelow, upTo}
@@ -34,7 +34,10 @@ use Rattle.update_fields.specs.Fields.{testOf}
 use Rattle.ledger_state.specs.PlaceOrder.{orderAt}
 use Rattle.ledger_state.specs.Stands.{ident, noUpdate, updateAt, Stands}
 use Rattle.ledger_state.specs.Verdicts.{verdictOf}
-use Rattle.ledger_relations.specs.PlaceTests.{idAt, heldAt, waitingAt, voidAt, authorAt, decodedAt, coveredAt, headAt, forkedWith, forkedAt, idOrder}
+use Rattle.ledger_state.specs.StandingLaws.{isHeld→ as isHeld→at}
+use Rattle.ledger_judging.specs.Judge.{readyAt}
+use Rattle.ledger_judging.specs.JudgeLaws.{ready-at→, →ready-at}
+use Rattle.ledger_relations.specs.PlaceTests.{idAt, heldAt, waitingAt, voidAt, authorAt, decodedAt, coveredAt, headAt, forkedWith, forkedAt, faultAt, idOrder}
 use Rattle.ledger_relations.specs.PlaceLaws.{from-used, to-used, place-in, place-of, place-id, same-place, place-author, place-test, held-at→, above-at→, →above-at, order-at}
 
 -- the row of an id
@@ -224,18 +227,35 @@ module _ {l : Book} {s : List ℕ} {us : List Update} (stands : Stands l s us) w
   unfolding headAt
   head-agrees k h = and-agrees (heldRow (rowAt us k)) (held-agrees k h) (λ e. ap not (covered-agrees h e))
 
-  -- marks
+  -- forks
   forked-agrees : {r q : ℕ} → r < length us → q < length us → heldAt l s r ≡ true → forkedBy (settledTable ident us) (rowAt us r) (rowAt us q) ≡ forkedWith l s r q
   unfolding forkedBy forkedWith
   forked-agrees {r} {q} h g d =
       and-agrees (heldRow (rowAt us q)) (held-agrees q g) (λ e. λ i.
       eqb (author-agrees h i) (author-agrees g i) && isApart (order-agrees h g d e i))
 
-  pub fork-agrees : (k : ℕ) → k < length us
-      → (heldRow (rowAt us k) && any (forkedBy (settledTable ident us) (rowAt us k)) (settledTable ident us)) ≡ forkedAt l s k
-  unfolding forkedAt
+  pub fork-agrees : (k : ℕ) → k < length us → forkedRow (settledTable ident us) (rowAt us k) ≡ forkedAt l s k
+  unfolding forkedRow forkedAt
   fork-agrees k h =
       and-agrees (heldRow (rowAt us k)) (held-agrees k h) (λ e. any-agrees (forkedBy T (rowAt us k)) (forkedWith l s k) (λ q g. forked-agrees h g e))
+
+  -- faults
+  ready-agrees : {k : ℕ} → k < length us → all (heldIn (settledTable ident us)) (rowAt us k .update .preds) ≡ readyAt l s k
+  unfolding heldRow isHeld heldAt
+  ready-agrees {k} h =
+      test-ext (all (heldIn T) (rowAt us k .update .preds)) (readyAt l s k)
+      (λ e. →ready-at l s us (stands .holds) k h (λ i m.
+      let r = all-held T (rowAt us k .update) e .held-row i (subst (λ (u : Update). i ∈ u .preds) (sym (row-update h)) m) in
+      let f = row-of (r .0) (r .1) in
+      let v : heldAt l s (f .0) ≡ true = sym (held-agrees (f .0) (f .1)) ∙ ap (λ (q : Row). isHeld (q .verdict)) (f .2) ∙ ap isHeld (r .3) in
+      (f .0, f .1, sym (row-id (f .1) ∙ place-id stands (f .1)) ∙ ap (λ (q : Row). q .id) (f .2) ∙ r .2, isHeld→at (placeAt l (f .0) .standing) v)))
+      (λ e. ∈→all (heldIn T) (rowAt us k .update .preds) (λ i m.
+      let r = ready-at→ l s us (stands .holds) k h e i (subst (λ (u : Update). i ∈ u .preds) (row-update h) m) in
+      held-in (found (r .1) .0) (row-id (r .1) ∙ place-id stands (r .1) ∙ r .2) (verdict-agrees (r .1) ∙ ap verdictOf (r .3))))
+
+  pub fault-agrees : (k : ℕ) → k < length us → faultRow (settledTable ident us) (rowAt us k) ≡ faultAt l s k
+  unfolding faultRow faultAt
+  fault-agrees k h = and-agrees (isVoid (rowAt us k .verdict)) (void-agrees k h) (λ e. ready-agrees h)
 
   -- a held update whose operation passes a test
   pub op-test-agrees : (p : Operation → Bool) → any (λ (q : Row). heldRow q && p (q .update .op)) (settledTable ident us)

@@ -7,7 +7,7 @@ ghost use Rattle.ledger_state.specs.State.{places};
 ghost use Rattle.ledger_state.specs.PlaceOrder.{placeOrder};
 ghost use Rattle.ledger_state.specs.View.{placeOf, bookOf};
 ghost use Rattle.ledger_state.specs.Bounds.{PlaceIn, TwoPlaces};
-ghost use Rattle.ledger_relations.specs.PlaceTests.{headAt, forkedAt, presentAt, shownAt};
+ghost use Rattle.ledger_relations.specs.PlaceTests.{headAt, forkedAt, faultAt, presentAt, shownAt};
 ghost use Rattle.ledger_relations.specs.Effects.{forks, affects, heldAffects, someHeld, rankedIn};
 use ledger_state::Ledger;
 use ledger_state::Place;
@@ -116,13 +116,25 @@ pub fn is_head(l: Ledger, store: &[u8], k: usize) -> bool
     }
 }
 
-// Whether place k is one of two that mark their author.
+// Whether place k is one of two that are a fork.
 pub fn is_forked(l: Ledger, store: &[u8], k: usize) -> bool
     requires { ⌜ PlaceIn (bookOf l) k ⌝ }
     ensures { λ r. ⌜ r ≡ forkedAt (bookOf l) (now (store .entry)) k ⌝ }
 {
     if has_standing(l.places[k], Standing::Held) {
         some_held(l, store, Effect::Forks, k)
+    } else {
+        false
+    }
+}
+
+// Whether place k is a fault: void while all its predecessors are held.
+pub fn is_fault(l: Ledger, store: &[u8], k: usize) -> bool
+    requires { ⌜ PlaceIn (bookOf l) k ⌝ }
+    ensures { λ r. ⌜ r ≡ faultAt (bookOf l) (now (store .entry)) k ⌝ }
+{
+    if has_standing(l.places[k], Standing::Void) {
+        ledger_judging::is_ready(l, store, k)
     } else {
         false
     }

@@ -5,26 +5,37 @@ use mathlib.Core.List.{List, [], _∷_, _++_}
 use mathlib.Core.Bool.{Bool, cond, _&&_}
 use lib.Dec.{eqb}
 use Rattle.bytes_order.specs.Order.{same}
-use Rattle.bytes_order.specs.Member.{keep}
+use Rattle.bytes_order.specs.Member.{keep, concatMap}
 use Rattle.update_format.specs.Update.{Id, maxAuthor}
 use Rattle.rules.specs.Standing.{beginning}
 use Rattle.rules.specs.SetEntry.{SetEntry}
+use Rattle.rules.specs.Mark.{Mark, marksBy}
 use Rattle.rules.specs.Settle.{isInsert}
 use Rattle.bitset.specs.Below.{anyBelow, upTo}
 use Rattle.update_fields.specs.Fields.{testOf, setEntryIn, valueIn, anchorIn}
 use Rattle.ledger_state.specs.State.{places, Book}
-use Rattle.ledger_relations.specs.PlaceTests.{idAt, decodedAt, heldAt, authorAt, rankAt, idOrder, forkedAt}
+use Rattle.ledger_relations.specs.PlaceTests.{idAt, decodedAt, heldAt, authorAt, rankAt, idOrder, forkedAt, faultAt}
 use Rattle.ledger_sorting.specs.declared.Key.the-variants.{SetEntry as BySetEntry}
 use Rattle.ledger_sorting.specs.PlaceLists.{sortedBy}
+use Rattle.report_parts.specs.declared.Evidence.{Evidence}
+use Rattle.report_parts.specs.declared.Evidence.the-variants.{Fork, Fault}
 
 module _ (l : Book) (s : List ℕ) where
-  -- marks
-  unfoldable pub markedAt : ℕ → Bool
-  markedAt a = anyBelow (l .used) (λ (r : ℕ). eqb (authorAt l s r) a && forkedAt l s r)
+  -- marks: what of a place marks its author
+  abbrev pub evidenceAt : Evidence → ℕ → Bool
+  evidenceAt Fork k = forkedAt l s k
+  evidenceAt Fault k = faultAt l s k
 
-  -- the marked authors, ascending
-  unfoldable pub marksOf : List ℕ
-  marksOf = keep markedAt (upTo (suc maxAuthor))
+  -- some place of the author is such evidence
+  unfoldable pub markedBy : Evidence → ℕ → Bool
+  markedBy e a = anyBelow (l .used) (λ (k : ℕ). eqb (authorAt l s k) a && evidenceAt e k)
+
+  -- the marks, ascending by author
+  unfoldable pub marksAt : ℕ → List Mark
+  marksAt a = marksBy a (markedBy Fork a) (markedBy Fault a)
+
+  unfoldable pub marksOf : List Mark
+  marksOf = concatMap marksAt (upTo (suc maxAuthor))
 
   -- the set
   unfoldable pub setEntryAt : ℕ → SetEntry

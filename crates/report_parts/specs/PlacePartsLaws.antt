@@ -1,77 +1,80 @@
 -- The marks and the set: what is read from the places is what is read from the settled table.
-use Prim.Native.Nat.{ℕ, suc, _<_}
+use Prim.Native.Nat.{ℕ, suc, _≤_, _<_}
 use native.Mathlib.Omega.{arith}
-use mathlib.Core.Path.{_≡_, refl, sym, _∙_, ap}
-use mathlib.Core.List.{List, [], _∷_, map, map-map, head-eq-of-cons-eq}
+use mathlib.Core.Path.{_≡_, refl, sym, _∙_, ap, ap₂, subst}
+use mathlib.Core.List.{List, [], _∷_, map}
 use mathlib.Core.Bool.{Bool, not, _&&_}
 use lib.ListN.{length}
 use lib.Dec.{eqb}
-use borrow.Author.Tests.{eqb-true, eq-eqb}
-use Rattle.bytes_order.specs.Member.{_∈_, keep, any, concatMap}
-use Rattle.bytes_order.specs.Ascending.{Ascending}
+use Rattle.bytes_order.specs.Member.{_∈_, keep, concatMap}
 use Rattle.bytes_order.specs.Sort.{sort}
 use Rattle.bytes_order.specs.BoolLaws.{and-true→, and-true, and-agrees}
-use Rattle.bytes_order.specs.MemberLaws.{∈-cast, ∈-map, map-∈, ∈-keep, keep-∈, keep-map, keep-cong, map-cong, ∈-concatMap, concatMap-∈, concatMap-keep-map}
-use Rattle.bytes_order.specs.SortLaws.{sort-unique, same-sort, sort-map, ascending-keep}
+use Rattle.bytes_order.specs.MemberLaws.{∈-cast, ∈-map, map-∈, ∈-keep, keep-∈, ∈-concatMap, concatMap-∈, concatMap-keep-map}
+use Rattle.bytes_order.specs.SortLaws.{same-sort, sort-map, ascending-concatMap}
 use Rattle.update_format.specs.Update.{Id, maxAuthor, Add, Update}
 use Rattle.rules.specs.SetEntry.{SetEntry, entryKey}
 use Rattle.rules.specs.SetEntryLaws.{entry-key-identifies}
-use Rattle.rules.specs.Settle.{Row, Table, heldRow, forkedBy, marks, names, removed, setEntriesFrom, setEntries, settledTable}
+use Rattle.rules.specs.Mark.{Mark, markKey, marksBy}
+use Rattle.rules.specs.ReadOff.{MarkedFor}
+use Rattle.rules.specs.Parts.{Exactly}
+use Rattle.rules.specs.Settle.{Row, Table, heldRow, forkedRow, faultRow, someRowBy, marksIn, names, removed, setEntriesFrom, setEntries, settledTable, partsOf}
+use Rattle.rules.specs.Decides.{Decides}
+use Rattle.rules.specs.Settling.{settled-decides}
+use Rattle.rules.specs.MarkLaws.{marked-stored, marks-by-author, marks-by-ascending, marks-in→, →marks-in}
+use Rattle.rules.specs.PartsLaws.{exactly-unique, read-right}
 use Rattle.rules.specs.TableLaws.{setEntriesFrom-∈, ∈-setEntriesFrom}
-use Rattle.bitset.specs.Below.{upTo}
-use Rattle.bitset.specs.BelowLaws.{anyBelow→, anyBelow←, upTo-∈, ∈-upTo, upTo-ascending}
+use Rattle.bitset.specs.Below.{anyBelow, upTo}
+use Rattle.bitset.specs.BelowLaws.{upTo-∈, ∈-upTo, upTo-ascending}
 use Rattle.update_fields.specs.Fields.{testOf, isAnyAdd, tagIn}
 use Rattle.update_fields.specs.FieldLaws.{→isAnyAdd, isAnyAdd→, add-tag}
 use Rattle.ledger_state.specs.Stands.{ident, updateAt, Stands}
 use Rattle.ledger_state.specs.State.{Book}
-use Rattle.ledger_relations.specs.PlaceTests.{idAt, decodedAt, authorAt, heldAt, forkedAt, removedAt, presentAt, idOrder}
+use Rattle.ledger_relations.specs.PlaceTests.{idAt, decodedAt, authorAt, heldAt, forkedAt, faultAt, removedAt, presentAt, idOrder}
 use Rattle.ledger_sorting.specs.PlaceLists.{sortedBy}
-use Rattle.report_parts.specs.PlaceParts.{markedAt, marksOf, setEntryAt, setOrder}
-use Rattle.ledger_relations.specs.PlaceLaws.{from-used, to-used, place-in, place-decoded, place-author, place-test}
-use Rattle.ledger_relations.specs.RowLaws.{rowAt, row-update, row-id, order-∈, ∈-order, table-rows, held-agrees, author-agrees, fork-agrees, op-test-agrees}
+use Rattle.report_parts.specs.PlaceParts.{markedBy, marksAt, marksOf, setEntryAt, setOrder}
+use Rattle.report_parts.specs.declared.Evidence.the-variants.{Fork, Fault}
+use Rattle.ledger_relations.specs.PlaceLaws.{from-used, to-used, place-decoded, place-author, place-test}
+use Rattle.ledger_relations.specs.RowLaws.{rowAt, row-update, row-id, order-∈, ∈-order, table-rows, any-agrees, held-agrees, author-agrees, fork-agrees, fault-agrees, op-test-agrees}
 
 module _ {l : Book} {s : List ℕ} {us : List Update} (stands : Stands l s us) where
-  -- what is given for the rows that pass a test
-  rows-agree : {B : Type 0} (f : Row → B) (p : Row → Bool) (f′ : ℕ → B) (p′ : ℕ → Bool)
-      → ((k : ℕ) → k < length us → f (rowAt us k) ≡ f′ k) → ((k : ℕ) → k < length us → p (rowAt us k) ≡ p′ k)
-      → map f (keep p (settledTable ident us)) ≡ map f′ (keep p′ (idOrder l s))
-  rows-agree f p f′ p′ h g =
-      ap (λ (T : Table). map f (keep p T)) (table-rows stands)
-      ∙ ap (map f) (keep-map p (rowAt us) (idOrder l s) ∙ ap (map (rowAt us)) (keep-cong (λ (k : ℕ). p (rowAt us k)) p′ (idOrder l s) (λ k m. g k (order-∈ stands m))))
-      ∙ map-map f (rowAt us) (keep p′ (idOrder l s))
-      ∙ map-cong (λ (k : ℕ). f (rowAt us k)) f′ (keep p′ (idOrder l s)) (λ k m. h k (order-∈ stands (keep-∈ p′ (idOrder l s) m .0)))
-
   -- marks
-  marked→ : {a : ℕ} → a ∈ map (authorAt l s) (keep (forkedAt l s) (idOrder l s)) → a ∈ marksOf l s
-  unfolding marksOf markedAt
-  marked→ {a} m =
-      let f = map-∈ (authorAt l s) (keep (forkedAt l s) (idOrder l s)) m in
-      let g = keep-∈ (forkedAt l s) (idOrder l s) (f .1) in
-      let h = order-∈ stands (g .0) in
-      let small = stands .holds .bounded (updateAt us (f .0)) (place-in stands h) .author-small in
-      let e : updateAt us (f .0) .author ≡ a = sym (place-author stands h) ∙ f .2 in
-      ∈-keep (markedAt l s) (∈-upTo (suc maxAuthor) (omega arith))
-      (anyBelow← (l .used) (λ (r : ℕ). eqb (authorAt l s r) a && forkedAt l s r) (f .0) (to-used stands h)
-      (and-true (eqb (authorAt l s (f .0)) a) (forkedAt l s (f .0)) (eq-eqb (authorAt l s (f .0)) a (f .2)) (g .1)))
 
-  →marked : {a : ℕ} → a ∈ marksOf l s → a ∈ map (authorAt l s) (keep (forkedAt l s) (idOrder l s))
-  unfolding marksOf markedAt
-  →marked {a} m =
-      let f = anyBelow→ (l .used) (λ (r : ℕ). eqb (authorAt l s r) a && forkedAt l s r) (keep-∈ (markedAt l s) (upTo (suc maxAuthor)) m .1) in
-      let g = and-true→ (eqb (authorAt l s (f .0)) a) (forkedAt l s (f .0)) (f .2) in
-      ∈-cast (sym (eqb-true (authorAt l s (f .0)) a (g .0))) (∈-map (authorAt l s) (∈-keep (forkedAt l s) (∈-order stands (from-used stands (f .1))) (g .1)))
+  decides : Decides ident us (settledTable ident us)
+  decides = settled-decides ident us (stands .holds .distinct)
 
-  marks-ascending : Ascending (λ (a : ℕ). a ∷ []) (marksOf l s)
-  unfolding marksOf
-  marks-ascending = ascending-keep (markedAt l s) (upTo-ascending (suc maxAuthor))
+  -- a test of some row of an author, and of some place
+  by-agrees : (p : Row → Bool) (p′ : ℕ → Bool) → ((k : ℕ) → k < length us → p (rowAt us k) ≡ p′ k) → (a : ℕ)
+      → someRowBy p (settledTable ident us) a ≡ anyBelow (l .used) (λ (k : ℕ). eqb (authorAt l s k) a && p′ k)
+  unfolding someRowBy
+  by-agrees p p′ h a =
+      any-agrees stands (λ (r : Row). eqb (r .update .author) a && p r) (λ (k : ℕ). eqb (authorAt l s k) a && p′ k)
+      (λ k g. ap₂ (λ (x : ℕ) (b : Bool). eqb x a && b) (author-agrees stands g) (h k g))
 
-  pub marks-part : marksOf l s ≡ marks (settledTable ident us)
-  unfolding marks
-  marks-part =
-      sym (ap (sort (λ (a : ℕ). a ∷ []))
-      (rows-agree (λ (r : Row). r .update .author) (λ (r : Row). heldRow r && any (forkedBy (settledTable ident us) r) (settledTable ident us)) (authorAt l s) (forkedAt l s)
-      (λ k h. author-agrees stands h) (fork-agrees stands))
-      ∙ sort-unique (λ (a : ℕ). a ∷ []) (λ x y m n e. head-eq-of-cons-eq e) marks-ascending (record { forth = λ a m. marked→ m; back = λ a m. →marked m }))
+  marks-agree : (a : ℕ) → marksIn (settledTable ident us) a ≡ marksAt l s a
+  unfolding marksIn marksAt markedBy
+  marks-agree a =
+      ap₂ (marksBy a) (by-agrees (forkedRow (settledTable ident us)) (forkedAt l s) (fork-agrees stands) a)
+      (by-agrees (faultRow (settledTable ident us)) (faultAt l s) (fault-agrees stands) a)
+
+  marks-exactly : Exactly markKey (λ (m : Mark). MarkedFor ident us (m .kind) (m .author)) (marksOf l s)
+  unfolding marksOf marksAt markKey
+  marks-exactly =
+      record {
+        right = λ m h.
+            let f = concatMap-∈ (marksAt l s) (upTo (suc maxAuthor)) h in
+            marks-in→ ident us (settledTable ident us) (stands .holds .distinct) decides (f .0) (subst (λ (ms : List Mark). m ∈ ms) (sym (marks-agree (f .0))) (f .2));
+        all = λ m h.
+            let f = marked-stored ident us (m .kind) (m .author) h in
+            let small : m .author ≤ maxAuthor = subst (λ (a : ℕ). a ≤ maxAuthor) (f .2) (stands .holds .bounded (f .0) (f .1) .author-small) in
+            ∈-concatMap (marksAt l s) (∈-upTo (suc maxAuthor) (omega arith))
+            (subst (λ (ms : List Mark). m ∈ ms) (marks-agree (m .author)) (→marks-in ident us (settledTable ident us) (stands .holds .distinct) decides m h));
+        ascending =
+            ascending-concatMap markKey (marksAt l s) (upTo-ascending (suc maxAuthor)) (λ a. marks-by-ascending a (markedBy l s Fork a) (markedBy l s Fault a))
+            (λ a m h. ap (λ (b : ℕ). b ∷ []) (marks-by-author a (markedBy l s Fork a) (markedBy l s Fault a) h));
+      }
+
+  pub marks-part : marksOf l s ≡ partsOf ident us .marks
+  marks-part = exactly-unique marks-exactly (read-right ident us (stands .holds .distinct) .marks)
 
   -- the set
   kept : Row → Bool

@@ -1,53 +1,71 @@
 -- The part of the marks, one author after the other.
 use Prim.Native.Nat.{ℕ, suc, _+_, _≤_}
-use mathlib.Core.Path.{_≡_, refl, sym, ap, _∙_}
+use mathlib.Core.Path.{_≡_, refl, sym, ap, ap₂, _∙_}
 use mathlib.Core.List.{List, [], _∷_, _++_, append-nil}
-use mathlib.Core.Bool.{Bool, true, false, cond}
+use mathlib.Core.Bool.{Bool, true, false}
 use native.Mathlib.Numerals.{add-one}
 use native.Mathlib.Omega.{arith}
-use Rattle.bytes_order.specs.Member.{keep, concatMap}
-use Rattle.bytes_order.specs.MemberLaws.{keep-append, concatMap-append}
+use Rattle.bytes_order.specs.Member.{concatMap}
+use Rattle.bytes_order.specs.MemberLaws.{concatMap-append}
 use Rattle.bytes_ascii.specs.Ascii.{codes, ascii}
 use Rattle.update_format.specs.Update.{maxAuthor}
 use Rattle.bitset.specs.Below.{upTo}
 use Rattle.bitset.specs.Bits.{has}
+use Rattle.rules.specs.declared.MarkKind.{MarkKind}
+use Rattle.rules.specs.declared.MarkKind.the-variants.{Fork, Fault, Both}
+use Rattle.rules.specs.Mark.{Mark, kindsBy, marksBy}
 use Rattle.rules.specs.Report.{markLine}
-use Rattle.report_text.specs.Parts.{authorsIn, marksPart}
+use Rattle.report_text.specs.Parts.{authorMarks, setMarks, marksPart}
 
--- the lines of the authors below a that are in the set w
-unfoldable pub linesBelow : ℕ → ℕ → List ℕ
-linesBelow w a = concatMap markLine (keep (has w) (upTo a))
+module _ (forked faulty : ℕ) where
+  -- the lines of the authors below a that are in one of the sets
+  unfoldable pub linesBelow : ℕ → List ℕ
+  linesBelow a = concatMap markLine (concatMap (authorMarks forked faulty) (upTo a))
 
-module _ (w : ℕ) where
-  pub lines-start : [] ≡ linesBelow w 0
-  unfolding linesBelow upTo keep concatMap
+  pub lines-start : [] ≡ linesBelow 0
+  unfolding linesBelow upTo concatMap
   lines-start = refl
 
-  pub lines-more : (a : ℕ) → linesBelow w a ++ cond (has w a) (markLine a) [] ≡ linesBelow w (a + 1)
-  unfolding linesBelow upTo keep concatMap
+  pub lines-more : (a : ℕ) → linesBelow a ++ concatMap markLine (authorMarks forked faulty a) ≡ linesBelow (a + 1)
+  unfolding linesBelow upTo concatMap
   lines-more a =
-      ap (λ (x : List ℕ). linesBelow w a ++ x) (one (has w a))
-      ∙ sym (concatMap-append markLine (keep (has w) (upTo a)) (keep (has w) (a ∷ [])))
-      ∙ ap (concatMap markLine) (sym (keep-append (has w) (upTo a) (a ∷ [])))
-      ∙ sym (ap (linesBelow w) (add-one a))
-    where
-      one : (b : Bool) → cond b (markLine a) [] ≡ concatMap markLine (cond b (a ∷ []) [])
-      one true = sym (append-nil (markLine a))
-      one false = refl
+      let M = authorMarks forked faulty in
+      sym (concatMap-append markLine (concatMap M (upTo a)) (M a))
+      ∙ ap (λ (ms : List Mark). concatMap markLine (concatMap M (upTo a) ++ ms)) (sym (append-nil (M a)))
+      ∙ ap (concatMap markLine) (sym (concatMap-append M (upTo a) (a ∷ [])))
+      ∙ sym (ap linesBelow (add-one a))
 
-  pub lines-all : (a : ℕ) → a ≤ suc maxAuthor → suc maxAuthor ≤ a → linesBelow w a ≡ concatMap markLine (authorsIn w)
+  pub lines-all : (a : ℕ) → a ≤ suc maxAuthor → suc maxAuthor ≤ a → linesBelow a ≡ concatMap markLine (setMarks forked faulty)
   unfolding linesBelow
-  lines-all a h g = let e : a ≡ suc maxAuthor = omega arith in ap (λ (m : ℕ). concatMap markLine (keep (has w) (upTo m))) e
+  lines-all a h g = let e : a ≡ suc maxAuthor = omega arith in ap (λ (m : ℕ). concatMap markLine (concatMap (authorMarks forked faulty) (upTo m))) e
 
-  -- the line of author a, by whether it is in the set
-  pub line-shown : (a : ℕ) {b : Bool} → b ≡ has w a → b ≡ true → markLine a ≡ cond (has w a) (markLine a) []
-  line-shown a e t = ap (λ (b : Bool). cond b (markLine a) []) (sym (sym e ∙ t))
+  -- the lines of author a, by whether it is in the sets
+  module _ (a : ℕ) {b c : Bool} (in-forked : b ≡ has forked a) (in-faulty : c ≡ has faulty a) where
+    by-tests : {b′ c′ : Bool} → b ≡ b′ → c ≡ c′ → concatMap markLine (marksBy a b′ c′) ≡ concatMap markLine (authorMarks forked faulty a)
+    by-tests e f = ap₂ (λ (x y : Bool). concatMap markLine (marksBy a x y)) (sym e ∙ in-forked) (sym f ∙ in-faulty)
 
-  pub line-left : (a : ℕ) {b : Bool} → b ≡ has w a → b ≡ false → [] ≡ cond (has w a) (markLine a) []
-  line-left a e t = ap (λ (b : Bool). cond b (markLine a) []) (sym (sym e ∙ t))
+    one : (k : MarkKind) → markLine (record { author = a; kind = k }) ≡ concatMap markLine (record { author = a; kind = k } ∷ [])
+    unfolding concatMap
+    one k = sym (append-nil (markLine (record { author = a; kind = k })))
+
+    pub line-both : b ≡ true → c ≡ true → markLine (record { author = a; kind = Both }) ≡ concatMap markLine (authorMarks forked faulty a)
+    unfolding marksBy kindsBy
+    line-both e f = one Both ∙ by-tests e f
+
+    pub line-fork : b ≡ true → c ≡ false → markLine (record { author = a; kind = Fork }) ≡ concatMap markLine (authorMarks forked faulty a)
+    unfolding marksBy kindsBy
+    line-fork e f = one Fork ∙ by-tests e f
+
+    pub line-fault : b ≡ false → c ≡ true → markLine (record { author = a; kind = Fault }) ≡ concatMap markLine (authorMarks forked faulty a)
+    unfolding marksBy kindsBy
+    line-fault e f = one Fault ∙ by-tests e f
+
+    pub line-left : b ≡ false → c ≡ false → [] ≡ concatMap markLine (authorMarks forked faulty a)
+    unfolding marksBy kindsBy concatMap
+    line-left e f = by-tests e f
 
 -- 40 .. 10 is the word, 41 and 10 are the closing bracket and the newline
-pub marks-is : (authors : List ℕ) →
-    (40 ∷ 109 ∷ 97 ∷ 114 ∷ 107 ∷ 115 ∷ 10 ∷ []) ++ (concatMap markLine authors ++ (41 ∷ 10 ∷ [])) ≡ marksPart authors
+pub marks-is : (marks : List Mark) →
+    (40 ∷ 109 ∷ 97 ∷ 114 ∷ 107 ∷ 115 ∷ 10 ∷ []) ++ (concatMap markLine marks ++ (41 ∷ 10 ∷ [])) ≡ marksPart marks
 unfolding marksPart ascii codes
-marks-is authors = refl
+marks-is marks = refl

@@ -7,6 +7,7 @@ use Rattle.bytes_ascii.specs.Ascii.{ascii}
 use Rattle.update_format.specs.Update.{maxAuthor}
 use Rattle.bitset.specs.Below.{upTo}
 use Rattle.bitset.specs.Bits.{has}
+use Rattle.rules.specs.Mark.{Mark, marksBy}
 use Rattle.rules.specs.Report.{authorLine, setLine, bytesLine, markLine}
 use Rattle.ledger_state.specs.State.{places, Book}
 use Rattle.ledger_relations.specs.PlaceTests.{idAt, authorAt, heldAt, waitingAt, voidAt, headAt, shownAt}
@@ -19,13 +20,17 @@ use Rattle.bytes_print.specs.Page.{farthest}
 use Rattle.ledger_sorting.specs.declared.Places.{Places}
 use Rattle.ledger_sorting.specs.PlaceLists.{PlaceList, InOrder}
 
--- the authors in the set w, ascending
-abbrev pub authorsIn : ℕ → List ℕ
-authorsIn w = keep (has w) (upTo (suc maxAuthor))
+-- the marks of author a, by two sets of authors: those with a fork, and those with a fault
+abbrev pub authorMarks : ℕ → ℕ → ℕ → List Mark
+authorMarks forked faulty a = marksBy a (has forked a) (has faulty a)
 
--- the part of the marks: its word, a line for each of these authors, the closing bracket
-unfoldable pub marksPart : List ℕ → List ℕ
-marksPart authors = ascii "(marks\n" ++ (concatMap markLine authors ++ ascii ")\n")
+-- .. and of all authors, ascending
+abbrev pub setMarks : ℕ → ℕ → List Mark
+setMarks forked faulty = concatMap (authorMarks forked faulty) (upTo (suc maxAuthor))
+
+-- the part of the marks: its word, a line for each of these marks, the closing bracket
+unfoldable pub marksPart : List Mark → List ℕ
+marksPart marks = ascii "(marks\n" ++ (concatMap markLine marks ++ ascii ")\n")
 
 -- what bounds the bytes of the lines of a part, one for each place; of a part, with its word and its closing bracket; of the opening line and the first four parts
 abbrev pub maxLines : ℕ

@@ -16,7 +16,7 @@ module _ (l : Book) (s : List ℕ) where
   unfoldable pub standings : List ℕ
   standings = partOf l s Held (idOrder l s) ++ (partOf l s Heads (idOrder l s) ++ (partOf l s Waiting (idOrder l s) ++ partOf l s Void (idOrder l s)))
 
-  -- those that are read from the held updates, and the closing bracket
+  -- the marks, the set and the list, and the closing bracket
   unfoldable pub readOffs : List ℕ
   readOffs = marksPart (marksOf l s) ++ (partOf l s Set (setOrder l s) ++ (partOf l s Entries (entriesOf l s) ++ ascii ")\n"))
 

@@ -15,6 +15,7 @@ use ledger_sorting::Key;
 use ledger_sorting::Places;
 use ledger_sorting::sorted;
 use ledger_state::Ledger;
+use report_parts::Evidence;
 use report_parts::list;
 use report_parts::marks::marked;
 use report_wording::Part;
@@ -24,7 +25,7 @@ use rules::Form;
 pub const MAX_REPORT: usize = 12000;
 
 // No short report is longer.
-pub const MAX_SHORT_REPORT: usize = 2548;
+pub const MAX_SHORT_REPORT: usize = 2644;
 
 // The parts that go by standing.
 fn print_standings(l: Ledger, store: &[u8], order: Places, page: &mut [u8], at: usize) -> usize
@@ -57,12 +58,14 @@ fn print_standings_in(
     }
 }
 
-// The parts that are read from the held updates, and the closing bracket.
+// The marks, the set and the list, and the closing bracket.
 fn print_read_offs(l: Ledger, store: &[u8], order: Places, page: &mut [u8], at: usize) -> usize
     requires { ⌜ InOrderFrom (bookOf l) (now store) order at maxStandings ⌝ }
     ensures { λ r. ⌜ Prints (now (page .entry)) at (readOffs (bookOf l) (now (store .entry))) (now (page .exit)) r ⌝ }
 {
-    let marks = marks::print(marked(l, store), page, at);
+    let forked = marked(l, store, Evidence::Fork);
+    let faulty = marked(l, store, Evidence::Fault);
+    let marks = marks::print(forked, faulty, page, at);
     let added = sorted::sorted(l, store, Key::SetEntry);
     let set = parts::print(l, store, Part::Set, added, page, marks);
     let entries = list::entries(l, store, order);

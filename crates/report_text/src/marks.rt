@@ -1,52 +1,60 @@
-// The part of the report that shows the marked authors.
-ghost use mathlib.Core.Bool.{cond};
-ghost use mathlib.Core.List.{[]};
+// The part of the report that shows the marks.
 ghost use Prim.Native.Nat.{_+_, _≤_};
 ghost use Rattle.bytes_order.specs.Member.{concatMap};
-ghost use Rattle.bitset.specs.Bits.{has};
 ghost use Rattle.rules.specs.Report.{markLine};
 ghost use Rattle.bytes_print.specs.Page.{Prints, farthest};
 ghost use Rattle.report_wording.specs.Lines.{maxReportLine, MarkLineOf};
-ghost use Rattle.report_text.specs.Parts.{authorsIn, marksPart, maxMarkLines, maxMarksPart};
+ghost use Rattle.report_text.specs.Parts.{authorMarks, setMarks, marksPart, maxMarkLines, maxMarksPart};
 use bitset::Set;
 use bytes_print::put;
+use report_wording::mark_line;
+use rules::MarkKind;
 use update_format::bounds::AUTHORS;
 
-// The line of author a, if it is in the set.
-fn shown_line(authors: Set, a: usize, page: &mut [u8], at: usize) -> usize
+// The line of author a, if it is in one of the sets.
+fn shown_line(forked: Set, faulty: Set, a: usize, page: &mut [u8], at: usize) -> usize
     requires { ⌜ MarkLineOf at a ⌝ }
-    ensures prints { λ r. ⌜ Prints (now (page .entry)) at (cond (has authors a) (markLine a) []) (now (page .exit)) r ⌝ }
+    ensures prints { λ r. ⌜ Prints (now (page .entry)) at (concatMap markLine (authorMarks forked faulty a)) (now (page .exit)) r ⌝ }
     ensures small { λ r. ⌜ r ≤ at + maxReportLine ⌝ }
 {
-    if bitset::has(authors, a) {
-        report_wording::mark_line(a, page, at)
+    let fault = bitset::has(faulty, a);
+    if bitset::has(forked, a) {
+        if fault {
+            mark_line(a, MarkKind::Both, page, at)
+        } else {
+            mark_line(a, MarkKind::Fork, page, at)
+        }
     } else {
-        at
+        if fault {
+            mark_line(a, MarkKind::Fault, page, at)
+        } else {
+            at
+        }
     }
 }
 
-// The lines of the authors in the set, ascending.
-fn lines(authors: Set, page: &mut [u8], at: usize) -> usize
+// The lines of the authors in the sets, ascending.
+fn lines(forked: Set, faulty: Set, page: &mut [u8], at: usize) -> usize
     requires { ⌜ at + maxMarkLines ≤ farthest ⌝ }
-    ensures prints { λ r. ⌜ Prints (now (page .entry)) at (concatMap markLine (authorsIn authors)) (now (page .exit)) r ⌝ }
+    ensures prints { λ r. ⌜ Prints (now (page .entry)) at (concatMap markLine (setMarks forked faulty)) (now (page .exit)) r ⌝ }
     ensures small { λ r. ⌜ r ≤ at + maxMarkLines ⌝ }
 {
     let mut end = at;
     let mut a: usize = 0;
     while a < AUTHORS {
-        end = shown_line(authors, a, page, end);
+        end = shown_line(forked, faulty, a, page, end);
         a += 1;
     }
     end
 }
 
 // Prints the part: its word, its lines, the closing bracket.
-pub fn print(authors: Set, page: &mut [u8], at: usize) -> usize
+pub fn print(forked: Set, faulty: Set, page: &mut [u8], at: usize) -> usize
     requires { ⌜ at + maxMarksPart ≤ farthest ⌝ }
-    ensures prints { λ r. ⌜ Prints (now (page .entry)) at (marksPart (authorsIn authors)) (now (page .exit)) r ⌝ }
+    ensures prints { λ r. ⌜ Prints (now (page .entry)) at (marksPart (setMarks forked faulty)) (now (page .exit)) r ⌝ }
     ensures small { λ r. ⌜ r ≤ at + maxMarksPart ⌝ }
 {
     let opened = put(page, at, b"(marks\n");
-    let shown = lines(authors, page, opened);
+    let shown = lines(forked, faulty, page, opened);
     put(page, shown, b")\n")
 }

@@ -7,11 +7,13 @@ use types.Run.{OneOf, miss}
 use Rattle.update_format.specs.Update.{Id}
 use Rattle.update_format.specs.Decode.{Decoded}
 use Rattle.bytes_ascii.specs.Ascii.{codes, ascii, hex, decimal}
-use Rattle.rules.specs.Report.{setLine, bytesLine, markLine}
+use Rattle.rules.specs.declared.MarkKind.{MarkKind}
+use Rattle.rules.specs.declared.MarkKind.the-variants.{Fork, Fault, Both}
+use Rattle.rules.specs.Report.{setLine, bytesLine, markWord, markLine}
 use Rattle.update_fields.specs.Fields.{authorIn, tagIn, setEntryIn}
 use Rattle.report_wording.specs.declared.Part.{Part}
 use Rattle.report_wording.specs.declared.Part.the-variants.{Held, Heads, Waiting, Void, Set, List as Entries}
-use Rattle.report_wording.specs.Lines.{wordOf, authorLineBy, lineBy}
+use Rattle.report_wording.specs.Lines.{wordOf, markEnd, authorLineBy, lineBy}
 use Rattle.report_wording.proofs.Part.{the-type}
 
 -- lines: 40, 41, 32 and 10 are the brackets, the space and the newline
@@ -24,9 +26,24 @@ pub bytes-line : (bs : List ℕ) → (ascii "(" ++ hex bs) ++ (41 ∷ 10 ∷ [])
 unfolding bytesLine ascii codes
 bytes-line bs = append-assoc (40 ∷ []) (hex bs) (41 ∷ 10 ∷ [])
 
-pub mark-line : (a : ℕ) → (40 ∷ []) ++ (decimal a ++ (41 ∷ 10 ∷ [])) ≡ markLine a
+pub mark-line : (a : ℕ) (k : MarkKind) → (40 ∷ []) ++ (decimal a ++ markEnd k) ≡ markLine (record { author = a; kind = k })
 unfolding markLine ascii codes
-mark-line a = refl
+mark-line a k = refl
+
+-- the end of a mark's line in bytes
+abbrev endBytes : MarkKind → List ℕ
+endBytes Fork = 32 ∷ 102 ∷ 111 ∷ 114 ∷ 107 ∷ 41 ∷ 10 ∷ []
+endBytes Fault = 32 ∷ 102 ∷ 97 ∷ 117 ∷ 108 ∷ 116 ∷ 41 ∷ 10 ∷ []
+endBytes Both = 32 ∷ 98 ∷ 111 ∷ 116 ∷ 104 ∷ 41 ∷ 10 ∷ []
+
+end-bytes : (k : MarkKind) → endBytes k ≡ markEnd k
+unfolding markWord ascii codes
+end-bytes Fork = refl
+end-bytes Fault = refl
+end-bytes Both = refl
+
+pub end-is : {k j : MarkKind} → k ≡ j → endBytes j ≡ markEnd k
+end-is {k} {j} e = end-bytes j ∙ ap markEnd (sym e)
 
 pub author-line : (bs : List ℕ) (d : Decoded) (a : ℕ) → a ≡ authorIn d →
     (ascii "(" ++ hex bs) ++ ((32 ∷ []) ++ (decimal a ++ (41 ∷ 10 ∷ []))) ≡ authorLineBy bs d

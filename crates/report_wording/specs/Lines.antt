@@ -1,11 +1,12 @@
 -- The first line of each part of the report that shows updates, and the lines in it.
 use Prim.Native.Nat.{ℕ, _+_, _≤_}
 use lib.ListN.{length}
-use mathlib.Core.List.{List}
+use mathlib.Core.List.{List, _++_}
 use Rattle.update_format.specs.Update.{Id, idLength, maxAuthor}
 use Rattle.update_format.specs.Decode.{Decoded}
 use Rattle.bytes_ascii.specs.Ascii.{ascii}
-use Rattle.rules.specs.Report.{authorLine, setLine, bytesLine}
+use Rattle.rules.specs.declared.MarkKind.{MarkKind}
+use Rattle.rules.specs.Report.{authorLine, setLine, bytesLine, markWord}
 use Rattle.update_fields.specs.Fields.{authorIn, setEntryIn, valueIn}
 use Rattle.report_wording.specs.declared.Part.{Part}
 use Rattle.report_wording.specs.declared.Part.the-variants.{Held, Heads, Waiting, Void, Set, List as Entries}
@@ -33,6 +34,10 @@ wordOf Waiting = ascii "(waiting\n"
 wordOf Void = ascii "(void\n"
 wordOf Set = ascii "(set\n"
 wordOf Entries = ascii "(list\n"
+
+-- the end of a mark's line
+abbrev pub markEnd : MarkKind → List ℕ
+markEnd k = ascii " " ++ (markWord k ++ ascii ")\n")
 
 -- a line of bytes and the author of what an update's bytes decode to
 abbrev pub authorLineBy : List ℕ → Decoded → List ℕ

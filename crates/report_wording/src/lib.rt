@@ -6,9 +6,10 @@ ghost use Rattle.update_format.specs.Decode.{decode};
 ghost use Rattle.bytes_ascii.specs.Ascii.{ascii, hex};
 ghost use Rattle.rules.specs.Report.{bytesLine, markLine};
 ghost use Rattle.bytes_print.specs.Page.{Prints, farthest};
-ghost use Rattle.report_wording.specs.Lines.{maxReportLine, LineOf, MarkLineOf, wordOf, authorLineBy, lineBy};
+ghost use Rattle.report_wording.specs.Lines.{maxReportLine, LineOf, MarkLineOf, wordOf, markEnd, authorLineBy, lineBy};
 use bytes_print::digits;
 use bytes_print::put;
+use rules::MarkKind;
 
 // The parts of the report that show updates.
 pub enum Part {
@@ -69,15 +70,28 @@ fn author_line(bytes: &[u8], b: &[u8], page: &mut [u8], at: usize) -> usize
     put(page, named, b")\n")
 }
 
+// The end of a mark's line: what the author is marked for.
+fn mark_end(kind: MarkKind, page: &mut [u8], at: usize) -> usize
+    requires { ⌜ at ≤ farthest ⌝ }
+    ensures prints { λ r. ⌜ Prints (now (page .entry)) at (markEnd kind) (now (page .exit)) r ⌝ }
+    ensures small { λ r. ⌜ r ≤ at + 10 ⌝ }
+{
+    match kind {
+        MarkKind::Fork => put(page, at, b" fork)\n"),
+        MarkKind::Fault => put(page, at, b" fault)\n"),
+        MarkKind::Both => put(page, at, b" both)\n"),
+    }
+}
+
 // The line of a marked author.
-pub fn mark_line(author: usize, page: &mut [u8], at: usize) -> usize
+pub fn mark_line(author: usize, kind: MarkKind, page: &mut [u8], at: usize) -> usize
     requires { ⌜ MarkLineOf at author ⌝ }
-    ensures prints { λ r. ⌜ Prints (now (page .entry)) at (markLine author) (now (page .exit)) r ⌝ }
+    ensures prints { λ r. ⌜ Prints (now (page .entry)) at (markLine (record { author = author; kind = kind })) (now (page .exit)) r ⌝ }
     ensures small { λ r. ⌜ r ≤ at + maxReportLine ⌝ }
 {
     let opened = put(page, at, b"(");
     let named = digits::decimal(page, opened, author as u8);
-    put(page, named, b")\n")
+    mark_end(kind, page, named)
 }
 
 // The line in a part of an update with this id and these bytes.

@@ -1,5 +1,5 @@
 -- The laws of the causal order: of two held updates it is one of the four and never two; the pair turned round; an answer computed from tests that are right is right;
--- and document 01's heads, marks and antichain rule are those by the order.
+-- and document 01's heads, forks and antichain rule are those by the order.
 use mathlib.Core.Path.{_≡_, refl, sym, _∙_, ap, subst}
 use mathlib.Core.Logic.{_⊎_, inl, inr}
 use mathlib.Core.List.{List}
@@ -14,9 +14,9 @@ use Rattle.bytes_order.specs.DistinctLaws.{distinct-eq}
 use Rattle.update_format.specs.Update.{Id, Update}
 use Rattle.rules.specs.declared.CausalOrder.{CausalOrder}
 use Rattle.rules.specs.declared.CausalOrder.the-variants.{Same, Before, After, Apart}
-use Rattle.rules.specs.Standing.{Ancestor, Antichain, Held}
-use Rattle.rules.specs.ReadOff.{Head, Marked}
-use Rattle.rules.specs.CausalOrder.{Concurrent, Causal, OrderExactly, HeadByOrder, MarkedByOrder, AntichainByOrder, turned, orderBy, isBefore, isApart, beforeOrAfter, sameOrBefore}
+use Rattle.rules.specs.Standing.{Ancestor, Antichain, Held, PredsHeld}
+use Rattle.rules.specs.ReadOff.{Head, Forked}
+use Rattle.rules.specs.CausalOrder.{Concurrent, Causal, OrderExactly, HeadByOrder, ForkedByOrder, AntichainByOrder, turned, orderBy, isBefore, isApart, beforeOrAfter, sameOrBefore}
 use Rattle.rules.specs.Settle.{Table, aboveIn, orderIn}
 use Rattle.rules.specs.LeastSets.{ancestor-trans, held-stored, held-acyclic}
 
@@ -148,9 +148,9 @@ module _ (ident : Update → Id) (S : List Update) where
   pub order→head : {u : Update} → HeadByOrder ident S u → Head ident S u
   order→head h = record { is-held = h .is-held; on-top = h .none-after }
 
-  -- marks
-  pub marked→order : {a : ℕ} → Marked ident S a → MarkedByOrder ident S a
-  marked→order m =
+  -- forks
+  pub forked→order : {a : ℕ} → Forked ident S a → ForkedByOrder ident S a
+  forked→order m =
       record {
         one = m .one;
         other = m .other;
@@ -161,8 +161,8 @@ module _ (ident : Update → Id) (S : List Update) where
         are-apart = record { not-same = λ e. m .two (ap ident e); not-before = m .one-apart; not-after = m .other-apart };
       }
 
-  pub order→marked : Distinct ident S → {a : ℕ} → MarkedByOrder ident S a → Marked ident S a
-  order→marked distinct m =
+  pub order→forked : Distinct ident S → {a : ℕ} → ForkedByOrder ident S a → Forked ident S a
+  order→forked distinct m =
       record {
         one = m .one;
         other = m .other;
@@ -183,6 +183,6 @@ module _ (ident : Update → Id) (S : List Update) where
         none-after = λ x y mx my px py two a. n y x my mx py px a;
       }
 
-  pub order→antichain : {u : Update} → ((v : Update) → v ∈ S → ident v ∈ u .preds → Held ident S v) → AntichainByOrder ident S u → Antichain ident S u
+  pub order→antichain : {u : Update} → PredsHeld ident S u → AntichainByOrder ident S u → Antichain ident S u
   order→antichain held n x y mx my px py a =
       n .none-before x y mx my px py (λ e. same-not-before (held x mx px) e a) a

@@ -31,15 +31,15 @@ module _ (ident : Update → Id) (S : List Update) where
     pub all : (o : CausalOrder) → Causal o u v → answer ≡ o
     pub one : (o p : CausalOrder) → Causal o u v → Causal p u v → o ≡ p
 
-  -- document 01's heads, marks and antichain rule by this order; the laws say that they are the same
+  -- document 01's heads, forks and antichain rule by this order; the laws say that they are the same
 
   -- a head: no held update is after it
   pub record HeadByOrder (u : Update) : Type 0 where
     pub is-held : Held ident S u
     pub none-after : (v : Update) → Held ident S v → Causal After v u → ⊥
 
-  -- a mark: two held updates of the author are apart
-  pub record MarkedByOrder (author : ℕ) : Type 0 where
+  -- a fork: two held updates of the author are apart
+  pub record ForkedByOrder (author : ℕ) : Type 0 where
     pub one : Update
     pub other : Update
     pub one-held : Held ident S one

@@ -1,5 +1,5 @@
 -- The choice of predecessors from a settled table: at most eight heads, ascending, one of which is at or above each held update of an author
--- who is not marked.
+-- without a fork.
 use mathlib.Core.Path.{_≡_, refl, sym, _∙_, ap, subst}
 use mathlib.Core.Logic.{_⊎_, inl, inr, ⊎-elim}
 use Prim.Native.Nat.{ℕ, zero, suc, _+_, _≤_, _<_}
@@ -22,7 +22,7 @@ use Rattle.bytes_order.specs.SortLaws.{ascending-keep, sort-∈, ∈-sort, sort
 use Rattle.update_format.specs.Update.{Id, maxPredecessors, Update}
 use Rattle.rules.specs.declared.CausalOrder.the-variants.{Same, Before}
 use Rattle.rules.specs.Standing.{Ancestor}
-use Rattle.rules.specs.ReadOff.{Marked}
+use Rattle.rules.specs.ReadOff.{Forked}
 use Rattle.rules.specs.CausalOrder.{isBefore, sameOrBefore}
 use Rattle.rules.specs.Settle.{Row, Table, orderIn, heldRow, covered, heads, rank, rankKey}
 use Rattle.rules.specs.Decides.{Decides}
@@ -214,10 +214,10 @@ module _ {ident : Update → Id} {S : List Update} {T : Table} (distinct : Disti
     ∈-by-rank k e =
         ∈-sort rankKey (λ x y m n q. row-eq distinct decides (held-by→ m .0 .row-in) (held-by→ n .0 .row-in) (tail-eq-of-cons-eq q)) (→held-by k e)
 
-    -- of two held updates of an author who is not marked, that of higher rank is at or above the other
-    unmarked : (Marked ident S a → ⊥) → {r t : Row} → HeldRow T r → HeldRow T t → r .update .author ≡ a → t .update .author ≡ a
+    -- of two held updates of an author without a fork, that of higher rank is at or above the other
+    unforked : (Forked ident S a → ⊥) → {r t : Row} → HeldRow T r → HeldRow T t → r .update .author ≡ a → t .update .author ≡ a
         → rank r ≤ rank t → (r .id ≡ t .id → ⊥) → r .id ∈ t .above
-    unmarked n {r} {t} k l by-r by-t le ne = step (member (r .id) (t .above)) refl
+    unforked n {r} {t} k l by-r by-t le ne = step (member (r .id) (t .above)) refl
       where
         apart : (x y : Row) → HeldRow T x → HeldRow T y → (x .id ∈ y .above → ⊥) → Ancestor ident S (x .update) (y .update) → ⊥
         apart x y kx ky not-above b = not-above (ancestor→above distinct decides kx ky b)
@@ -240,7 +240,7 @@ module _ {ident : Update → Id} {S : List Update} {T : Table} (distinct : Disti
             }))
 
     -- the author's held update of highest rank is at or above each other
-    top : (Marked ident S a → ⊥) → {r : Row} → HeldRow T r → r .update .author ≡ a
+    top : (Forked ident S a → ⊥) → {r : Row} → HeldRow T r → r .update .author ≡ a
         → (t : Row) × (ts : Table) × (ranked (heldBy T a) ≡ t ∷ ts) × HeldRow T t × AtOrAbove r t
     unfolding ranked by-rank
     top n {r} k e =
@@ -256,11 +256,11 @@ module _ {ident : Update → Id} {S : List Update} {T : Table} (distinct : Disti
           h .0,
           ⊎-elim (λ (q : r ≡ t). inl (ap rowId (sym q)))
               (λ (b : before (rankKey r) (rankKey t) ≡ true).
-              inr (unmarked n k (h .0) e (h .1) (before-first (rank r) (rank t) (r .id) (t .id) b) (ne b))) (f .4 r i),
+              inr (unforked n k (h .0) e (h .1) (before-first (rank r) (rank t) (r .id) (t .id) b) (ne b))) (f .4 r i),
         )
 
     -- a head at or above each held update of the author is named
-    pub named : (Marked ident S a → ⊥) → {r : Row} → HeldRow T r → r .update .author ≡ a → (h : Row) × (h ∈ chosen T a) × HeldRow T h × AtOrAbove r h
+    pub named : (Forked ident S a → ⊥) → {r : Row} → HeldRow T r → r .update .author ≡ a → (h : Row) × (h ∈ chosen T a) × HeldRow T h × AtOrAbove r h
     unfolding chosen firstHeads
     named n {r} k e =
         let t = top n k e in

@@ -1,4 +1,4 @@
--- More updates keep what is settled: Ancestor, Held, Void and the ranks of held updates; so only the members of a set count. One more update
+-- More updates keep what is settled: Ancestor, Held, Void, the ranks of held updates, forks and faults; so only the members of a set count. One more update
 -- changes the standing of no update but itself and those it is an ancestor of.
 use mathlib.Core.Path.{_≡_, sym, subst}
 use mathlib.Core.Logic.{_⊎_, inl, inr, ⊎-elim}
@@ -9,13 +9,9 @@ use Rattle.bytes_order.specs.MemberLaws.{∈-singleton, ∈-append-left, append
 use Rattle.bytes_order.specs.Distinct.{Distinct}
 use Rattle.bytes_order.specs.DistinctLaws.{distinct-eq}
 use Rattle.update_format.specs.Update.{Id, Operation, Add, Remove, Insert, Delete, Update}
-use Rattle.rules.specs.Standing.{Ancestor, AddAncestor, InsertAncestor, Valid, Known, Fine, Held, Void, Waiting}
-use Rattle.rules.specs.ReadOff.{Rank}
+use Rattle.rules.specs.Standing.{Ancestor, AddAncestor, InsertAncestor, Valid, Known, Fine, Held, PredsHeld, Void, Waiting}
+use Rattle.rules.specs.ReadOff.{Rank, Forked, Fault, Faulty}
 use Rattle.rules.specs.LeastSets.{held-stored, void-stored}
-
--- every predecessor of u that is in the set is held
-abbrev pub PredsHeld : (Update → Id) → List Update → Update → Type 0
-PredsHeld ident S u = (v : Update) → v ∈ S → ident v ∈ u .preds → Held ident S v
 
 -- what is valid by the ancestors in S is valid by those in S′, if S′ has them
 module _ (ident : Update → Id) (S S′ : List Update) (u : Update) (keeps : (x : Update) → Ancestor ident S x u → Ancestor ident S′ x u) where
@@ -106,6 +102,31 @@ module _ (ident : Update → Id) (S S′ : List Update) (more : (u : Update) →
         only = λ i m. let o = r .only i m in (o .0, grow-ancestor (o .1), o .2);
         number = r .number;
       }
+
+  pub grow-forked : {a : ℕ} → Forked ident S a → Forked ident S′ a
+  grow-forked f =
+      record {
+        one = f .one;
+        other = f .other;
+        one-held = grow-held (f .one-held);
+        other-held = grow-held (f .other-held);
+        one-by = f .one-by;
+        other-by = f .other-by;
+        two = f .two;
+        one-apart = λ a. f .one-apart (held-ancestors-stay (f .other-held) a);
+        other-apart = λ a. f .other-apart (held-ancestors-stay (f .one-held) a);
+      }
+
+  pub grow-fault : {u : Update} → Fault ident S u → Fault ident S′ u
+  grow-fault f =
+      record {
+        is-void = grow-void (f .is-void);
+        preds-known = grow-known (f .preds-known);
+        preds-held = λ v n p. grow-held (f .preds-held v (pred-stays (f .preds-known) n p) p);
+      }
+
+  pub grow-faulty : {a : ℕ} → Faulty ident S a → Faulty ident S′ a
+  grow-faulty f = record { update = f .update; is-fault = grow-fault (f .is-fault); fault-by = f .fault-by }
 
 -- only the members count: the same standings (Waiting follows)
 pub same-waiting : (ident : Update → Id) (S S′ : List Update) → SameMembers S S′ → Distinct ident S → Distinct ident S′

@@ -1,5 +1,6 @@
 pub mod Standing
 pub mod SetEntry
+pub mod Mark
 pub mod ReadOff
 pub mod CausalOrder
 pub mod Parts
@@ -17,6 +18,7 @@ pub mod TableLaws
 pub mod WalkLaws
 pub mod ListedLaws
 pub mod ReadOffLaws
+pub mod MarkLaws
 pub mod PartsLaws
 pub mod SmallLaws
 pub mod TextLaws

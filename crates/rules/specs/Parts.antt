@@ -1,20 +1,21 @@
 -- The parts of the report, and what it is for them to be those of a set of updates, by `Standing` and `ReadOff` alone.
 use Prim.Native.Nat.{ℕ}
-use mathlib.Core.List.{List, [], _∷_}
+use mathlib.Core.List.{List}
 use Rattle.bytes_order.specs.Member.{_∈_}
 use Rattle.bytes_order.specs.Ascending.{Ascending}
 use Rattle.update_format.specs.Update.{Id, Update}
 use Rattle.rules.specs.Standing.{Held, Void, Waiting}
 use Rattle.rules.specs.SetEntry.{SetEntry, entryKey}
-use Rattle.rules.specs.ReadOff.{Head, Marked, Present, Listed}
+use Rattle.rules.specs.Mark.{Mark, markKey}
+use Rattle.rules.specs.ReadOff.{Head, MarkedFor, Present, Listed}
 
--- updates, authors, set entries and values
+-- updates, marks, set entries and values
 pub record Parts : Type 0 where
   pub held : List Update
   pub heads : List Update
   pub waiting : List Update
   pub void : List Update
-  pub marks : List ℕ
+  pub marks : List Mark
   pub set : List SetEntry
   pub list : List (List ℕ)
 
@@ -30,6 +31,6 @@ pub record ReadFrom (ident : Update → Id) (S : List Update) (parts : Parts) : 
   pub heads : Exactly ident (Head ident S) (parts .heads)
   pub waiting : Exactly ident (Waiting ident S) (parts .waiting)
   pub void : Exactly ident (Void ident S) (parts .void)
-  pub marks : Exactly (λ (a : ℕ). a ∷ []) (Marked ident S) (parts .marks)
+  pub marks : Exactly markKey (λ (m : Mark). MarkedFor ident S (m .kind) (m .author)) (parts .marks)
   pub set : Exactly entryKey (λ (e : SetEntry). Present ident S (e .tag) (e .author)) (parts .set)
   pub list : Listed ident S (parts .list)

@@ -2,7 +2,7 @@
 -- parts is. Of two held updates the causal order, as it is computed, is exactly that of `CausalOrder`.
 use Prim.Native.Nat.{ℕ}
 use mathlib.Core.Path.{_≡_, refl, sym, subst, subst₂}
-use mathlib.Core.List.{List, [], _∷_}
+use mathlib.Core.List.{List}
 use mathlib.Core.Bool.{Bool, true, not, _&&_}
 use Rattle.bytes_order.specs.Order.{before}
 use Rattle.bytes_order.specs.Member.{_∈_, keep}
@@ -13,7 +13,8 @@ use Rattle.bytes_order.specs.SortLaws.{ascending-distinct, ascending-keep, asce
 use Rattle.update_format.specs.Update.{Id, Update}
 use Rattle.rules.specs.Standing.{Held, Void, Waiting}
 use Rattle.rules.specs.SetEntry.{SetEntry, entryKey}
-use Rattle.rules.specs.ReadOff.{Head, Marked, Present}
+use Rattle.rules.specs.Mark.{Mark, markKey}
+use Rattle.rules.specs.ReadOff.{Head, MarkedFor, Present}
 use Rattle.rules.specs.CausalOrder.{OrderExactly, turned}
 use Rattle.rules.specs.Parts.{Parts, Exactly, ReadFrom}
 use Rattle.rules.specs.Settle.{Verdict, held, waiting, void, Row, Table, isHeld, isWaiting, isVoid, heldRow, covered, heads, marks, setEntries, updatesIn, partsIn, partsOf, settledTable, causalOrder}
@@ -23,7 +24,8 @@ use Rattle.rules.specs.CausalLaws.{order-turned}
 use Rattle.rules.specs.SettlingTable.{isHeld→, isWaiting→, isVoid→}
 use Rattle.rules.specs.Settling.{settled-decides, settled-ascending}
 use Rattle.rules.specs.TableLaws.{row-says, says-row, held-order}
-use Rattle.rules.specs.ReadOffLaws.{head-right, head-all, mark-right, mark-all, set-entry-right, set-entry-all, list-right, listed-unique}
+use Rattle.rules.specs.MarkLaws.{mark-right, mark-all}
+use Rattle.rules.specs.ReadOffLaws.{head-right, head-all, set-entry-right, set-entry-all, list-right, listed-unique}
 
 -- a part has each of its elements once, and its definition determines it
 module _ {A : Type 0} {key : A → List ℕ} {P : A → Type 0} where
@@ -79,10 +81,10 @@ module _ {ident : Update → Id} {S : List Update} {T : Table} (distinct : Disti
   heads-exactly =
       kept-exactly (λ (r : Row). heldRow r && not (covered T r)) (Head ident S) (head-right ident S T distinct decides) (head-all ident S T distinct decides)
 
-  marks-exactly : Exactly (λ (a : ℕ). a ∷ []) (Marked ident S) (marks T)
+  marks-exactly : Exactly markKey (λ (m : Mark). MarkedFor ident S (m .kind) (m .author)) (marks T)
   unfolding marks
   marks-exactly =
-      record { right = mark-right ident S T distinct decides; all = mark-all ident S T distinct decides; ascending = sort-ascending (λ (a : ℕ). a ∷ []) _ }
+      record { right = mark-right ident S T distinct decides; all = mark-all ident S T distinct decides; ascending = sort-ascending markKey _ }
 
   set-exactly : Exactly entryKey (λ (e : SetEntry). Present ident S (e .tag) (e .author)) (setEntries T)
   unfolding setEntries

@@ -1,4 +1,5 @@
--- Document 01, "What is read from the held updates", by Held and Ancestor alone; the set as document 02, E5, has it.
+-- Document 01, "What is read from the held updates", by Held and Ancestor alone; the set as document 02, E5, has it. And document 02, E7: the faults, by Void too, and
+-- the marks.
 use mathlib.Core.Path.{_≡_}
 use mathlib.Core.List.{List, [], _∷_, _++_}
 use Prim.Native.Nat.{ℕ}
@@ -8,7 +9,9 @@ use Rattle.bytes_order.specs.Order.{before}
 use Rattle.bytes_order.specs.Member.{_∈_}
 use Rattle.bytes_order.specs.Distinct.{Distinct}
 use Rattle.update_format.specs.Update.{Id, Add, Remove, Insert, Delete, Update}
-use Rattle.rules.specs.Standing.{beginning, Ancestor, Held}
+use Rattle.rules.specs.declared.MarkKind.{MarkKind}
+use Rattle.rules.specs.declared.MarkKind.the-variants.{Fork as IsFork, Fault as IsFault, Both as IsBoth}
+use Rattle.rules.specs.Standing.{beginning, Ancestor, Known, Held, PredsHeld, Void}
 
 module _ (ident : Update → Id) (S : List Update) where
   -- "Heads: held updates that are no held update's ancestor."
@@ -16,8 +19,8 @@ module _ (ident : Update → Id) (S : List Update) where
     pub is-held : Held ident S u
     pub on-top : (v : Update) → Held ident S v → Ancestor ident S u v → ⊥
 
-  -- "Mark: an author with two held updates, neither an ancestor of the other." (An equivocation.)
-  pub record Marked (author : ℕ) : Type 0 where
+  -- "Forks are found as before": "an author with two held updates, neither an ancestor of the other." (An equivocation.)
+  pub record Forked (author : ℕ) : Type 0 where
     pub one : Update
     pub other : Update
     pub one-held : Held ident S one
@@ -27,6 +30,24 @@ module _ (ident : Update → Id) (S : List Update) where
     pub two : ident one ≡ ident other → ⊥
     pub one-apart : Ancestor ident S one other → ⊥
     pub other-apart : Ancestor ident S other one → ⊥
+
+  -- "void while all its predecessors are held"
+  pub record Fault (u : Update) : Type 0 where
+    pub is-void : Void ident S u
+    pub preds-known : Known ident S u
+    pub preds-held : PredsHeld ident S u
+
+  -- "An author is marked for a fault if an update of theirs is void while all its predecessors are held."
+  pub record Faulty (author : ℕ) : Type 0 where
+    pub update : Update
+    pub is-fault : Fault update
+    pub fault-by : update .author ≡ author
+
+  -- "Mark lines become `(author fork)`, `(author fault)` or `(author both)`.": the author is marked, and for this
+  abbrev pub MarkedFor : MarkKind → ℕ → Type 0
+  MarkedFor IsFork author = Forked author × (Faulty author → ⊥)
+  MarkedFor IsFault author = Faulty author × (Forked author → ⊥)
+  MarkedFor IsBoth author = Forked author × Faulty author
 
   -- a held Remove names the id
   pub record Removed (i : Id) : Type 0 where

@@ -1,35 +1,29 @@
--- What is computed from a settled table is what `ReadOff` defines.
+-- What is computed from a settled table is what `ReadOff` defines: heads, set and list. (Marks: `MarkLaws`.)
 use Prim.Native.Nat.{ℕ}
 use native.Mathlib.Omega.{arith}
-use mathlib.Core.Path.{_≡_, refl, sym, _∙_, ap, subst, subst₂}
-use mathlib.Core.List.{List, [], _∷_, map, head-eq-of-cons-eq}
+use mathlib.Core.Path.{_≡_, sym, _∙_, ap, subst}
+use mathlib.Core.List.{List}
 use mathlib.Core.Bool.{Bool, true, not, _&&_}
 use lib.ListN.{length}
-use lib.Dec.{eqb}
-use borrow.Author.Tests.{eqb-true, eq-eqb}
-use Rattle.bytes_order.specs.Member.{_∈_, keep, any, concatMap}
-use Rattle.bytes_order.specs.MemberLaws.{∈-cast, ∈-map, map-∈, ∈-concatMap, concatMap-∈}
-use Rattle.bytes_order.specs.BoolLaws.{true-false, and-true→, and-true}
+use Rattle.bytes_order.specs.Member.{_∈_, keep, concatMap}
+use Rattle.bytes_order.specs.MemberLaws.{∈-cast, ∈-concatMap, concatMap-∈}
+use Rattle.bytes_order.specs.BoolLaws.{true-false}
 use Rattle.bytes_order.specs.OrderLaws.{same→eq}
 use Rattle.bytes_order.specs.SortLaws.{sort-∈, ∈-sort}
 use Rattle.bytes_order.specs.Distinct.{Distinct}
 use Rattle.update_format.specs.Update.{Id, Update}
-use Rattle.rules.specs.declared.CausalOrder.the-variants.{Before, Apart}
+use Rattle.rules.specs.declared.CausalOrder.the-variants.{Before}
 use Rattle.rules.specs.Standing.{beginning, Ancestor, Held}
 use Rattle.rules.specs.SetEntry.{SetEntry, entryKey}
-use Rattle.rules.specs.ReadOff.{Head, Marked, Removed, Present, Rank, InsertAt, Walk, Shown, Listed}
-use Rattle.rules.specs.CausalOrder.{Causal, isBefore, isApart}
-use Rattle.rules.specs.Settle.{Row, Table, held, orderIn, heldRow, covered, heads, forkedBy, marks, removed, names, setEntriesFrom, setEntries, list, entries, rank, updatesIn}
+use Rattle.rules.specs.ReadOff.{Head, Removed, Present, Rank, InsertAt, Walk, Shown, Listed}
+use Rattle.rules.specs.CausalOrder.{isBefore}
+use Rattle.rules.specs.Settle.{Row, Table, held, orderIn, heldRow, covered, heads, removed, names, setEntriesFrom, setEntries, list, entries, rank, updatesIn}
 use Rattle.rules.specs.Decides.{Decides}
-use Rattle.rules.specs.CausalLaws.{isBefore→, isApart→, marked→order, order→marked}
+use Rattle.rules.specs.CausalLaws.{isBefore→}
 use Rattle.rules.specs.SetEntryLaws.{entry-key-identifies}
 use Rattle.rules.specs.TableLaws.{not-true→, not-true, setEntriesFrom-∈, ∈-setEntriesFrom, names→, →names, HeldRow, any-held→, →any-held, keep-held→, →keep-held, row-held, row-id, row-rank, held-row, row-order, rank-bound}
 use Rattle.rules.specs.WalkLaws.{Entry, atBeginning, firstRows, siblings-∈, walk-entry, walk-all, walk-distinct}
 use Rattle.rules.specs.ListedLaws.{first-right, walk-right, shown-right, siblings-unique, walk-unique, shown-unique}
-
--- the test of `forkedBy` on a held row
-forked : Table → Row → Row → Bool
-forked T r q = eqb (r .update .author) (q .update .author) && isApart (orderIn T (r .id) (q .id))
 
 module _ (ident : Update → Id) (S : List Update) (T : Table) (distinct : Distinct ident S) (decides : Decides ident S T) where
   -- heads
@@ -62,51 +56,6 @@ module _ (ident : Update → Id) (S : List Update) (T : Table) (distinct : Disti
             (not-true (covered T (f .0)) (λ e. let c = covered→ (f .0) (f .1) e in h .on-top (c .0) (c .1) (subst (λ (x : Update). Ancestor ident S x (c .0)) (f .2) (c .2)))),
         f .2,
       )
-
-  -- marks
-
-  forked→ : {r q : Row} → HeldRow T r → HeldRow T q → forked T r q ≡ true → Marked ident S (r .update .author)
-  unfolding forked
-  forked→ {r} {q} h k e =
-      let t = and-true→ (eqb (r .update .author) (q .update .author)) (isApart (orderIn T (r .id) (q .id))) e in
-      order→marked ident S distinct
-      (record {
-        one = r .update;
-        other = q .update;
-        one-held = row-held distinct decides h;
-        other-held = row-held distinct decides k;
-        one-by = refl;
-        other-by = sym (eqb-true (r .update .author) (q .update .author) (t .0));
-        are-apart = row-order distinct decides h k .right Apart (isApart→ (orderIn T (r .id) (q .id)) (t .1));
-      })
-
-  →forked : {r q : Row} → HeldRow T r → HeldRow T q → r .update .author ≡ q .update .author → Causal ident S Apart (r .update) (q .update) → forked T r q ≡ true
-  unfolding forked isApart
-  →forked {r} {q} h k by c =
-      and-true (eqb (r .update .author) (q .update .author)) (isApart (orderIn T (r .id) (q .id))) (eq-eqb (r .update .author) (q .update .author) by)
-      (ap isApart (row-order distinct decides h k .all Apart c))
-
-  pub mark-right : (a : ℕ) → a ∈ marks T → Marked ident S a
-  unfolding marks forkedBy forked
-  mark-right a m =
-      let p : Row → Bool = λ (r : Row). any (forkedBy T r) T in
-      let k = map-∈ (λ (r : Row). r .update .author) (keep (λ (r : Row). heldRow r && p r) T) (sort-∈ (λ (a : ℕ). a ∷ []) (map (λ (r : Row). r .update .author) (keep (λ (r : Row). heldRow r && p r) T)) m) in
-      let f = keep-held→ T p (k .1) in
-      let g = any-held→ T (forked T (k .0)) (f .1) in
-      subst (Marked ident S) (k .2) (forked→ (f .0) (g .1) (g .2))
-
-  pub mark-all : (a : ℕ) → Marked ident S a → a ∈ marks T
-  unfolding marks forkedBy forked
-  mark-all a h =
-      let m = marked→order ident S h in
-      let f = held-row distinct decides (m .one-held) in
-      let g = held-row distinct decides (m .other-held) in
-      let by : f .0 .update .author ≡ a = ap (λ (u : Update). u .author) (f .2) ∙ m .one-by in
-      let by′ : g .0 .update .author ≡ a = ap (λ (u : Update). u .author) (g .2) ∙ m .other-by in
-      let e : forked T (f .0) (g .0) ≡ true =
-      →forked (f .1) (g .1) (by ∙ sym by′) (subst₂ (Causal ident S Apart) (sym (f .2)) (sym (g .2)) (m .are-apart)) in
-      ∈-sort (λ (a : ℕ). a ∷ []) (λ x y m n e. head-eq-of-cons-eq e)
-      (∈-cast (sym by) (∈-map (λ (r : Row). r .update .author) (→keep-held T (λ (r : Row). any (forkedBy T r) T) (f .1) (→any-held T (forked T (f .0)) (g .1) e))))
 
   -- the set
 

@@ -1,4 +1,5 @@
--- Document 01, "Command and report", with the set lines of document 02, E5, and the two forms of E10: the report's text, byte for byte, from a set alone.
+-- Document 01, "Command and report", with the set lines of document 02, E5, the mark lines of E7 and the two forms of E10: the report's text, byte for byte, from a
+-- set alone.
 use Prim.Native.Nat.{ℕ}
 use Prim.Native.String.{String}
 use mathlib.Core.List.{List, [], _∷_, _++_}
@@ -9,12 +10,15 @@ use Rattle.bytes_ascii.specs.Ascii.{ascii, hex, decimal}
 use Rattle.update_format.specs.Update.{Id, Update}
 use Rattle.rules.specs.declared.Form.{Form}
 use Rattle.rules.specs.declared.Form.the-variants.{Full, Short}
+use Rattle.rules.specs.declared.MarkKind.{MarkKind}
+use Rattle.rules.specs.declared.MarkKind.the-variants.{Fork, Fault, Both}
 use Rattle.rules.specs.SetEntry.{SetEntry}
+use Rattle.rules.specs.Mark.{Mark}
 use Rattle.rules.specs.Parts.{Parts}
 use Rattle.rules.specs.Settle.{partsOf}
 
--- "Each line ends in a newline. Held, waiting and void have lines `(ID author)`, heads `(ID)` .. Marks: `(author)` .., base ten. .. list: `(VALUE)`"; an ID is
--- "64 lowercase hexadecimal digits". "Set lines become `(TAG author)`".
+-- "Each line ends in a newline. Held, waiting and void have lines `(ID author)`, heads `(ID)` .. Marks: .. ascending, base ten. .. list: `(VALUE)`"; an ID is "64 lowercase
+-- hexadecimal digits". "Set lines become `(TAG author)`"; "Mark lines become `(author fork)`, `(author fault)` or `(author both)`".
 abbrev pub authorLine : List ℕ → ℕ → List ℕ
 authorLine bs a = ascii "(" ++ (hex bs ++ (ascii " " ++ (decimal a ++ ascii ")\n")))
 
@@ -30,8 +34,13 @@ bytesLine bs = ascii "(" ++ (hex bs ++ ascii ")\n")
 unfoldable pub idLine : (Update → Id) → Update → List ℕ
 idLine ident u = bytesLine (ident u)
 
-unfoldable pub markLine : ℕ → List ℕ
-markLine a = ascii "(" ++ (decimal a ++ ascii ")\n")
+unfoldable pub markWord : MarkKind → List ℕ
+markWord Fork = ascii "fork"
+markWord Fault = ascii "fault"
+markWord Both = ascii "both"
+
+unfoldable pub markLine : Mark → List ℕ
+markLine m = ascii "(" ++ (decimal (m .author) ++ (ascii " " ++ (markWord (m .kind) ++ ascii ")\n")))
 
 -- one part: its word, a line for each element, the closing bracket; then the rest
 unfoldable pub partText : {A : Type 0} → String → (A → List ℕ) → List A → List ℕ → List ℕ
@@ -61,7 +70,7 @@ module _ (parts : Parts) where
   abbrev pub listText : List ℕ → List ℕ
   listText = partText "(list\n" bytesLine (parts .list)
 
--- those that go by standing; and those that are read from the held updates, with the closing bracket
+-- those that go by standing; and marks, set and list, with the closing bracket
 abbrev pub standingsText : (Update → Id) → Parts → List ℕ → List ℕ
 standingsText ident parts rest = heldText ident parts (headsText ident parts (waitingText ident parts (voidText ident parts rest)))
 
@@ -105,9 +114,9 @@ places = 64
 abbrev pub maxReport : ℕ
 maxReport = 12000
 
--- .. and that of the short form: 116 bytes, and 38 for each of 64 updates
+-- .. and that of the short form: 212 bytes, and 38 for each of 64 updates
 abbrev pub maxShortReport : ℕ
-maxShortReport = 2548
+maxShortReport = 2644
 
 abbrev pub longest : Form → ℕ
 longest Full = maxReport

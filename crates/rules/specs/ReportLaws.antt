@@ -1,6 +1,6 @@
 -- The report: it is laid out from the parts that the definitions give; the same members give the same bytes in each form; equal bytes of the full form show the same ids,
--- and equal sets where no two updates share an id; the order of its set entries; that equal bytes of either form show the same set entries, marks and list; the short
--- form from the full one; its length.
+-- and equal sets where no two updates share an id; each marked author has one line; the order of its set entries; that equal bytes of either form show the same set
+-- entries, marks and list; the short form from the full one; its length.
 use mathlib.Core.Path.{_≡_, refl, sym, _∙_, ap, subst}
 use mathlib.Core.Bool.{true}
 use mathlib.Core.Logic.{_⊎_, inl, inr}
@@ -11,7 +11,7 @@ use lib.ListN.{length, length-map}
 use Rattle.bytes_order.specs.Member.{_∈_, SameMembers, keep, concatMap}
 use Rattle.bytes_order.specs.MemberLaws.{∈-cast, ∈-map, map-∈, map-injective, ∈-append-right}
 use Rattle.bytes_order.specs.Distinct.{Distinct}
-use Rattle.bytes_order.specs.DistinctLaws.{distinct-identifies, distinct-same-length, distinct-length}
+use Rattle.bytes_order.specs.DistinctLaws.{distinct-identifies, distinct-same-length, distinct-length, distinct-split}
 use Rattle.bytes_order.specs.Order.{before}
 use Rattle.bytes_order.specs.Sort.{sort}
 use Rattle.bytes_order.specs.Ascending.{Ascending}
@@ -19,22 +19,25 @@ use Rattle.bytes_order.specs.SortLaws.{ascending-head, ascending-tail, same-sor
 use Rattle.update_format.specs.Update.{Id, idLength, tagLength, maxAuthor, Update, Bounded}
 use Rattle.rules.specs.declared.Form.{Form}
 use Rattle.rules.specs.declared.Form.the-variants.{Full, Short}
+use Rattle.rules.specs.declared.MarkKind.{MarkKind}
 use Rattle.rules.specs.Standing.{Held, Void, Waiting}
 use Rattle.rules.specs.SetEntry.{SetEntry, entryKey, entryBefore}
+use Rattle.rules.specs.Mark.{Mark, markKey}
+use Rattle.rules.specs.ReadOff.{MarkedFor}
 use Rattle.rules.specs.Parts.{Parts, ReadFrom}
 use Rattle.rules.specs.Settle.{Table, isInsert, rounds, start, startAll, settledTable, heads, marks, setEntries, walk, entries, list, partsIn, partsOf}
-use Rattle.bytes_ascii.specs.Ascii.{codes, ascii, decimal}
-use Rattle.bytes_ascii.specs.AsciiLaws.{decimal-injective}
-use Rattle.rules.specs.Report.{setLine, partText, opening, reportText, reportOf, fromMarks, places, longest}
+use Rattle.bytes_ascii.specs.Ascii.{codes, ascii}
+use Rattle.rules.specs.Report.{setLine, markLine, partText, opening, reportText, reportOf, fromMarks, places, longest}
 use Rattle.rules.specs.Decides.{Decides}
 use Rattle.rules.specs.LeastSets.{held-stored, void-stored}
 use Rattle.rules.specs.Settling.{settled-decides, covers}
 use Rattle.rules.specs.SetEntryLaws.{entry-order}
 use Rattle.rules.specs.TableLaws.{add-sized}
 use Rattle.rules.specs.ReadOffLaws.{entry-right, entry-once}
-use Rattle.rules.specs.PartsLaws.{read-right, read-unique}
+use Rattle.rules.specs.MarkLaws.{marked-stored}
+use Rattle.rules.specs.PartsLaws.{exactly-once, read-right, read-unique}
 use Rattle.rules.specs.ShortLaws.{short-text}
-use Rattle.rules.specs.TextLaws.{set-line-injective, SameReadOffs, SameShown, text-shows, text-shows-read-offs}
+use Rattle.rules.specs.TextLaws.{set-line-injective, mark-line-injective, SameReadOffs, SameShown, text-shows, text-shows-read-offs}
 use Rattle.rules.specs.ReportLengthLaws.{SizedTable, text-length, short-text-length}
 
 -- the report is laid out from the parts that the definitions give
@@ -82,6 +85,14 @@ report-shows-set ident S S′ d d′ one e =
       back = λ v m. let r = report-shows-ids ident S′ S d′ d (sym e) v m in ∈-cast (sym (one (r .0) v (r .1) m (r .2))) (r .1);
     }
 
+-- Document 02, E7: a marked author has one line, with its word
+pub mark-shown-once : {ident : Update → Id} {S : List Update} {parts : Parts} → ReadFrom ident S parts → (k : MarkKind) (a : ℕ) → MarkedFor ident S k a
+    → (ms ns : List Mark) × (parts .marks ≡ ms ++ (record { author = a; kind = k } ∷ ns)) × ((m : Mark) → m ∈ ms ++ ns → m .author ≡ a → ⊥)
+unfolding markKey
+mark-shown-once reads k a h =
+    let f = distinct-split (exactly-once (reads .marks)) (reads .marks .all (record { author = a; kind = k }) h) in
+    (f .0, f .1, f .2, λ m n e. f .3 m n (ap (λ (b : ℕ). b ∷ []) e))
+
 -- Document 02, E5: the entries of a set of well-formed updates
 
 module _ {ident : Update → Id} {S : List Update} (bounded : (u : Update) → u ∈ S → Bounded u) {parts : Parts} (reads : ReadFrom ident S parts) where
@@ -108,10 +119,10 @@ module _ {ident : Update → Id} {S : List Update} (bounded : (u : Update) → u
       following [] a = ascending-head a f m
       following (x ∷ xs) a = following xs (ascending-tail a)
 
-  mark-author : (a : ℕ) → a ∈ parts .marks → a ≤ maxAuthor
-  mark-author a m =
-      let p = reads .marks .right a m in
-      subst (λ (b : ℕ). b ≤ maxAuthor) (p .one-by) (bounded (p .one) (held-stored ident S (p .one-held)) .author-small)
+  mark-author : (m : Mark) → m ∈ parts .marks → m .author ≤ maxAuthor
+  mark-author m n =
+      let f = marked-stored ident S (m .kind) (m .author) (reads .marks .right m n) in
+      subst (λ (a : ℕ). a ≤ maxAuthor) (f .2) (bounded (f .0) (f .1) .author-small)
 
 -- The lines show what they are of: equal reports, of either form, have the same list, set entries and marks.
 module _ (form : Form) (ident : Update → Id) (S S′ : List Update) (e : reportOf form ident S ≡ reportOf form ident S′) where
@@ -138,12 +149,9 @@ module _ (form : Form) (ident : Update → Id) (S S′ : List Update) (e : repor
 
     pub report-shows-marks : P .marks ≡ P′ .marks
     report-shows-marks =
-        map-injective decimal (P .marks) (P′ .marks)
-        (λ a b m n q.
-        let h : a ≤ maxAuthor = mark-author bounded (read-right ident S d) a m in
-        let k : b ≤ maxAuthor = mark-author bounded′ (read-right ident S′ d′) b n in
-        decimal-injective a b (omega arith) (omega arith) q)
-        (shown .mark-digits)
+        map-injective markLine (P .marks) (P′ .marks)
+        (λ x y m n. mark-line-injective x y (mark-author bounded (read-right ident S d) x m) (mark-author bounded′ (read-right ident S′ d′) y n))
+        (shown .mark-lines)
 
 -- Document 02, E10: the short report is the first line, and what the full one has from its marks to its end
 pub short-from-full : (ident : Update → Id) (S : List Update) → reportOf Short ident S ≡ opening ++ fromMarks (reportOf Full ident S)

@@ -3,7 +3,7 @@ use Prim.Native.Nat.{ℕ, zero, suc, _+_, _*_, _≤_, _<_, zero-le, suc-le-suc}
 use Prim.Native.String.{String}
 use native.Mathlib.Nat.{not-suc-le-zero, le-of-suc-le-suc, le-trans, eq-or-lt-of-le}
 use native.Mathlib.Omega.{arith}
-use mathlib.Core.Path.{_≡_, refl, _∙_, ap, subst}
+use mathlib.Core.Path.{_≡_, refl, sym, _∙_, ap, subst}
 use mathlib.Core.Logic.{⊎-elim}
 use mathlib.Core.List.{List, [], _∷_, _++_, map, List·Memᴰ·head, List·Memᴰ·tail, List·Memᴰ·not-nil}
 use mathlib.Core.Bool.{Bool, true, cond}
@@ -15,21 +15,33 @@ use Rattle.bytes_order.specs.DistinctLaws.{distinct-length, distinct-subset-len
 use Rattle.bytes_order.specs.SortLaws.{sort-∈, sort-length, sort-distinct}
 use Rattle.update_format.specs.Update.{Id, idLength, tagLength, maxAuthor, Operation, Add, Remove, Insert, Delete, BoundedOperation, add, remove, insert, delete, Update, Bounded}
 use Rattle.rules.specs.declared.Form.the-variants.{Full, Short}
+use Rattle.rules.specs.declared.MarkKind.{MarkKind}
+use Rattle.rules.specs.declared.MarkKind.the-variants.{Fork, Fault, Both}
 use Rattle.rules.specs.SetEntry.{SetEntry, entryKey}
-use Rattle.rules.specs.Settle.{Row, Table, Verdict, held, waiting, void, isHeld, isWaiting, isVoid, isInsert, heads, marks, tagsOf, setEntriesFrom, setEntries, entries, valuesOf, list, updatesIn, partsIn}
+use Rattle.rules.specs.Mark.{Mark, markKey}
+use Rattle.rules.specs.Settle.{Row, Table, Verdict, held, waiting, void, isHeld, isWaiting, isVoid, isInsert, heads, marksIn, marks, tagsOf, setEntriesFrom, setEntries, entries, valuesOf, list, updatesIn, partsIn}
 use Rattle.bytes_ascii.specs.Ascii.{codes, ascii, hex, decimal}
 use Rattle.bytes_ascii.specs.AsciiLaws.{hex-length, decimal-length}
 use Rattle.rules.specs.TableLaws.{add-sized, setEntriesFrom-∈}
-use Rattle.rules.specs.Report.{authorLine, updateLine, setLine, bytesLine, idLine, markLine, partText, readOffsText, reportText}
+use Rattle.rules.specs.MarkLaws.{marks-by-author}
+use Rattle.rules.specs.Report.{authorLine, updateLine, setLine, bytesLine, idLine, markWord, markLine, partText, readOffsText, reportText}
 use Rattle.bytes_order.specs.CountLaws.{concatMap-length, keep-concatMap-length}
 
 -- lines
 
-mark-line-length : (a : ℕ) → a ≤ maxAuthor → length (markLine a) ≤ 5
+mark-word-length : (k : MarkKind) → length (markWord k) ≤ 5
+unfolding markWord ascii codes
+mark-word-length Fork = omega arith
+mark-word-length Fault = omega arith
+mark-word-length Both = omega arith
+
+mark-line-length : (m : Mark) → m .author ≤ maxAuthor → length (markLine m) ≤ 11
 unfolding markLine ascii codes
-mark-line-length a h =
-    let d : length (decimal a) ≤ 2 = decimal-length a (omega arith) in
-    let e = length-append (decimal a) (ascii ")\n") in
+mark-line-length m h =
+    let d : length (decimal (m .author)) ≤ 2 = decimal-length (m .author) (omega arith) in
+    let w = mark-word-length (m .kind) in
+    let e = length-append (markWord (m .kind)) (ascii ")\n") in
+    let f = length-append (decimal (m .author)) (ascii " " ++ (markWord (m .kind) ++ ascii ")\n")) in
     omega arith
 
 bytes-line-length : (bs : List ℕ) → length (bytesLine bs) ≡ 3 + 2 * length bs
@@ -159,25 +171,25 @@ module _ (ident : Update → Id) (id-sized : (u : Update) → length (ident u) �
   unfolding heads
   heads-few = keep-length _ T
 
-  mark-small : (a : ℕ) → a ∈ marks T → a ≤ maxAuthor
-  unfolding marks
-  mark-small a m =
-      let r = map-∈ (λ (r : Row). r .update .author) _ (sort-∈ (λ (b : ℕ). b ∷ []) _ m) in
-      subst (λ (b : ℕ). b ≤ maxAuthor) (r .2) (sized .bounded (r .0) (keep-∈ _ T (r .1) .0) .author-small)
+  mark-small : (m : Mark) → m ∈ marks T → m .author ≤ maxAuthor
+  unfolding marks marksIn
+  mark-small m n =
+      let r = concatMap-∈ (λ (r : Row). marksIn T (r .update .author)) T (sort-∈ markKey _ n) in
+      subst (λ (a : ℕ). a ≤ maxAuthor) (sym (marks-by-author (r .0 .update .author) _ _ (r .2))) (sized .bounded (r .0) (r .1) .author-small)
 
   -- no author is marked twice
   marks-few : length (marks T) ≤ suc maxAuthor
-  unfolding marks
+  unfolding marks markKey
   marks-few =
       subst (λ (n : ℕ). length (marks T) ≤ n) (below-length (suc maxAuthor))
-      (distinct-length distinct (below (suc maxAuthor)) (λ a m. ∈-below a (suc maxAuthor) (suc-le-suc (mark-small a m))))
+      (distinct-length distinct (below (suc maxAuthor)) (λ m n. ∈-below (m .author) (suc maxAuthor) (suc-le-suc (mark-small m n))))
     where
-      distinct : Distinct (λ (a : ℕ). a ∷ []) (marks T)
-      distinct = sort-distinct (λ (a : ℕ). a ∷ []) _
+      distinct : Distinct markKey (marks T)
+      distinct = sort-distinct markKey _
 
-  marks-length : length (concatMap markLine (marks T)) ≤ 80
+  marks-length : length (concatMap markLine (marks T)) ≤ 176
   marks-length =
-      let h : length (concatMap markLine (marks T)) ≤ 5 * length (marks T) = concatMap-length markLine 5 (marks T) (λ a m. mark-line-length a (mark-small a m)) in
+      let h : length (concatMap markLine (marks T)) ≤ 11 * length (marks T) = concatMap-length markLine 11 (marks T) (λ m n. mark-line-length m (mark-small m n)) in
       let k : length (marks T) ≤ suc maxAuthor = marks-few in
       omega arith
 
@@ -218,7 +230,7 @@ module _ (ident : Update → Id) (id-sized : (u : Update) → length (ident u) �
       omega arith
 
   -- the parts of both forms
-  read-offs-at-most : AtMost (readOffsText (partsIn T)) (106 + 38 * length (setEntries T) + 35 * length (list T))
+  read-offs-at-most : AtMost (readOffsText (partsIn T)) (202 + 38 * length (setEntries T) + 35 * length (list T))
   unfolding partsIn ascii codes
   read-offs-at-most =
       let l = part-at-most "(list\n" bytesLine (list T) refl list-length end in
@@ -239,7 +251,7 @@ module _ (ident : Update → Id) (id-sized : (u : Update) → length (ident u) �
       omega arith
 
   -- all of the full form: of a row at most 70 bytes by its verdict, 67 as a head and 38 as an Add or 35 as an Insert
-  pub text-length : length (reportText Full ident (partsIn T)) ≤ 152 + 175 * length T
+  pub text-length : length (reportText Full ident (partsIn T)) ≤ 248 + 175 * length T
   unfolding reportText partsIn ascii codes
   text-length =
       let v = part-at-most "(void\n" (updateLine ident) (partsIn T .void) refl (updates-length (λ r. isVoid (r .verdict))) read-offs-at-most in
@@ -253,7 +265,7 @@ module _ (ident : Update → Id) (id-sized : (u : Update) → length (ident u) �
       omega arith
 
   -- .. and of the short one
-  pub short-text-length : length (reportText Short ident (partsIn T)) ≤ 116 + 38 * length T
+  pub short-text-length : length (reportText Short ident (partsIn T)) ≤ 212 + 38 * length T
   unfolding reportText ascii codes
   short-text-length =
       let all = read-offs-at-most .at-most in

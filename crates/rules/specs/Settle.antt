@@ -13,6 +13,7 @@ use Rattle.rules.specs.declared.CausalOrder.{CausalOrder}
 use Rattle.rules.specs.Standing.{beginning}
 use Rattle.rules.specs.CausalOrder.{orderBy, isBefore, isApart, beforeOrAfter}
 use Rattle.rules.specs.SetEntry.{SetEntry, entryKey}
+use Rattle.rules.specs.Mark.{Mark, markKey, marksBy}
 use Rattle.rules.specs.Parts.{Parts}
 
 pub data Verdict : Type 0 where
@@ -161,10 +162,24 @@ heads T = keep (λ (r : Row). heldRow r && not (covered T r)) T
 unfoldable pub forkedBy : Table → Row → Row → Bool
 forkedBy T r q = heldRow q && (eqb (r .update .author) (q .update .author) && isApart (orderIn T (r .id) (q .id)))
 
-unfoldable pub marks : Table → List ℕ
-marks T =
-    sort (λ (a : ℕ). a ∷ [])
-    (map (λ (r : Row). r .update .author) (keep (λ (r : Row). heldRow r && any (forkedBy T r) T) T))
+-- r's update is one of two that are a fork
+unfoldable pub forkedRow : Table → Row → Bool
+forkedRow T r = heldRow r && any (forkedBy T r) T
+
+-- r's update is void while all its predecessors are held
+unfoldable pub faultRow : Table → Row → Bool
+faultRow T r = isVoid (r .verdict) && all (heldIn T) (r .update .preds)
+
+-- some row of the author passes a test
+unfoldable pub someRowBy : (Row → Bool) → Table → ℕ → Bool
+someRowBy p T a = any (λ (r : Row). eqb (r .update .author) a && p r) T
+
+-- for what the author is marked
+unfoldable pub marksIn : Table → ℕ → List Mark
+marksIn T a = marksBy a (someRowBy (forkedRow T) T a) (someRowBy (faultRow T) T a)
+
+unfoldable pub marks : Table → List Mark
+marks T = sort markKey (concatMap (λ (r : Row). marksIn T (r .update .author)) T)
 
 unfoldable pub tagsOf : Operation → List (List ℕ)
 tagsOf (Add t) = t ∷ []

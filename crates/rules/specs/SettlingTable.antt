@@ -15,7 +15,7 @@ use Rattle.bytes_order.specs.DistinctLaws.{distinct-eq, distinct-keep, distinct
 use Rattle.update_format.specs.Update.{Id, Operation, Add, Remove, Insert, Delete, Update}
 use Rattle.rules.specs.declared.CausalOrder.{CausalOrder}
 use Rattle.rules.specs.declared.CausalOrder.the-variants.{Before, After}
-use Rattle.rules.specs.Standing.{beginning, Ancestor, InsertAncestor, Valid, Known, Antichain, Fine, Held, Void}
+use Rattle.rules.specs.Standing.{beginning, Ancestor, InsertAncestor, Valid, Known, Antichain, Fine, Held, PredsHeld, Void}
 use Rattle.rules.specs.CausalOrder.{OrderExactly, beforeOrAfter}
 use Rattle.rules.specs.Settle.{Verdict, held, waiting, void, Row, Table, isHeld, isWaiting, isVoid, isAdd, isInsert, heldIn, voidIn}
 use Rattle.rules.specs.Settle.{addIn, insertIn, aboveIn, orderIn, ancestorsOf, antichain, validOp, fineBy, ruled, judgeFine, judgeKnown, judgeBy, judgeFrom, judge, round}
@@ -116,7 +116,7 @@ in-void : (T : Table) (i : Id) → voidIn T i ≡ true → (r : Row) × (r ∈ T
 unfolding voidIn
 in-void T i e = let r = row-with (λ r. isVoid (r .verdict)) T i e in (r .0, r .1, r .2, isVoid→ (r .0 .verdict) (r .3))
 
-all-held : (T : Table) (u : Update) → all (heldIn T) (u .preds) ≡ true → PredecessorsHeld T u
+pub all-held : (T : Table) (u : Update) → all (heldIn T) (u .preds) ≡ true → PredecessorsHeld T u
 unfolding heldIn
 all-held T u e =
     record {
@@ -238,7 +238,7 @@ module _ {ident : Update → Id} {S : List Update} {T : Table} (sound : SoundTab
     pred-row : {v : Update} → v ∈ S → ident v ∈ u .preds → HeldRowOf v
     pred-row {v} k p = let r = ready .held-row (ident v) p in held-row-of k (r .1) (r .2) (r .3)
 
-    pub preds-held : (v : Update) → v ∈ S → ident v ∈ u .preds → Held ident S v
+    pub preds-held : PredsHeld ident S u
     preds-held v k p = pred-row k p .is-held
 
     -- ancestorsOf: the rows of u's ancestors

@@ -7,8 +7,10 @@
 --   only direct successors settled: 8 (e stands three steps above b, and has the smallest id);
 --   a void update forgotten: 8 and 9 (e would wait);
 --   no antichain test: 7, 8 and 9 (d would be held);
---   marks from waiting updates: the further ledger `waits`; marks from void ones: 7 (d is by author 1).
+--   forks from waiting updates: the further ledger `waits`; forks from void ones: 7 (author 1, marked for its fault d, would be marked for both).
 -- Document 02, E5, gives each set entry its author. The other Add of 12 is by the same author; the further ledgers have it by another, and both.
+-- Document 02, E7, marks faults: d of 7, 8 and 9, and r of 10. In 8 and 9 e, by author 3, is void through d and marks nobody. The further ledgers have that with a held
+-- predecessor beside d, an author with a fork and a fault, and one whose Remove will be bad but waits.
 use Prim.Native.Nat.{ℕ}
 use mathlib.Core.Path.{_≡_, refl}
 use mathlib.Core.List.{List, [], _∷_, map, _++_}
@@ -22,11 +24,14 @@ use Rattle.rules.specs.declared.CausalOrder.{CausalOrder}
 use Rattle.rules.specs.declared.CausalOrder.the-variants.{Same, Before, After, Apart}
 use Rattle.rules.specs.declared.Form.the-variants.{Full, Short}
 use Rattle.rules.specs.Standing.{beginning}
+use Rattle.rules.specs.declared.MarkKind.{MarkKind}
+use Rattle.rules.specs.declared.MarkKind.the-variants.{Fork, Fault, Both}
 use Rattle.rules.specs.SetEntry.{SetEntry, entryKey}
+use Rattle.rules.specs.Mark.{Mark, markKey, kindsBy, marksBy}
 use Rattle.rules.specs.Parts.{Parts}
 use Rattle.rules.specs.CausalOrder.{orderBy, isBefore, isApart, beforeOrAfter}
-use Rattle.rules.specs.Settle.{held, Table, isHeld, isWaiting, isVoid, isAdd, isInsert, heldIn, voidIn, addIn, insertIn, aboveIn, orderIn, ancestorsOf, antichain, validOp, fineBy, ruled, judgeFine, judgeKnown, judgeBy, judgeFrom, judge, round, rounds, start, startAll, settledTable, heldRow, covered, heads, forkedBy, marks, names, removed, tagsOf, setEntriesFrom, setEntries, rank, anchored, siblings, under, walk, entries, deletes, deleted, valuesOf, list, partsIn, partsOf, causalOrder}
-use Rattle.rules.specs.Report.{updateLine, setLine, bytesLine, idLine, markLine, partText, reportText, reportOf}
+use Rattle.rules.specs.Settle.{held, Table, isHeld, isWaiting, isVoid, isAdd, isInsert, heldIn, voidIn, addIn, insertIn, aboveIn, orderIn, ancestorsOf, antichain, validOp, fineBy, ruled, judgeFine, judgeKnown, judgeBy, judgeFrom, judge, round, rounds, start, startAll, settledTable, heldRow, covered, heads, forkedBy, forkedRow, faultRow, someRowBy, marksIn, marks, names, removed, tagsOf, setEntriesFrom, setEntries, rank, anchored, siblings, under, walk, entries, deletes, deleted, valuesOf, list, partsIn, partsOf, causalOrder}
+use Rattle.rules.specs.Report.{updateLine, setLine, bytesLine, idLine, markWord, markLine, partText, reportText, reportOf}
 
 -- an update with its stand-in id
 pub record Named : Type 0 where
@@ -48,8 +53,12 @@ namedUpdates ns = map (λ (n : Named). n .update) ns
 unfoldable pub added : List ℕ → ℕ → SetEntry
 added t a = record { tag = t; author = a }
 
--- the parts that document 01 gives, and document 02 for the set
-unfoldable pub expect : List Named → List Named → List Named → List Named → List ℕ → List SetEntry → List (List ℕ) → Parts
+-- the mark of an author
+unfoldable pub marked : ℕ → MarkKind → Mark
+marked a k = record { author = a; kind = k }
+
+-- the parts that document 01 gives, and document 02 for marks and set
+unfoldable pub expect : List Named → List Named → List Named → List Named → List Mark → List SetEntry → List (List ℕ) → Parts
 expect h t w v m s l =
     record { held = namedUpdates h; heads = namedUpdates t; waiting = namedUpdates w; void = namedUpdates v; marks = m; set = s; list = l }
 
@@ -69,6 +78,9 @@ abbrev pub #e : List ℕ
 abbrev pub #e′ : List ℕ
 #e′ = 6 ∷ []
 
+abbrev pub #e″ : List ℕ
+#e″ = 7 ∷ []
+
 abbrev pub #a′ : List ℕ
 #a′ = 15 ∷ []
 
@@ -77,6 +89,9 @@ abbrev pub #r : List ℕ
 
 abbrev pub #r′ : List ℕ
 #r′ = 26 ∷ []
+
+abbrev pub #r″ : List ℕ
+#r″ = 27 ∷ []
 
 abbrev pub #c : List ℕ
 #c = 12 ∷ []
@@ -195,6 +210,10 @@ e = by #e 3 (#d ∷ []) (Add t″)
 unfoldable pub e′ : Named
 e′ = by #e′ 3 (#d ∷ #none ∷ []) (Add t″)
 
+-- after d and a
+unfoldable pub e″ : Named
+e″ = by #e″ 3 (#a ∷ #d ∷ []) (Add t″)
+
 -- a root Remove of t naming a
 unfoldable pub r : Named
 r = by #r 2 [] (Remove t (#a ∷ []))
@@ -202,6 +221,10 @@ r = by #r 2 [] (Remove t (#a ∷ []))
 -- the same after a
 unfoldable pub r′ : Named
 r′ = by #r′ 2 (#a ∷ []) (Remove t (#a ∷ []))
+
+-- a Remove of t naming a, after a missing id
+unfoldable pub r″ : Named
+r″ = by #r″ 2 (#none ∷ []) (Remove t (#a ∷ []))
 
 -- another Add of t by the same author
 unfoldable pub c : Named
@@ -310,18 +333,18 @@ sixteen =
     ∷ record { updates = (b ∷ []); gives = expect [] [] (b ∷ []) [] [] [] [] }
     -- 4. b, then a: both held, head b.
     ∷ record { updates = (b ∷ a ∷ []); gives = expect (b ∷ a ∷ []) (b ∷ []) [] [] [] (added t 1 ∷ added t′ 1 ∷ []) [] }
-    -- 5. a and another root by 1: mark 1.
-    ∷ record { updates = (a ∷ a′ ∷ []); gives = expect (a′ ∷ a ∷ []) (a′ ∷ a ∷ []) [] [] (1 ∷ []) (added t 1 ∷ added t′ 1 ∷ []) [] }
+    -- 5. a and another root by 1: mark 1. (A fork.)
+    ∷ record { updates = (a ∷ a′ ∷ []); gives = expect (a′ ∷ a ∷ []) (a′ ∷ a ∷ []) [] [] (marked 1 Fork ∷ []) (added t 1 ∷ added t′ 1 ∷ []) [] }
     -- 6. a, b: no mark.
     ∷ record { updates = (a ∷ b ∷ []); gives = expect (b ∷ a ∷ []) (b ∷ []) [] [] [] (added t 1 ∷ added t′ 1 ∷ []) [] }
-    -- 7. a, b, then d after {a, b}: d void.
-    ∷ record { updates = (a ∷ b ∷ d ∷ []); gives = expect (b ∷ a ∷ []) (b ∷ []) [] (d ∷ []) [] (added t 1 ∷ added t′ 1 ∷ []) [] }
-    -- 8. e after d: void.
-    ∷ record { updates = (a ∷ b ∷ d ∷ e ∷ []); gives = expect (b ∷ a ∷ []) (b ∷ []) [] (e ∷ d ∷ []) [] (added t 1 ∷ added t′ 1 ∷ []) [] }
-    -- 9. e after d and a missing id: void.
-    ∷ record { updates = (a ∷ b ∷ d ∷ e′ ∷ []); gives = expect (b ∷ a ∷ []) (b ∷ []) [] (e′ ∷ d ∷ []) [] (added t 1 ∷ added t′ 1 ∷ []) [] }
-    -- 10. a, and a root Remove of t naming a: void.
-    ∷ record { updates = (a ∷ r ∷ []); gives = expect (a ∷ []) (a ∷ []) [] (r ∷ []) [] (added t 1 ∷ []) [] }
+    -- 7. a, b, then d after {a, b}: d void. (A fault of author 1.)
+    ∷ record { updates = (a ∷ b ∷ d ∷ []); gives = expect (b ∷ a ∷ []) (b ∷ []) [] (d ∷ []) (marked 1 Fault ∷ []) (added t 1 ∷ added t′ 1 ∷ []) [] }
+    -- 8. e after d: void. (No fault: its predecessor is void.)
+    ∷ record { updates = (a ∷ b ∷ d ∷ e ∷ []); gives = expect (b ∷ a ∷ []) (b ∷ []) [] (e ∷ d ∷ []) (marked 1 Fault ∷ []) (added t 1 ∷ added t′ 1 ∷ []) [] }
+    -- 9. e after d and a missing id: void. (No fault.)
+    ∷ record { updates = (a ∷ b ∷ d ∷ e′ ∷ []); gives = expect (b ∷ a ∷ []) (b ∷ []) [] (e′ ∷ d ∷ []) (marked 1 Fault ∷ []) (added t 1 ∷ added t′ 1 ∷ []) [] }
+    -- 10. a, and a root Remove of t naming a: void. (A fault of author 2.)
+    ∷ record { updates = (a ∷ r ∷ []); gives = expect (a ∷ []) (a ∷ []) [] (r ∷ []) (marked 2 Fault ∷ []) (added t 1 ∷ []) [] }
     -- 11. The same after a: set empty.
     ∷ record { updates = (a ∷ r′ ∷ []); gives = expect (a ∷ r′ ∷ []) (r′ ∷ []) [] [] [] [] [] }
     -- 12. 11 with another Add of t: t present.
@@ -349,10 +372,10 @@ further =
     ∷ record { updates = (p ∷ x ∷ i′ ∷ x′ ∷ []); gives = expect (p ∷ x ∷ i′ ∷ x′ ∷ []) (i′ ∷ x′ ∷ []) [] [] [] [] (R ∷ []) }
     -- all that hangs under an entry comes before its next sibling
     ∷ record { updates = (p ∷ k ∷ q′ ∷ i ∷ []); gives = expect (p ∷ q′ ∷ i ∷ k ∷ []) (q′ ∷ i ∷ k ∷ []) [] [] [] [] (Y ∷ Q ∷ P ∷ R ∷ []) }
-    -- a Remove that names an Add of another tag is void
-    ∷ record { updates = (a ∷ v ∷ []); gives = expect (a ∷ []) (a ∷ []) [] (v ∷ []) [] (added t 1 ∷ []) [] }
-    -- an Insert whose anchor is no ancestor is void
-    ∷ record { updates = (a ∷ p ∷ u ∷ []); gives = expect (a ∷ p ∷ []) (a ∷ p ∷ []) [] (u ∷ []) (1 ∷ []) (added t 1 ∷ []) (P ∷ []) }
+    -- a Remove that names an Add of another tag is void, and a fault
+    ∷ record { updates = (a ∷ v ∷ []); gives = expect (a ∷ []) (a ∷ []) [] (v ∷ []) (marked 2 Fault ∷ []) (added t 1 ∷ []) [] }
+    -- an Insert whose anchor is no ancestor is void, and a fault; its author comes after that of a fork
+    ∷ record { updates = (a ∷ p ∷ u ∷ []); gives = expect (a ∷ p ∷ []) (a ∷ p ∷ []) [] (u ∷ []) (marked 1 Fork ∷ marked 2 Fault ∷ []) (added t 1 ∷ []) (P ∷ []) }
     -- 12 with the other Add by another author: its author's entry, not that of the Add which was removed or of the Remove
     ∷ record { updates = (a ∷ r′ ∷ c′ ∷ []); gives = expect (c′ ∷ a ∷ r′ ∷ []) (c′ ∷ r′ ∷ []) [] [] [] (added t 3 ∷ []) [] }
     -- 12 with both: the tag once for each author
@@ -365,13 +388,21 @@ further =
     ∷ record { updates = (c′ ∷ n ∷ n′ ∷ o ∷ []); gives = expect (c′ ∷ n ∷ n′ ∷ o ∷ []) (c′ ∷ o ∷ []) [] [] [] (added t 3 ∷ []) [] }
     -- and one that names one author's Add leaves the other's
     ∷ record { updates = (n ∷ n′ ∷ o′ ∷ []); gives = expect (n ∷ n′ ∷ o′ ∷ []) (n ∷ o′ ∷ []) [] [] [] (added t 10 ∷ []) [] }
+    -- 8 with e after a too: one predecessor is held and one void, and e is no fault
+    ∷ record { updates = (a ∷ b ∷ d ∷ e″ ∷ []); gives = expect (b ∷ a ∷ []) (b ∷ []) [] (e″ ∷ d ∷ []) (marked 1 Fault ∷ []) (added t 1 ∷ added t′ 1 ∷ []) [] }
+    -- 5 and 7 together: author 1 has a fork and a fault, and one mark
+    ∷ record { updates = (a ∷ a′ ∷ b ∷ d ∷ []); gives = expect (b ∷ a′ ∷ a ∷ []) (b ∷ a′ ∷ []) [] (d ∷ []) (marked 1 Both ∷ []) (added t 1 ∷ added t′ 1 ∷ []) [] }
+    -- 10 with the Remove after a missing id: it waits, and marks nobody
+    ∷ record { updates = (a ∷ r″ ∷ []); gives = expect (a ∷ []) (a ∷ []) (r″ ∷ []) [] [] (added t 1 ∷ []) [] }
+    -- an author with a fork and a fault, and one with two faults: ascending by author, each once
+    ∷ record { updates = (a ∷ r ∷ v ∷ b ∷ a′ ∷ d ∷ []); gives = expect (b ∷ a′ ∷ a ∷ []) (b ∷ a′ ∷ []) [] (r ∷ d ∷ v ∷ []) (marked 1 Both ∷ marked 2 Fault ∷ []) (added t 1 ∷ added t′ 1 ∷ []) [] }
     ∷ []
 
 abbrev pub smallLedgers : List Small
 smallLedgers = sixteen ++ further
 
 pub computed : map (λ (c : Small). partsOf (identOf c) (smallSet c)) smallLedgers ≡ map (λ (c : Small). c .gives) smallLedgers
-unfolding sixteen further expect added by nameIn encode encodeOperation same before member keep any all concatMap insert sort isHeld isWaiting isVoid isAdd isInsert heldIn voidIn addIn insertIn aboveIn orderIn orderBy isBefore isApart beforeOrAfter ancestorsOf antichain validOp fineBy ruled judgeFine judgeKnown judgeBy judgeFrom judge round rounds start startAll settledTable heldRow covered heads forkedBy marks names removed tagsOf setEntriesFrom setEntries entryKey rank anchored siblings under walk entries deletes deleted valuesOf list partsIn partsOf a b a′ d e e′ r r′ c c′ n n′ o o′ p q q′ i x m f g w z y i′ x′ v u k
+unfolding sixteen further expect added marked by nameIn encode encodeOperation same before member keep any all concatMap insert sort isHeld isWaiting isVoid isAdd isInsert heldIn voidIn addIn insertIn aboveIn orderIn orderBy isBefore isApart beforeOrAfter ancestorsOf antichain validOp fineBy ruled judgeFine judgeKnown judgeBy judgeFrom judge round rounds start startAll settledTable heldRow covered heads forkedBy forkedRow faultRow someRowBy kindsBy marksBy markKey marksIn marks names removed tagsOf setEntriesFrom setEntries entryKey rank anchored siblings under walk entries deletes deleted valuesOf list partsIn partsOf a b a′ d e e′ e″ r r′ r″ c c′ n n′ o o′ p q q′ i x m f g w z y i′ x′ v u k
 computed = refl
 
 -- no id stands twice
@@ -380,7 +411,7 @@ apart [] = true
 apart (i ∷ is) = not (member i is) && apart is
 
 pub ids-apart : all (λ (c : Small). apart (map (identOf c) (smallSet c))) smallLedgers ≡ true
-unfolding sixteen further by nameIn encode encodeOperation same member all concatMap apart a b a′ d e e′ r r′ c c′ n n′ o o′ p q q′ i x m f g w z y i′ x′ v u k
+unfolding sixteen further by nameIn encode encodeOperation same member all concatMap apart a b a′ d e e′ e″ r r′ r″ c c′ n n′ o o′ p q q′ i x m f g w z y i′ x′ v u k
 ids-apart = refl
 
 -- Document 02, E4: the four answers, of the set a, b after a, and another root
@@ -421,5 +452,5 @@ addShort = ascii "(ledger 1\n(marks\n)\n(set\n(07 1)\n)\n(list\n)\n)\n"
 -- .. but the full one has the second Add's id
 pub forms-computed : (reportOf Short addIdent oneAdd ≡ addShort) × (reportOf Short addIdent twoAdds ≡ addShort)
     × (same (reportOf Full addIdent oneAdd) (reportOf Full addIdent twoAdds) ≡ false)
-unfolding by nameIn encode encodeOperation same before member keep any all concatMap insert sort isHeld isWaiting isVoid isAdd isInsert heldIn voidIn addIn insertIn aboveIn orderIn orderBy isBefore isApart beforeOrAfter ancestorsOf antichain validOp fineBy ruled judgeFine judgeKnown judgeBy judgeFrom judge round rounds start startAll settledTable heldRow covered heads forkedBy marks names removed tagsOf setEntriesFrom setEntries entryKey rank anchored siblings under walk entries deletes deleted valuesOf list partsIn partsOf a c codes ascii digit hexByte hex decimalIn decimal updateLine idLine setLine bytesLine markLine partText reportText reportOf
+unfolding by nameIn encode encodeOperation same before member keep any all concatMap insert sort isHeld isWaiting isVoid isAdd isInsert heldIn voidIn addIn insertIn aboveIn orderIn orderBy isBefore isApart beforeOrAfter ancestorsOf antichain validOp fineBy ruled judgeFine judgeKnown judgeBy judgeFrom judge round rounds start startAll settledTable heldRow covered heads forkedBy forkedRow faultRow someRowBy kindsBy marksBy markKey marksIn marks names removed tagsOf setEntriesFrom setEntries entryKey rank anchored siblings under walk entries deletes deleted valuesOf list partsIn partsOf a c codes ascii digit hexByte hex decimalIn decimal updateLine idLine setLine bytesLine markWord markLine partText reportText reportOf
 forms-computed = (refl, refl, refl)

@@ -59,10 +59,14 @@ module _ (ident : Update → Id) (S : List Update) where
   pub data Held : Update → Type 0 where
     held : {u : Update} → u ∈ S → Known u → ((v : Update) → v ∈ S → ident v ∈ u .preds → Held v) → Fine u → Held u
 
+  -- every predecessor of u that is in the set is held
+  abbrev pub PredsHeld : Update → Type 0
+  PredsHeld u = (v : Update) → v ∈ S → ident v ∈ u .preds → Held v
+
   -- "Void: some predecessor is void (others may be missing); or all are held and the antichain rule or the operation fails."
   pub data Void : Update → Type 0 where
     after : {u v : Update} → u ∈ S → v ∈ S → ident v ∈ u .preds → Void v → Void u
-    broken : {u : Update} → u ∈ S → Known u → ((v : Update) → v ∈ S → ident v ∈ u .preds → Held v) → (Fine u → ⊥) → Void u
+    broken : {u : Update} → u ∈ S → Known u → PredsHeld u → (Fine u → ⊥) → Void u
 
   -- "Waiting: every other update of the set."
   pub record Waiting (u : Update) : Type 0 where

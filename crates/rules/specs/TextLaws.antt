@@ -8,11 +8,34 @@ use Rattle.bytes_order.specs.Member.{concatMap}
 use Rattle.update_format.specs.Update.{Id, maxAuthor, Update}
 use Rattle.rules.specs.declared.Form.{Form}
 use Rattle.rules.specs.declared.Form.the-variants.{Full, Short}
+use Rattle.rules.specs.declared.MarkKind.{MarkKind}
+use Rattle.rules.specs.declared.MarkKind.the-variants.{Fork, Fault, Both}
 use Rattle.rules.specs.SetEntry.{SetEntry}
+use Rattle.rules.specs.Mark.{Mark}
 use Rattle.rules.specs.Parts.{Parts}
 use Rattle.bytes_ascii.specs.Ascii.{codes, ascii, hex, decimal}
-use Rattle.bytes_ascii.specs.AsciiLaws.{hex-injective, hex-digits, decimal-digits, decimal-injective, cut}
-use Rattle.rules.specs.Report.{authorLine, updateLine, setLine, bytesLine, idLine, markLine, partText, readOffsText, opening, reportText}
+use Rattle.bytes_ascii.specs.AsciiLaws.{Digits, digits-nil, digits-cons, hex-injective, hex-digits, decimal-digits, decimal-injective, cut}
+use Rattle.rules.specs.Report.{authorLine, updateLine, setLine, bytesLine, idLine, markWord, markLine, partText, readOffsText, opening, reportText}
+
+-- the words of the marks: letters, and one for each kind
+
+word-letters : (k : MarkKind) → Digits (markWord k)
+unfolding markWord ascii codes
+word-letters Fork = digits-cons (omega arith) (digits-cons (omega arith) (digits-cons (omega arith) (digits-cons (omega arith) digits-nil)))
+word-letters Fault = digits-cons (omega arith) (digits-cons (omega arith) (digits-cons (omega arith) (digits-cons (omega arith) (digits-cons (omega arith) digits-nil))))
+word-letters Both = digits-cons (omega arith) (digits-cons (omega arith) (digits-cons (omega arith) (digits-cons (omega arith) digits-nil)))
+
+word-injective : (k k′ : MarkKind) → markWord k ≡ markWord k′ → k ≡ k′
+unfolding markWord ascii codes
+word-injective Fork Fork e = refl
+word-injective Fork Fault e = absurd (let q : _≡_ {A = ℕ} 111 97 = head-eq-of-cons-eq (tail-eq-of-cons-eq e) in omega arith)
+word-injective Fork Both e = absurd (let q : _≡_ {A = ℕ} 102 98 = head-eq-of-cons-eq e in omega arith)
+word-injective Fault Fork e = absurd (let q : _≡_ {A = ℕ} 97 111 = head-eq-of-cons-eq (tail-eq-of-cons-eq e) in omega arith)
+word-injective Fault Fault e = refl
+word-injective Fault Both e = absurd (let q : _≡_ {A = ℕ} 102 98 = head-eq-of-cons-eq e in omega arith)
+word-injective Both Fork e = absurd (let q : _≡_ {A = ℕ} 98 102 = head-eq-of-cons-eq e in omega arith)
+word-injective Both Fault e = absurd (let q : _≡_ {A = ℕ} 98 102 = head-eq-of-cons-eq e in omega arith)
+word-injective Both Both e = refl
 
 -- Lines that can be read back: each begins with a bracket, and shows its key, wherever it stands.
 pub record Readable {A : Type 0} (line key : A → List ℕ) : Type 0 where
@@ -110,22 +133,44 @@ id-readable : (ident : Update → Id) → Readable (idLine ident) ident
 unfolding idLine
 id-readable ident = record { opens = λ u. bytes-readable .opens (ident u); reads = λ x y. bytes-readable .reads (ident x) (ident y) }
 
-mark-readable : Readable markLine decimal
+-- lines of marks: they show the author's digits and the word
+
+mark-text : (m : Mark) (rest : List ℕ) → markLine m ++ rest ≡ 40 ∷ (decimal (m .author) ++ 32 ∷ (markWord (m .kind) ++ 41 ∷ 10 ∷ rest))
+unfolding markLine ascii codes
+mark-text m rest =
+    ap {B = List ℕ} (λ l. 40 ∷ l)
+    (append-assoc (decimal (m .author)) (32 ∷ (markWord (m .kind) ++ 41 ∷ 10 ∷ [])) rest
+    ∙ ap {B = List ℕ} (λ l. decimal (m .author) ++ 32 ∷ l) (append-assoc (markWord (m .kind)) (41 ∷ 10 ∷ []) rest))
+
+mark-line-reads : (m n : Mark) (r r′ : List ℕ) → markLine m ++ r ≡ markLine n ++ r′
+    → (decimal (m .author) ≡ decimal (n .author)) × (markWord (m .kind) ≡ markWord (n .kind)) × (r ≡ r′)
+mark-line-reads m n r r′ e =
+    let q = tail-eq-of-cons-eq (sym (mark-text m r) ∙ e ∙ mark-text n r′) in
+    let h = cut (decimal (m .author)) (decimal (n .author)) (decimal-digits (m .author)) (decimal-digits (n .author)) (omega arith) (omega arith) q in
+    let k = cut (markWord (m .kind)) (markWord (n .kind)) (word-letters (m .kind)) (word-letters (n .kind)) (omega arith) (omega arith) (h .1) in
+    (h .0, k .0, tail-eq-of-cons-eq (k .1))
+
+-- a line of the marks shows its mark
+pub mark-line-injective : (m n : Mark) → m .author ≤ maxAuthor → n .author ≤ maxAuthor → markLine m ≡ markLine n → m ≡ n
+mark-line-injective m n h g p =
+    let q = mark-line-reads m n [] [] (ap (λ (l : List ℕ). l ++ []) p) in
+    let a = decimal-injective (m .author) (n .author) (omega arith) (omega arith) (q .0) in
+    let k = word-injective (m .kind) (n .kind) (q .1) in
+    λ i. record { author = a i; kind = k i }
+
+mark-readable : Readable markLine markLine
 unfolding markLine ascii codes
 mark-readable =
     record {
-      opens = λ a. (decimal a ++ ascii ")\n", refl);
-      reads = λ a b r r′ e. reads a b r r′ (sym (append-assoc (decimal a) (41 ∷ 10 ∷ []) r) ∙ tail-eq-of-cons-eq e ∙ append-assoc (decimal b) (41 ∷ 10 ∷ []) r′);
+      opens = λ m. (decimal (m .author) ++ (ascii " " ++ (markWord (m .kind) ++ ascii ")\n")), refl);
+      reads = λ m n r r′ p.
+          let h = mark-line-reads m n r r′ p in
+          (λ i. ascii "(" ++ (h .0 i ++ (ascii " " ++ (h .1 i ++ ascii ")\n"))), h .2);
     }
-  where
-    reads : (a b : ℕ) (r r′ : List ℕ) → decimal a ++ 41 ∷ 10 ∷ r ≡ decimal b ++ 41 ∷ 10 ∷ r′ → (decimal a ≡ decimal b) × (r ≡ r′)
-    reads a b r r′ e =
-        let h = cut (decimal a) (decimal b) (decimal-digits a) (decimal-digits b) (omega arith) (omega arith) e in
-        (h .0, tail-eq-of-cons-eq (h .1))
 
--- What the parts of both forms show: the digits of the marks, the lines of the set, and the list.
+-- What the parts of both forms show: the lines of the marks and of the set, and the list.
 pub record SameReadOffs (P Q : Parts) : Type 0 where
-  pub mark-digits : map decimal (P .marks) ≡ map decimal (Q .marks)
+  pub mark-lines : map markLine (P .marks) ≡ map markLine (Q .marks)
   pub set-lines : map setLine (P .set) ≡ map setLine (Q .set)
   pub list-values : map (λ (v : List ℕ). v) (P .list) ≡ map (λ (v : List ℕ). v) (Q .list)
 
@@ -141,7 +186,7 @@ read-offs-show P Q e =
     let m = part-reads mark-readable "(marks\n" _ _ _ _ e in
     let s = part-reads set-readable "(set\n" _ _ _ _ (m .1) in
     let l = part-reads bytes-readable "(list\n" _ _ _ _ (s .1) in
-    record { mark-digits = m .0; set-lines = s .0; list-values = l .0 }
+    record { mark-lines = m .0; set-lines = s .0; list-values = l .0 }
 
 -- equal texts show the same
 pub text-shows : (ident : Update → Id) (P Q : Parts) → reportText Full ident P ≡ reportText Full ident Q → SameShown ident P Q

@@ -1,4 +1,4 @@
--- A written update is laid out, is held where it is offered next, and forms no fork with the held updates of an author who is not marked.
+-- A written update is laid out, is held where it is offered next, and so is then no fault, and forms no fork with the held updates of an author without a fork.
 use mathlib.Core.Path.{_≡_, refl, sym, _∙_, ap, subst}
 use mathlib.Core.Logic.{⊎-elim}
 use Prim.Native.Nat.{ℕ, _≤_}
@@ -12,16 +12,17 @@ use Rattle.bytes_order.specs.Distinct.{Distinct, distinct-nil, distinct-cons}
 use Rattle.bytes_order.specs.DistinctLaws.{distinct-eq, distinct-append}
 use Rattle.bytes_order.specs.SortLaws.{Ascending→ascending}
 use Rattle.update_format.specs.Update.{Id, idLength, maxAuthor, maxPredecessors, Operation, Add, Update, Bounded, BoundedOperation}
-use Rattle.rules.specs.Standing.{Ancestor, Known, Fine, Held, Void}
-use Rattle.rules.specs.ReadOff.{Head, Marked}
+use Rattle.rules.specs.Standing.{Ancestor, Known, Fine, Held, PredsHeld, Void}
+use Rattle.rules.specs.ReadOff.{Head, Forked, Fault}
 use Rattle.rules.specs.Settle.{held, Row, Table, settledTable, heads, validOp}
 use Rattle.rules.specs.Decides.{Decides}
 use Rattle.rules.specs.LeastSets.{held-stored, held-not-void}
-use Rattle.rules.specs.Growth.{extended, added-more, PredsHeld, grow-ready, grow-broken, held-kept}
+use Rattle.rules.specs.Growth.{extended, added-more, grow-ready, grow-broken, held-kept}
 use Rattle.rules.specs.SettlingTable.{PredecessorsHeld, preds-known, preds-held, valid→, →valid}
 use Rattle.rules.specs.Settling.{settled-ascending, settled-decides}
 use Rattle.rules.specs.TableLaws.{decides-sound, row-eq, row-id, held-row, above→ancestor}
 use Rattle.rules.specs.ReadOffLaws.{head-right, head-all}
+use Rattle.rules.specs.MarkLaws.{held-no-fault}
 use Rattle.rules.specs.ChoiceLaws.{rowId, chosen-all, chosen-few, chosen-ascending, chosen-head, chosen-some, head-row, some-head, named}
 use Rattle.rules.specs.Writing.{chosen, writtenIn, writableIn, writtenOf, writableOf}
 
@@ -111,7 +112,12 @@ module _ (ident : Update → Id) (S : List Update) (distinct : Distinct ident S)
       grow-ready ident S (extended S w) (added-more S w) (added-distinct new) (∈-append-right S (List·Memᴰ·head refl)) known below
       (λ v m p. held-kept ident S w (added-distinct new) (below v m p)) (writable-fine e)
 
-  -- and void otherwise
+  -- and so it is no fault
+  pub written-no-fault : ((u : Update) → u ∈ S → ident u ≡ ident (writtenOf ident S a o) → ⊥) → writableOf ident S a o ≡ true
+      → Fault ident (S ++ (writtenOf ident S a o ∷ [])) (writtenOf ident S a o) → ⊥
+  written-no-fault new e = held-no-fault ident (S ++ (writtenOf ident S a o ∷ [])) (written-held new e)
+
+  -- void otherwise
   pub written-void : ((u : Update) → u ∈ S → ident u ≡ ident (writtenOf ident S a o) → ⊥) → writableOf ident S a o ≡ false
       → Void ident (S ++ (writtenOf ident S a o ∷ [])) (writtenOf ident S a o)
   written-void new e =
@@ -135,8 +141,8 @@ module _ (ident : Update → Id) (S : List Update) (distinct : Distinct ident S)
       let p : ident (c .0 .update) ∈ writtenOf ident S a o .preds = ∈-cast (sym (row-id distinct decides k)) (∈-map rowId (c .1)) in
       pred-on-top n p (writtenOf ident S a o) h (Ancestor.direct n p)
 
-  -- every held update of an author who is not marked is its ancestor: it forms no fork
-  pub written-no-fork : (Marked ident S a → ⊥) → (u : Update) → Held ident S u → u .author ≡ a → Ancestor ident S u (writtenOf ident S a o)
+  -- every held update of an author without a fork is its ancestor: it forms no fork, also where the author has a fault
+  pub written-no-fork : (Forked ident S a → ⊥) → (u : Update) → Held ident S u → u .author ≡ a → Ancestor ident S u (writtenOf ident S a o)
   unfolding writtenOf writtenIn
   written-no-fork n u k e =
       let r = held-row distinct decides k in

@@ -1,4 +1,4 @@
-// The rules of documents 01 and 02, as definitions and theorems: all of it is in specs/, but for two enums that the code has too.
+// The rules of documents 01 and 02, as definitions and theorems: all of it is in specs/, but for three enums that the code has too.
 
 // How one update stands to another: document 02's four answers, E4.
 pub enum CausalOrder {
@@ -12,4 +12,11 @@ pub enum CausalOrder {
 pub enum Form {
     Full,
     Short,
+}
+
+// What an author is marked for: document 02, E7.
+pub enum MarkKind {
+    Fork,
+    Fault,
+    Both,
 }

@@ -16,7 +16,7 @@ use Rattle.bytes_order.specs.Ascending.{Ascending, ascending-nil, ascending-con
 use Rattle.bytes_order.specs.Sort.{sort}
 use Rattle.bytes_order.specs.MemberLaws.{∈-cases, ∈-singleton, ∈-append-left, ∈-append-right, append-∈, keep-∈, keep-true, keep-false, keep-all, keep-none, same-members-refl, getD-∈, ∈-getD, take-∈}
 use Rattle.bytes_order.specs.DistinctLaws.{distinct-head, distinct-tail}
-use Rattle.bytes_order.specs.SortLaws.{ascending-head, ascending-tail, ascending-append, ascending-distinct, ascending-identifies, sort-unique}
+use Rattle.bytes_order.specs.SortLaws.{ascending-head, ascending-tail, ascending-one, ascending-append, ascending-distinct, ascending-identifies, sort-unique}
 
 pub take-map : {A B : Type 0} (f : A → B) (n : ℕ) (xs : List A) → take n (map f xs) ≡ map f (take n xs)
 take-map f zero xs = refl
@@ -55,7 +55,7 @@ module _ {A : Type 0} {key : A → List ℕ} where
   -- the first n members and a later one
   pub front-ascending : (n : ℕ) {xs : List A} (j : ℕ) (d : A) → Ascending key xs → n ≤ j → j < length xs → Ascending key (take n xs ++ (getD xs j d ∷ []))
   front-ascending n {xs} j d a h l =
-      ascending-append (ascending-take n a) (ascending-cons (λ y m. absurd (List·Memᴰ·not-nil m)) ascending-nil)
+      ascending-append (ascending-take n a) ascending-one
       (λ y z m k. subst (λ (w : A). before (key y) (key w) ≡ true) (sym (∈-singleton k)) (taken-before n xs j d a h l y m))
 
   -- x is the member at index j, and all but it pass p

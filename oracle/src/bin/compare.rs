@@ -33,7 +33,7 @@ const NO_END: &str = "no end of its output in time and size";
 const SHOWN: usize = 5;
 
 /// Answers and report parts that the random sessions must show, each in at least 20 sessions.
-const COVERED: [&str; 32] = [
+const COVERED: [&str; 36] = [
     "(taken held 1 0)",
     "(taken held 2 0)",
     "(taken held 1 1)",
@@ -58,6 +58,10 @@ const COVERED: [&str; 32] = [
     "some waiting",
     "some void",
     "some marks",
+    "a mark for a fork",
+    "a mark for a fault",
+    "a mark for both",
+    "a void update of an author without a fault",
     "some set",
     "a tag of 2 authors",
     "a tag of 3 authors",
@@ -189,6 +193,14 @@ impl Tally {
             let (tag, author) = entry[1..entry.len() - 1].split_once(' ').unwrap();
             authors.entry(tag).or_default().push(author.parse().unwrap());
         }
+        // The words of the marks, by author, and the authors of the void updates.
+        let part = |name: &str| -> Vec<&str> {
+            let start = report.find(&format!("\n({name}\n")).unwrap() + name.len() + 3;
+            report[start..].lines().take_while(|&l| l != ")").map(|l| &l[1..l.len() - 1]).collect()
+        };
+        let marks: BTreeMap<&str, &str> = part("marks").into_iter().map(|l| l.split_once(' ').unwrap()).collect();
+        let marked = |word: &str| marks.values().any(|&w| w == word);
+        let faulty = |author: &str| matches!(marks.get(author), Some(&"fault" | &"both"));
         for what in COVERED {
             let shown = match what {
                 "some held" => size("held") > 0,
@@ -197,6 +209,12 @@ impl Tally {
                 "some void" => size("void") > 0,
                 "some marks" => size("marks") > 0,
                 "2 marks" => size("marks") > 1,
+                "a mark for a fork" => marked("fork"),
+                "a mark for a fault" => marked("fault"),
+                "a mark for both" => marked("both"),
+                "a void update of an author without a fault" => {
+                    part("void").into_iter().any(|l| !faulty(l.split_once(' ').unwrap().1))
+                }
                 "some set" => size("set") > 0,
                 "a tag of 2 authors" => authors.values().any(|by| by.len() > 1),
                 "a tag of 3 authors" => authors.values().any(|by| by.len() > 2),

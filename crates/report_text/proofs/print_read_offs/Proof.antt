@@ -16,8 +16,8 @@ use Rattle.report_text.proofs.print_read_offs.Tie as tie
 abbrev marked→start : tie.After-marked → tie.Start
 marked→start c = c .before .before .before
 
-abbrev print→marked : tie.After-print → tie.After-marked
-print→marked c = c .before .before
+abbrev print→marked2 : tie.After-print → tie.After-marked2
+print→marked2 c = c .before .before
 
 abbrev sorted→print : tie.After-sorted → tie.After-print
 sorted→print c = c .before .before .before
@@ -40,8 +40,11 @@ put→print3 c = c .before .before .before .before .before
 abbrev slice-known5→put : tie.After-slice-known5 → tie.After-put
 slice-known5→put c = c .before .before
 
-marked-requires : tie.Need-marked-requires
-marked-requires c κs = search needs
+forked-requires : tie.Need-marked-requires
+forked-requires c κs = search needs
+
+faulty-requires : tie.Need-marked-requires-2
+faulty-requires c κs = search needs
 
 print-marks-requires : tie.Need-print-requires
 print-marks-requires c κs = search needs
@@ -66,7 +69,7 @@ put-requires c κs =
     let at-print3 = put-arg2→print3 c in
     let at-print2 = entries→print2 (print3→entries at-print3) in
     let at-print = sorted→print (print2→sorted at-print2) in
-    let at-start = marked→start (print→marked at-print) in
+    let at-start = marked→start (print→marked2 at-print .before) in
     let pre = at-start .pre in
     let print = at-print .print in
     let print2 = at-print2 .print2 in
@@ -83,10 +86,12 @@ returns c =
     let at-print2 = entries→print2 at-entries in
     let at-sorted = print2→sorted at-print2 in
     let at-print = sorted→print at-sorted in
-    let at-marked = print→marked at-print in
+    let at-marked2 = print→marked2 at-print in
+    let at-marked = at-marked2 .before in
     let at-start = marked→start at-marked in
     let args = at-start .args in
-    let marked = at-marked .marked in
+    let forked = at-marked .marked in
+    let faulty = at-marked2 .marked2 in
     let print = at-print .print in
     let sorted = at-sorted .sorted in
     let print2 = at-print2 .print2 in
@@ -95,12 +100,12 @@ returns c =
     let l = bookOf (args .l) in
     let s = now (args .store) in
     same-text (read-offs-is l s)
-    (both (same-text (ap marksPart (marks-are l s (marked .result) (marked .ensures))) (print .ensures .0))
+    (both (same-text (ap marksPart (marks-are l s (forked .result) (faulty .result) (forked .ensures) (faulty .ensures))) (print .ensures .0))
     (both (same-text (ap (partOf l s Set) (sorted .ensures .are)) (print2 .ensures .0))
     (both (same-text (ap (partOf l s Entries) (entries .ensures .are)) (print3 .ensures .0)) (at-put .put .ensures))))
 
 pub print-read-offs-spec : {M : Type 1} → statement M
 print-read-offs-spec =
     tie.close
-    (tie.spec marked-requires print-marks-requires sorted-requires print-set-requires entries-requires print-list-requires slice-aggregate-put
+    (tie.spec forked-requires faulty-requires print-marks-requires sorted-requires print-set-requires entries-requires print-list-requires slice-aggregate-put
     put-requires same-length returns)

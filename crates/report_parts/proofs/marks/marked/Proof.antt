@@ -1,23 +1,20 @@
--- `marked` meets its contract. The loop's invariant: the set has the authors that the places below k mark.
+-- `marked` meets its contract. The loop's invariant: the set has the authors that such evidence at the places below k marks.
 use Prim.Native.Nat.{ℕ, _-_, _≤_}
 use mathlib.Core.Path.{_≡_}
-use mathlib.Core.Bool.{_&&_}
 use borrow.Author.Needs.{needs}
-use lib.Dec.{eqb}
 use denote.Ref.{now}
 use Rattle.bitset.specs.Below.{anyBelow}
 use Rattle.bitset.specs.Bits.{has}
-use Rattle.ledger_relations.specs.PlaceTests.{authorAt, forkedAt}
 use Rattle.ledger_state.specs.View.{bookOf}
-use Rattle.report_parts.proofs.Marking.{marked-start, marked-more, marked-end}
+use Rattle.report_parts.proofs.Marking.{against, marked-start, marked-more, marked-end}
 use Rattle.report_parts.proofs.marks.marked.Statement.{statement}
 use Rattle.report_parts.proofs.marks.marked.Tie as tie
 
 abbrev Inv-loop : tie.InvT-loop
-Inv-loop l store used authors₀ k₀ authors k = (k ≤ used) × ((a : ℕ) → has authors a ≡ anyBelow k (λ (j : ℕ). eqb (authorAt (bookOf l) store j) a && forkedAt (bookOf l) store j))
+Inv-loop l store evidence used authors₀ k₀ authors k = (k ≤ used) × ((a : ℕ) → has authors a ≡ anyBelow k (against (bookOf l) store evidence a))
 
 abbrev μ-loop : tie.MeasureT-loop
-μ-loop l store used authors₀ k₀ authors k = used - k
+μ-loop l store evidence used authors₀ k₀ authors k = used - k
 
 -- places of the code, each from a later one
 abbrev loop→start : tie.At-loop Inv-loop μ-loop → tie.Start Inv-loop μ-loop
@@ -30,7 +27,7 @@ loop-holds : tie.Need-loop-holds Inv-loop μ-loop
 loop-holds c =
     let at-start = c .before in
     let args = at-start .args in
-    (search needs, marked-start (bookOf (args .l)) (now (args .store)))
+    (search needs, marked-start (bookOf (args .l)) (now (args .store)) (args .evidence))
 
 with-author-requires : tie.Need-with-author-requires Inv-loop μ-loop
 with-author-requires c κs = search needs
@@ -48,7 +45,7 @@ loop-again c =
     let args = at-start .args in
     let loop = at-loop .loop in (
       search needs,
-      marked-more (bookOf (args .l)) (now (args .store)) (loop .authors) (c .with-author .result) (loop .k) (loop .inv .1) (c .with-author .ensures),
+      marked-more (bookOf (args .l)) (now (args .store)) (args .evidence) (loop .authors) (c .with-author .result) (loop .k) (loop .inv .1) (c .with-author .ensures),
     )
 
 returns : tie.Need-returns Inv-loop μ-loop
@@ -57,7 +54,7 @@ returns c =
     let at-start = loop→start at-loop in
     let args = at-start .args in
     let loop = at-loop .loop in
-    marked-end (bookOf (args .l)) (now (args .store)) (loop .authors) (loop .k) (search needs) (search needs) (loop .inv .1)
+    marked-end (bookOf (args .l)) (now (args .store)) (args .evidence) (loop .authors) (loop .k) (search needs) (search needs) (loop .inv .1)
 
 pub marked-spec : {M : Type 1} → statement M
 marked-spec =

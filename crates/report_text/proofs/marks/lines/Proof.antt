@@ -1,4 +1,4 @@
--- `lines` meets its contract. The loop's invariant: the lines of the authors below a that are in the set are printed.
+-- `lines` meets its contract. The loop's invariant: the lines of the authors below a that are in one of the sets are printed.
 use Prim.Native.Nat.{suc, _+_, _*_, _-_, _≤_}
 use mathlib.Core.Path.{_≡_, refl}
 use native.Mathlib.Omega.{arith}
@@ -14,11 +14,11 @@ use Rattle.report_text.proofs.marks.lines.Statement.{statement}
 use Rattle.report_text.proofs.marks.lines.Tie as tie
 
 abbrev Inv-loop : tie.InvT-loop
-Inv-loop authors page₀ at end₀ a₀ page end a =
-    (a ≤ suc maxAuthor) × (length page ≡ length page₀) × (end ≤ at + maxReportLine * a) × Prints page₀ at (linesBelow authors a) page end
+Inv-loop forked faulty page₀ at end₀ a₀ page end a =
+    (a ≤ suc maxAuthor) × (length page ≡ length page₀) × (end ≤ at + maxReportLine * a) × Prints page₀ at (linesBelow forked faulty a) page end
 
 abbrev μ-loop : tie.MeasureT-loop
-μ-loop authors page₀ at end₀ a₀ page end a = suc maxAuthor - a
+μ-loop forked faulty page₀ at end₀ a₀ page end a = suc maxAuthor - a
 
 -- places of the code, each from a later one
 abbrev loop→start : tie.At-loop Inv-loop μ-loop → tie.Start Inv-loop μ-loop
@@ -34,7 +34,7 @@ loop-holds : tie.Need-loop-holds Inv-loop μ-loop
 loop-holds c =
     let at-start = c .before in
     let args = at-start .args in
-    (search needs, refl, omega arith, same-text (lines-start (args .authors)) (nothing (now (args .page)) (args .at)))
+    (search needs, refl, omega arith, same-text (lines-start (args .forked) (args .faulty)) (nothing (now (args .page)) (args .at)))
 
 shown-line-requires : tie.Need-shown-line-requires Inv-loop μ-loop
 shown-line-requires c κs = record { line-within = omega arith; author-within = search needs }
@@ -53,9 +53,9 @@ loop-again c =
     let line = at-shown-line .shown-line in
     let args = at-start .args in (
       search needs,
-      omega (arith, line .kept .1 .1 .0, at-loop .loop .inv .1),
+      omega (arith, line .kept .1 .1 .1 .0, at-loop .loop .inv .1),
       omega (arith, line .ensures .1, at-loop .loop .inv .2),
-      same-text (lines-more (args .authors) (at-loop .loop .a)) (both (at-loop .loop .inv .3) (line .ensures .0)),
+      same-text (lines-more (args .forked) (args .faulty) (at-loop .loop .a)) (both (at-loop .loop .inv .3) (line .ensures .0)),
     )
 
 same-length : tie.Need-same-length Inv-loop μ-loop
@@ -69,7 +69,7 @@ returns c =
     let at-start = loop→start at-loop in
     let loop = at-loop .loop in
     let args = at-start .args in
-    (same-text (lines-all (args .authors) (loop .a) (search needs) (search needs)) (loop .inv .3), omega arith)
+    (same-text (lines-all (args .forked) (args .faulty) (loop .a) (search needs) (search needs)) (loop .inv .3), omega arith)
 
 pub lines-spec : {M : Type 1} → statement M
 lines-spec =
