@@ -1,4 +1,4 @@
--- A report fits 12,000 bytes, and a short one 2,548.
+-- A report fits 12,000 bytes, and a short one 2,644.
 use mathlib.Core.Path.{_≡_, refl, ap}
 use Prim.Native.Nat.{ℕ, _≤_}
 use native.Mathlib.Omega.{arith}

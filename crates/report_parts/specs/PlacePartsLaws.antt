@@ -56,9 +56,9 @@ module _ {l : Book} {s : List ℕ} {us : List Update} (stands : Stands l s us) w
       ap₂ (marksBy a) (by-agrees (forkedRow (settledTable ident us)) (forkedAt l s) (fork-agrees stands) a)
       (by-agrees (faultRow (settledTable ident us)) (faultAt l s) (fault-agrees stands) a)
 
-  marks-exactly : Exactly markKey (λ (m : Mark). MarkedFor ident us (m .kind) (m .author)) (marksOf l s)
+  marks-of-places : Exactly markKey (λ (m : Mark). MarkedFor ident us (m .kind) (m .author)) (marksOf l s)
   unfolding marksOf marksAt markKey
-  marks-exactly =
+  marks-of-places =
       record {
         right = λ m h.
             let f = concatMap-∈ (marksAt l s) (upTo (suc maxAuthor)) h in
@@ -74,7 +74,7 @@ module _ {l : Book} {s : List ℕ} {us : List Update} (stands : Stands l s us) w
       }
 
   pub marks-part : marksOf l s ≡ partsOf ident us .marks
-  marks-part = exactly-unique marks-exactly (read-right ident us (stands .holds .distinct) .marks)
+  marks-part = exactly-unique marks-of-places (read-right ident us (stands .holds .distinct) .marks)
 
   -- the set
   kept : Row → Bool

@@ -1,5 +1,5 @@
 -- Document 02, E7: a fault is exactly a void update by the second clause of Void; an author has one mark at most, and one where it has a fork or a fault; more updates
--- keep it, but for a second kind. What is computed from a settled table is what `ReadOff` defines.
+-- keep it, but for a second kind. And what is computed of marks from a settled table is what `ReadOff` defines.
 use Prim.Native.Nat.{ℕ}
 use mathlib.Core.Path.{_≡_, refl, sym, _∙_, ap, subst, subst₂}
 use mathlib.Core.Logic.{_⊎_, inl, inr, ⊎-elim}
@@ -79,7 +79,7 @@ module _ (ident : Update → Id) (S : List Update) where
       (λ (f : Faulty ident S a). (f .update, void-stored ident S (f .is-fault .is-void), f .fault-by))
       (marked→ k a m)
 
-  pub mark-eq : (m n : Mark) → MarkedFor ident S (m .kind) (m .author) → MarkedFor ident S (n .kind) (n .author) → m .author ≡ n .author → m ≡ n
+  mark-eq : (m n : Mark) → MarkedFor ident S (m .kind) (m .author) → MarkedFor ident S (n .kind) (n .author) → m .author ≡ n .author → m ≡ n
   mark-eq m n p q e =
       let k = marked-unique (m .kind) (n .kind) (m .author) p (subst (MarkedFor ident S (n .kind)) (sym e) q) in
       λ i. record { author = e i; kind = k i }
@@ -163,7 +163,7 @@ module _ (ident : Update → Id) (S : List Update) (T : Table) (distinct : Disti
 
   -- faults
 
-  pub fault-row→ : {r : Row} → r ∈ T → faultRow T r ≡ true → Fault ident S (r .update)
+  fault-row→ : {r : Row} → r ∈ T → faultRow T r ≡ true → Fault ident S (r .update)
   unfolding faultRow
   fault-row→ {r} m e =
       let h = and-true→ (isVoid (r .verdict)) (all (heldIn T) (r .update .preds)) e in
@@ -174,7 +174,7 @@ module _ (ident : Update → Id) (S : List Update) (T : Table) (distinct : Disti
         preds-held = preds-held (decides-sound decides) ready;
       }
 
-  pub →fault-row : {u : Update} → Fault ident S u → (r : Row) × (r ∈ T) × (r .update ≡ u) × (faultRow T r ≡ true)
+  →fault-row : {u : Update} → Fault ident S u → (r : Row) × (r ∈ T) × (r .update ≡ u) × (faultRow T r ≡ true)
   unfolding faultRow isVoid
   →fault-row {u} f =
       let r = says-row distinct decides void u (f .is-void) in
@@ -270,7 +270,7 @@ module _ (ident : Update → Id) (S : List Update) (T : Table) (distinct : Disti
       some-kind false true t = (IsFault, List·Memᴰ·head refl)
       some-kind false false t = absurd (⊎-elim false≢true false≢true t)
 
--- so it is by any set with distinct ids
+-- .. by any set with distinct ids
 pub →marked : (ident : Update → Id) (S : List Update) → Distinct ident S → (a : ℕ) → Forked ident S a ⊎ Faulty ident S a → (k : MarkKind) × MarkedFor ident S k a
 →marked ident S distinct = marked-some ident S _ distinct (settled-decides ident S distinct)
 
