@@ -237,9 +237,9 @@ module _ (l : Book) (s : List ℕ) (us : List Update) (holds : Holds l s us) whe
         let h = and-true→ (not (gathered .void)) (gathered .ready) e in
         gathered-ready→ (not-true→ (gathered .void) (h .0)) (h .1)
 
-    pub →all-held : AllHeld l us is → allHeld gathered ≡ true
+    pub all-held← : AllHeld l us is → allHeld gathered ≡ true
     unfolding allHeld isVoid
-    →all-held h = and-true (not (gathered .void)) (gathered .ready) (not-true (gathered .void) none-void) (gathered-ready← h)
+    all-held← h = and-true (not (gathered .void)) (gathered .ready) (not-true (gathered .void) none-void) (gathered-ready← h)
       where
         none-void : gathered .void ≡ true → ⊥
         none-void t =

@@ -34,7 +34,7 @@ use Rattle.ledger_judging.specs.AntichainLaws.{antichain-at→, →antic
 use Rattle.ledger_judging.specs.Judge.{nothingGathered, gather, namesAt, namesAncestor, valid, judgeReady, judgeGathered, judgeDecoded, judgeAt, allHeld, readyDecoded, readyAt}
 use Rattle.ledger_state.specs.Stands.{ident, noUpdate, updateAt, Holds, Truthful}
 use Rattle.ledger_state.specs.FindLaws.{stored-at, place-of, find-right, find-all}
-use Rattle.ledger_judging.specs.GatherLaws.{AllHeld, gathered-void→, gathered-void←, gathered-ready→, gathered-ready←, all-held→, →all-held, gathered-direct→, gathered-direct←, gathered-held, gathered-above→, gathered-above←}
+use Rattle.ledger_judging.specs.GatherLaws.{AllHeld, gathered-void→, gathered-void←, gathered-ready→, gathered-ready←, all-held→, all-held←, gathered-direct→, gathered-direct←, gathered-held, gathered-above→, gathered-above←}
 
 -- what is read from a place is its update
 stored-update : (l : Book) (s : List ℕ) (us : List Update) → Holds l s us → (k : ℕ) → k < length us
@@ -52,7 +52,7 @@ module _ (l : Book) (s : List ℕ) (us : List Update) (holds : Holds l s us) (k 
   ready-at→ e = all-held→ l s us holds (updateAt us k .preds) (sym ready-update ∙ e)
 
   pub →ready-at : AllHeld l us (updateAt us k .preds) → readyAt l s k ≡ true
-  →ready-at a = ready-update ∙ →all-held l s us holds (updateAt us k .preds) a
+  →ready-at a = ready-update ∙ all-held← l s us holds (updateAt us k .preds) a
 
 -- the word has exactly the places of the ancestors of u
 record AncestorWord (us : List Update) (u : Update) (w : ℕ) : Type 0 where

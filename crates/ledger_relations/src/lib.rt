@@ -1,4 +1,4 @@
-// What held places do to a place of a ledger, and the tests of a place that go by it.
+// What held places do to a place of a ledger, the tests of a place that go by it, and whether a place is a fault.
 ghost use mathlib.Core.Path.{_≡_};
 ghost use mathlib.Core.Bool.{not};
 ghost use Prim.Native.Nat.{_<_};

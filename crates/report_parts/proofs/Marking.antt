@@ -7,7 +7,6 @@ use native.Mathlib.Omega.{arith}
 use borrow.Author.Tests.{eq-eqb, eqb-true}
 use lib.Dec.{eqb}
 use Rattle.bytes_order.specs.BoolLaws.{test-ext}
-use Rattle.bytes_order.specs.Member.{concatMap}
 use Rattle.bytes_order.specs.MemberLaws.{concatMap-cong}
 use Rattle.bitset.specs.Below.{anyBelow, upTo}
 use Rattle.bitset.specs.Bits.{wordBits, has, includingBelow}
@@ -20,7 +19,7 @@ use Rattle.ledger_relations.specs.PlaceTests.{decodedAt, authorAt}
 use Rattle.ledger_relations.proofs.Testing.{any-more, any-zero, with-true}
 use Rattle.report_parts.specs.declared.Evidence.{Evidence}
 use Rattle.report_parts.specs.declared.Evidence.the-variants.{Fork, Fault}
-use Rattle.report_parts.specs.PlaceParts.{evidenceAt, markedBy, marksAt, marksOf}
+use Rattle.report_parts.specs.PlaceParts.{authorMarks, evidenceAt, markedBy, marksOf}
 
 eqb-sym : (a b : ℕ) → eqb a b ≡ eqb b a
 eqb-sym a b = test-ext (eqb a b) (eqb b a) (λ e. eq-eqb b a (sym (eqb-true a b e))) (λ e. eq-eqb a b (sym (eqb-true b a e)))
@@ -57,6 +56,6 @@ module _ (l : Book) (s : List ℕ) (v : Evidence) where
 
 -- the marks by the two sets of authors
 pub marks-are : (l : Book) (s : List ℕ) (w v : ℕ) → ((a : ℕ) → has w a ≡ markedBy l s Fork a) → ((a : ℕ) → has v a ≡ markedBy l s Fault a)
-    → concatMap (λ (a : ℕ). marksBy a (has w a) (has v a)) (upTo (suc maxAuthor)) ≡ marksOf l s
-unfolding marksOf marksAt
-marks-are l s w v e f = concatMap-cong _ (marksAt l s) (upTo (suc maxAuthor)) (λ a m. ap₂ (marksBy a) (e a) (f a))
+    → authorMarks (has w) (has v) ≡ marksOf l s
+unfolding marksOf
+marks-are l s w v e f = concatMap-cong _ _ (upTo (suc maxAuthor)) (λ a m. ap₂ (marksBy a) (e a) (f a))

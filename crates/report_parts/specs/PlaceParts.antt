@@ -20,6 +20,10 @@ use Rattle.ledger_sorting.specs.PlaceLists.{sortedBy}
 use Rattle.report_parts.specs.declared.Evidence.{Evidence}
 use Rattle.report_parts.specs.declared.Evidence.the-variants.{Fork, Fault}
 
+-- the marks of all authors, ascending, by two tests of an author: it has a fork; it has a fault
+abbrev pub authorMarks : (ℕ → Bool) → (ℕ → Bool) → List Mark
+authorMarks fork fault = concatMap (λ (a : ℕ). marksBy a (fork a) (fault a)) (upTo (suc maxAuthor))
+
 module _ (l : Book) (s : List ℕ) where
   -- marks: what of a place marks its author
   abbrev pub evidenceAt : Evidence → ℕ → Bool
@@ -30,12 +34,8 @@ module _ (l : Book) (s : List ℕ) where
   unfoldable pub markedBy : Evidence → ℕ → Bool
   markedBy e a = anyBelow (l .used) (λ (k : ℕ). eqb (authorAt l s k) a && evidenceAt e k)
 
-  -- the marks, ascending by author
-  unfoldable pub marksAt : ℕ → List Mark
-  marksAt a = marksBy a (markedBy Fork a) (markedBy Fault a)
-
   unfoldable pub marksOf : List Mark
-  marksOf = concatMap marksAt (upTo (suc maxAuthor))
+  marksOf = authorMarks (markedBy Fork) (markedBy Fault)
 
   -- the set
   unfoldable pub setEntryAt : ℕ → SetEntry

@@ -10,6 +10,7 @@ use Rattle.bytes_order.specs.Member.{_∈_, keep, concatMap}
 use Rattle.bytes_order.specs.Sort.{sort}
 use Rattle.bytes_order.specs.BoolLaws.{and-true→, and-true, and-agrees}
 use Rattle.bytes_order.specs.MemberLaws.{∈-cast, ∈-map, map-∈, ∈-keep, keep-∈, ∈-concatMap, concatMap-∈, concatMap-keep-map}
+use Rattle.bytes_order.specs.Ascending.{Ascending}
 use Rattle.bytes_order.specs.SortLaws.{same-sort, sort-map, ascending-concatMap}
 use Rattle.update_format.specs.Update.{Id, maxAuthor, Add, Update}
 use Rattle.rules.specs.SetEntry.{SetEntry, entryKey}
@@ -31,10 +32,16 @@ use Rattle.ledger_state.specs.Stands.{ident, updateAt, Stands}
 use Rattle.ledger_state.specs.State.{Book}
 use Rattle.ledger_relations.specs.PlaceTests.{idAt, decodedAt, authorAt, heldAt, forkedAt, faultAt, removedAt, presentAt, idOrder}
 use Rattle.ledger_sorting.specs.PlaceLists.{sortedBy}
-use Rattle.report_parts.specs.PlaceParts.{markedBy, marksAt, marksOf, setEntryAt, setOrder}
+use Rattle.report_parts.specs.PlaceParts.{authorMarks, markedBy, marksOf, setEntryAt, setOrder}
 use Rattle.report_parts.specs.declared.Evidence.the-variants.{Fork, Fault}
 use Rattle.ledger_relations.specs.PlaceLaws.{from-used, to-used, place-decoded, place-author, place-test}
 use Rattle.ledger_relations.specs.RowLaws.{rowAt, row-update, row-id, order-∈, ∈-order, table-rows, any-agrees, held-agrees, author-agrees, fork-agrees, fault-agrees, op-test-agrees}
+
+author-marks-ascending : (fork fault : ℕ → Bool) → Ascending markKey (authorMarks fork fault)
+unfolding markKey
+author-marks-ascending fork fault =
+    ascending-concatMap markKey (λ (a : ℕ). marksBy a (fork a) (fault a)) (upTo-ascending (suc maxAuthor)) (λ a. marks-by-ascending a (fork a) (fault a))
+    (λ a m h. ap (λ (b : ℕ). b ∷ []) (marks-by-author a (fork a) (fault a) h))
 
 module _ {l : Book} {s : List ℕ} {us : List Update} (stands : Stands l s us) where
   -- marks
@@ -50,27 +57,25 @@ module _ {l : Book} {s : List ℕ} {us : List Update} (stands : Stands l s us) w
       any-agrees stands (λ (r : Row). eqb (r .update .author) a && p r) (λ (k : ℕ). eqb (authorAt l s k) a && p′ k)
       (λ k g. ap₂ (λ (x : ℕ) (b : Bool). eqb x a && b) (author-agrees stands g) (h k g))
 
-  marks-agree : (a : ℕ) → marksIn (settledTable ident us) a ≡ marksAt l s a
-  unfolding marksIn marksAt markedBy
+  marks-agree : (a : ℕ) → marksIn (settledTable ident us) a ≡ marksBy a (markedBy l s Fork a) (markedBy l s Fault a)
+  unfolding marksIn markedBy
   marks-agree a =
       ap₂ (marksBy a) (by-agrees (forkedRow (settledTable ident us)) (forkedAt l s) (fork-agrees stands) a)
       (by-agrees (faultRow (settledTable ident us)) (faultAt l s) (fault-agrees stands) a)
 
   marks-of-places : Exactly markKey (λ (m : Mark). MarkedFor ident us (m .kind) (m .author)) (marksOf l s)
-  unfolding marksOf marksAt markKey
+  unfolding marksOf
   marks-of-places =
       record {
         right = λ m h.
-            let f = concatMap-∈ (marksAt l s) (upTo (suc maxAuthor)) h in
+            let f = concatMap-∈ (λ (a : ℕ). marksBy a (markedBy l s Fork a) (markedBy l s Fault a)) (upTo (suc maxAuthor)) h in
             marks-in→ ident us (settledTable ident us) (stands .holds .distinct) decides (f .0) (subst (λ (ms : List Mark). m ∈ ms) (sym (marks-agree (f .0))) (f .2));
         all = λ m h.
             let f = marked-stored ident us (m .kind) (m .author) h in
             let small : m .author ≤ maxAuthor = subst (λ (a : ℕ). a ≤ maxAuthor) (f .2) (stands .holds .bounded (f .0) (f .1) .author-small) in
-            ∈-concatMap (marksAt l s) (∈-upTo (suc maxAuthor) (omega arith))
+            ∈-concatMap (λ (a : ℕ). marksBy a (markedBy l s Fork a) (markedBy l s Fault a)) (∈-upTo (suc maxAuthor) (omega arith))
             (subst (λ (ms : List Mark). m ∈ ms) (marks-agree (m .author)) (→marks-in ident us (settledTable ident us) (stands .holds .distinct) decides m h));
-        ascending =
-            ascending-concatMap markKey (marksAt l s) (upTo-ascending (suc maxAuthor)) (λ a. marks-by-ascending a (markedBy l s Fork a) (markedBy l s Fault a))
-            (λ a m h. ap (λ (b : ℕ). b ∷ []) (marks-by-author a (markedBy l s Fork a) (markedBy l s Fault a) h));
+        ascending = author-marks-ascending (markedBy l s Fork) (markedBy l s Fault);
       }
 
   pub marks-part : marksOf l s ≡ partsOf ident us .marks

@@ -10,57 +10,60 @@ use Rattle.bytes_order.specs.MemberLaws.{concatMap-append}
 use Rattle.bytes_ascii.specs.Ascii.{codes, ascii}
 use Rattle.update_format.specs.Update.{maxAuthor}
 use Rattle.bitset.specs.Below.{upTo}
-use Rattle.bitset.specs.Bits.{has}
 use Rattle.rules.specs.declared.MarkKind.{MarkKind}
 use Rattle.rules.specs.declared.MarkKind.the-variants.{Fork, Fault, Both}
 use Rattle.rules.specs.Mark.{Mark, kindsBy, marksBy}
 use Rattle.rules.specs.Report.{markLine}
-use Rattle.report_text.specs.Parts.{authorMarks, setMarks, marksPart}
+use Rattle.report_parts.specs.PlaceParts.{authorMarks}
+use Rattle.report_text.specs.Parts.{marksPart}
 
-module _ (forked faulty : ℕ) where
-  -- the lines of the authors below a that are in one of the sets
+module _ (fork fault : ℕ → Bool) where
+  -- the marks of author a, by two tests of it
+  abbrev marksFor : ℕ → List Mark
+  marksFor a = marksBy a (fork a) (fault a)
+
+  -- the lines of the authors below a
   unfoldable pub linesBelow : ℕ → List ℕ
-  linesBelow a = concatMap markLine (concatMap (authorMarks forked faulty) (upTo a))
+  linesBelow a = concatMap markLine (concatMap marksFor (upTo a))
 
   pub lines-start : [] ≡ linesBelow 0
   unfolding linesBelow upTo concatMap
   lines-start = refl
 
-  pub lines-more : (a : ℕ) → linesBelow a ++ concatMap markLine (authorMarks forked faulty a) ≡ linesBelow (a + 1)
+  pub lines-more : (a : ℕ) → linesBelow a ++ concatMap markLine (marksFor a) ≡ linesBelow (a + 1)
   unfolding linesBelow upTo concatMap
   lines-more a =
-      let M = authorMarks forked faulty in
-      sym (concatMap-append markLine (concatMap M (upTo a)) (M a))
-      ∙ ap (λ (ms : List Mark). concatMap markLine (concatMap M (upTo a) ++ ms)) (sym (append-nil (M a)))
-      ∙ ap (concatMap markLine) (sym (concatMap-append M (upTo a) (a ∷ [])))
+      sym (concatMap-append markLine (concatMap marksFor (upTo a)) (marksFor a))
+      ∙ ap (λ (ms : List Mark). concatMap markLine (concatMap marksFor (upTo a) ++ ms)) (sym (append-nil (marksFor a)))
+      ∙ ap (concatMap markLine) (sym (concatMap-append marksFor (upTo a) (a ∷ [])))
       ∙ sym (ap linesBelow (add-one a))
 
-  pub lines-all : (a : ℕ) → a ≤ suc maxAuthor → suc maxAuthor ≤ a → linesBelow a ≡ concatMap markLine (setMarks forked faulty)
+  pub lines-all : (a : ℕ) → a ≤ suc maxAuthor → suc maxAuthor ≤ a → linesBelow a ≡ concatMap markLine (authorMarks fork fault)
   unfolding linesBelow
-  lines-all a h g = let e : a ≡ suc maxAuthor = omega arith in ap (λ (m : ℕ). concatMap markLine (concatMap (authorMarks forked faulty) (upTo m))) e
+  lines-all a h g = let e : a ≡ suc maxAuthor = omega arith in ap (λ (m : ℕ). concatMap markLine (concatMap marksFor (upTo m))) e
 
-  -- the lines of author a, by whether it is in the sets
-  module _ (a : ℕ) {b c : Bool} (in-forked : b ≡ has forked a) (in-faulty : c ≡ has faulty a) where
-    by-tests : {b′ c′ : Bool} → b ≡ b′ → c ≡ c′ → concatMap markLine (marksBy a b′ c′) ≡ concatMap markLine (authorMarks forked faulty a)
-    by-tests e f = ap₂ (λ (x y : Bool). concatMap markLine (marksBy a x y)) (sym e ∙ in-forked) (sym f ∙ in-faulty)
+  -- the lines of author a, by what its tests answered
+  module _ (a : ℕ) {b c : Bool} (forked : b ≡ fork a) (faulty : c ≡ fault a) where
+    by-tests : {b′ c′ : Bool} → b ≡ b′ → c ≡ c′ → concatMap markLine (marksBy a b′ c′) ≡ concatMap markLine (marksFor a)
+    by-tests e f = ap₂ (λ (x y : Bool). concatMap markLine (marksBy a x y)) (sym e ∙ forked) (sym f ∙ faulty)
 
     one : (k : MarkKind) → markLine (record { author = a; kind = k }) ≡ concatMap markLine (record { author = a; kind = k } ∷ [])
     unfolding concatMap
     one k = sym (append-nil (markLine (record { author = a; kind = k })))
 
-    pub line-both : b ≡ true → c ≡ true → markLine (record { author = a; kind = Both }) ≡ concatMap markLine (authorMarks forked faulty a)
+    pub line-both : b ≡ true → c ≡ true → markLine (record { author = a; kind = Both }) ≡ concatMap markLine (marksFor a)
     unfolding marksBy kindsBy
     line-both e f = one Both ∙ by-tests e f
 
-    pub line-fork : b ≡ true → c ≡ false → markLine (record { author = a; kind = Fork }) ≡ concatMap markLine (authorMarks forked faulty a)
+    pub line-fork : b ≡ true → c ≡ false → markLine (record { author = a; kind = Fork }) ≡ concatMap markLine (marksFor a)
     unfolding marksBy kindsBy
     line-fork e f = one Fork ∙ by-tests e f
 
-    pub line-fault : b ≡ false → c ≡ true → markLine (record { author = a; kind = Fault }) ≡ concatMap markLine (authorMarks forked faulty a)
+    pub line-fault : b ≡ false → c ≡ true → markLine (record { author = a; kind = Fault }) ≡ concatMap markLine (marksFor a)
     unfolding marksBy kindsBy
     line-fault e f = one Fault ∙ by-tests e f
 
-    pub line-left : b ≡ false → c ≡ false → [] ≡ concatMap markLine (authorMarks forked faulty a)
+    pub line-left : b ≡ false → c ≡ false → [] ≡ concatMap markLine (marksFor a)
     unfolding marksBy kindsBy concatMap
     line-left e f = by-tests e f
 

@@ -5,9 +5,7 @@ use mathlib.Core.Bool.{Bool, true}
 use Rattle.bytes_order.specs.Member.{keep, concatMap}
 use Rattle.bytes_ascii.specs.Ascii.{ascii}
 use Rattle.update_format.specs.Update.{maxAuthor}
-use Rattle.bitset.specs.Below.{upTo}
-use Rattle.bitset.specs.Bits.{has}
-use Rattle.rules.specs.Mark.{Mark, marksBy}
+use Rattle.rules.specs.Mark.{Mark}
 use Rattle.rules.specs.Report.{authorLine, setLine, bytesLine, markLine}
 use Rattle.ledger_state.specs.State.{places, Book}
 use Rattle.ledger_relations.specs.PlaceTests.{idAt, authorAt, heldAt, waitingAt, voidAt, headAt, shownAt}
@@ -19,14 +17,6 @@ use Rattle.ledger_state.specs.Bounds.{PlaceIn}
 use Rattle.bytes_print.specs.Page.{farthest}
 use Rattle.ledger_sorting.specs.declared.Places.{Places}
 use Rattle.ledger_sorting.specs.PlaceLists.{PlaceList, InOrder}
-
--- the marks of author a, by two sets of authors: those with a fork, and those with a fault
-abbrev pub authorMarks : ℕ → ℕ → ℕ → List Mark
-authorMarks forked faulty a = marksBy a (has forked a) (has faulty a)
-
--- .. and of all authors, ascending
-abbrev pub setMarks : ℕ → ℕ → List Mark
-setMarks forked faulty = concatMap (authorMarks forked faulty) (upTo (suc maxAuthor))
 
 -- the part of the marks: its word, a line for each of these marks, the closing bracket
 unfoldable pub marksPart : List Mark → List ℕ

@@ -1,10 +1,13 @@
 // The part of the report that shows the marks.
 ghost use Prim.Native.Nat.{_+_, _≤_};
 ghost use Rattle.bytes_order.specs.Member.{concatMap};
+ghost use Rattle.bitset.specs.Bits.{has};
+ghost use Rattle.rules.specs.Mark.{marksBy};
 ghost use Rattle.rules.specs.Report.{markLine};
+ghost use Rattle.report_parts.specs.PlaceParts.{authorMarks};
 ghost use Rattle.bytes_print.specs.Page.{Prints, farthest};
 ghost use Rattle.report_wording.specs.Lines.{maxReportLine, MarkLineOf};
-ghost use Rattle.report_text.specs.Parts.{authorMarks, setMarks, marksPart, maxMarkLines, maxMarksPart};
+ghost use Rattle.report_text.specs.Parts.{marksPart, maxMarkLines, maxMarksPart};
 use bitset::Set;
 use bytes_print::put;
 use report_wording::mark_line;
@@ -14,7 +17,7 @@ use update_format::bounds::AUTHORS;
 // The line of author a, if it is in one of the sets.
 fn shown_line(forked: Set, faulty: Set, a: usize, page: &mut [u8], at: usize) -> usize
     requires { ⌜ MarkLineOf at a ⌝ }
-    ensures prints { λ r. ⌜ Prints (now (page .entry)) at (concatMap markLine (authorMarks forked faulty a)) (now (page .exit)) r ⌝ }
+    ensures prints { λ r. ⌜ Prints (now (page .entry)) at (concatMap markLine (marksBy a (has forked a) (has faulty a))) (now (page .exit)) r ⌝ }
     ensures small { λ r. ⌜ r ≤ at + maxReportLine ⌝ }
 {
     let fault = bitset::has(faulty, a);
@@ -36,7 +39,7 @@ fn shown_line(forked: Set, faulty: Set, a: usize, page: &mut [u8], at: usize) ->
 // The lines of the authors in the sets, ascending.
 fn lines(forked: Set, faulty: Set, page: &mut [u8], at: usize) -> usize
     requires { ⌜ at + maxMarkLines ≤ farthest ⌝ }
-    ensures prints { λ r. ⌜ Prints (now (page .entry)) at (concatMap markLine (setMarks forked faulty)) (now (page .exit)) r ⌝ }
+    ensures prints { λ r. ⌜ Prints (now (page .entry)) at (concatMap markLine (authorMarks (has forked) (has faulty))) (now (page .exit)) r ⌝ }
     ensures small { λ r. ⌜ r ≤ at + maxMarkLines ⌝ }
 {
     let mut end = at;
@@ -51,7 +54,7 @@ fn lines(forked: Set, faulty: Set, page: &mut [u8], at: usize) -> usize
 // Prints the part: its word, its lines, the closing bracket.
 pub fn print(forked: Set, faulty: Set, page: &mut [u8], at: usize) -> usize
     requires { ⌜ at + maxMarksPart ≤ farthest ⌝ }
-    ensures prints { λ r. ⌜ Prints (now (page .entry)) at (marksPart (setMarks forked faulty)) (now (page .exit)) r ⌝ }
+    ensures prints { λ r. ⌜ Prints (now (page .entry)) at (marksPart (authorMarks (has forked) (has faulty))) (now (page .exit)) r ⌝ }
     ensures small { λ r. ⌜ r ≤ at + maxMarksPart ⌝ }
 {
     let opened = put(page, at, b"(marks\n");

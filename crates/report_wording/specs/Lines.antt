@@ -1,4 +1,4 @@
--- The first line of each part of the report that shows updates, and the lines in it.
+-- The first line of each part of the report that shows updates, the lines in it, and the end of a mark's line.
 use Prim.Native.Nat.{ℕ, _+_, _≤_}
 use lib.ListN.{length}
 use mathlib.Core.List.{List, _++_}

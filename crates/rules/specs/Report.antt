@@ -19,8 +19,13 @@ use Rattle.rules.specs.Settle.{partsOf}
 
 -- "Each line ends in a newline. Held, waiting and void have lines `(ID author)`, heads `(ID)` .. Marks: .. ascending, base ten. .. list: `(VALUE)`"; an ID is "64 lowercase
 -- hexadecimal digits". "Set lines become `(TAG author)`"; "Mark lines become `(author fork)`, `(author fault)` or `(author both)`".
+
+-- a line of two words
+abbrev pub pairLine : List ℕ → List ℕ → List ℕ
+pairLine x y = ascii "(" ++ (x ++ (ascii " " ++ (y ++ ascii ")\n")))
+
 abbrev pub authorLine : List ℕ → ℕ → List ℕ
-authorLine bs a = ascii "(" ++ (hex bs ++ (ascii " " ++ (decimal a ++ ascii ")\n")))
+authorLine bs a = pairLine (hex bs) (decimal a)
 
 unfoldable pub updateLine : (Update → Id) → Update → List ℕ
 updateLine ident u = authorLine (ident u) (u .author)
@@ -40,7 +45,7 @@ markWord Fault = ascii "fault"
 markWord Both = ascii "both"
 
 unfoldable pub markLine : Mark → List ℕ
-markLine m = ascii "(" ++ (decimal (m .author) ++ (ascii " " ++ (markWord (m .kind) ++ ascii ")\n")))
+markLine m = pairLine (decimal (m .author)) (markWord (m .kind))
 
 -- one part: its word, a line for each element, the closing bracket; then the rest
 unfoldable pub partText : {A : Type 0} → String → (A → List ℕ) → List A → List ℕ → List ℕ

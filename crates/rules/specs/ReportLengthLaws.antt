@@ -24,10 +24,17 @@ use Rattle.bytes_ascii.specs.Ascii.{codes, ascii, hex, decimal}
 use Rattle.bytes_ascii.specs.AsciiLaws.{hex-length, decimal-length}
 use Rattle.rules.specs.TableLaws.{add-sized, setEntriesFrom-∈}
 use Rattle.rules.specs.MarkLaws.{marks-by-author}
-use Rattle.rules.specs.Report.{authorLine, updateLine, setLine, bytesLine, idLine, markWord, markLine, partText, readOffsText, reportText}
+use Rattle.rules.specs.Report.{pairLine, authorLine, updateLine, setLine, bytesLine, idLine, markWord, markLine, partText, readOffsText, reportText}
 use Rattle.bytes_order.specs.CountLaws.{concatMap-length, keep-concatMap-length}
 
 -- lines
+
+pair-line-length : (x y : List ℕ) → length (pairLine x y) ≡ 4 + length x + length y
+unfolding ascii codes
+pair-line-length x y =
+    let e = length-append y (ascii ")\n") in
+    let f = length-append x (ascii " " ++ (y ++ ascii ")\n")) in
+    omega arith
 
 mark-word-length : (k : MarkKind) → length (markWord k) ≤ 5
 unfolding markWord ascii codes
@@ -36,12 +43,11 @@ mark-word-length Fault = omega arith
 mark-word-length Both = omega arith
 
 mark-line-length : (m : Mark) → m .author ≤ maxAuthor → length (markLine m) ≤ 11
-unfolding markLine ascii codes
+unfolding markLine
 mark-line-length m h =
     let d : length (decimal (m .author)) ≤ 2 = decimal-length (m .author) (omega arith) in
     let w = mark-word-length (m .kind) in
-    let e = length-append (markWord (m .kind)) (ascii ")\n") in
-    let f = length-append (decimal (m .author)) (ascii " " ++ (markWord (m .kind) ++ ascii ")\n")) in
+    let e = pair-line-length (decimal (m .author)) (markWord (m .kind)) in
     omega arith
 
 bytes-line-length : (bs : List ℕ) → length (bytesLine bs) ≡ 3 + 2 * length bs
@@ -52,12 +58,10 @@ bytes-line-length bs =
     omega arith
 
 author-line-length : (bs : List ℕ) (a : ℕ) → a ≤ maxAuthor → length (authorLine bs a) ≤ 6 + 2 * length bs
-unfolding ascii codes
 author-line-length bs a h =
     let d : length (decimal a) ≤ 2 = decimal-length a (omega arith) in
     let x = hex-length bs in
-    let e = length-append (decimal a) (ascii ")\n") in
-    let f = length-append (hex bs) (ascii " " ++ (decimal a ++ ascii ")\n")) in
+    let e = pair-line-length (hex bs) (decimal a) in
     omega arith
 
 update-line-length : (ident : Update → Id) (u : Update) → length (ident u) ≡ idLength → u .author ≤ maxAuthor → length (updateLine ident u) ≤ 70

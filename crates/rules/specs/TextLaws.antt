@@ -15,7 +15,7 @@ use Rattle.rules.specs.Mark.{Mark}
 use Rattle.rules.specs.Parts.{Parts}
 use Rattle.bytes_ascii.specs.Ascii.{codes, ascii, hex, decimal}
 use Rattle.bytes_ascii.specs.AsciiLaws.{Digits, digits-nil, digits-cons, hex-injective, hex-digits, decimal-digits, decimal-injective, cut}
-use Rattle.rules.specs.Report.{authorLine, updateLine, setLine, bytesLine, idLine, markWord, markLine, partText, readOffsText, opening, reportText}
+use Rattle.rules.specs.Report.{pairLine, authorLine, updateLine, setLine, bytesLine, idLine, markWord, markLine, partText, readOffsText, opening, reportText}
 
 -- the words of the marks: letters, and one for each kind
 
@@ -68,21 +68,32 @@ module _ {A : Type 0} {line key : A → List ℕ} (readable : Readable line key)
   part-reads word xs ys r r′ e =
       lines-read xs ys r r′ (append-cancel-left (ascii word) (concatMap line xs ++ 41 ∷ 10 ∷ r) (concatMap line ys ++ 41 ∷ 10 ∷ r′) e)
 
--- lines with an author: they show their bytes and the author's digits
+-- lines of two words, neither of which has a separator: they show both
 
-author-line : (bs : List ℕ) (a : ℕ) (rest : List ℕ) → authorLine bs a ++ rest ≡ 40 ∷ (hex bs ++ 32 ∷ (decimal a ++ 41 ∷ 10 ∷ rest))
+pair-line : (x y rest : List ℕ) → pairLine x y ++ rest ≡ 40 ∷ (x ++ 32 ∷ (y ++ 41 ∷ 10 ∷ rest))
 unfolding ascii codes
-author-line bs a rest =
+pair-line x y rest =
     ap {B = List ℕ} (λ l. 40 ∷ l)
-    (append-assoc (hex bs) (32 ∷ (decimal a ++ 41 ∷ 10 ∷ [])) rest
-    ∙ ap {B = List ℕ} (λ l. hex bs ++ 32 ∷ l) (append-assoc (decimal a) (41 ∷ 10 ∷ []) rest))
+    (append-assoc x (32 ∷ (y ++ 41 ∷ 10 ∷ [])) rest
+    ∙ ap {B = List ℕ} (λ l. x ++ 32 ∷ l) (append-assoc y (41 ∷ 10 ∷ []) rest))
+
+pair-line-reads : (x x′ y y′ r r′ : List ℕ) → Digits x → Digits x′ → Digits y → Digits y′ → pairLine x y ++ r ≡ pairLine x′ y′ ++ r′ → (x ≡ x′) × (y ≡ y′) × (r ≡ r′)
+pair-line-reads x x′ y y′ r r′ dx dx′ dy dy′ e =
+    let h = cut x x′ dx dx′ (omega arith) (omega arith) (tail-eq-of-cons-eq (sym (pair-line x y r) ∙ e ∙ pair-line x′ y′ r′)) in
+    let k = cut y y′ dy dy′ (omega arith) (omega arith) (h .1) in
+    (h .0, k .0, tail-eq-of-cons-eq (k .1))
 
 author-line-reads : (bs cs : List ℕ) (a b : ℕ) (r r′ : List ℕ) → authorLine bs a ++ r ≡ authorLine cs b ++ r′ → (bs ≡ cs) × (decimal a ≡ decimal b) × (r ≡ r′)
 author-line-reads bs cs a b r r′ e =
-    let q = tail-eq-of-cons-eq (sym (author-line bs a r) ∙ e ∙ author-line cs b r′) in
-    let h = cut (hex bs) (hex cs) (hex-digits bs) (hex-digits cs) (omega arith) (omega arith) q in
-    let k = cut (decimal a) (decimal b) (decimal-digits a) (decimal-digits b) (omega arith) (omega arith) (h .1) in
-    (hex-injective bs cs (h .0), k .0, tail-eq-of-cons-eq (k .1))
+    let h = pair-line-reads (hex bs) (hex cs) (decimal a) (decimal b) r r′ (hex-digits bs) (hex-digits cs) (decimal-digits a) (decimal-digits b) e in
+    (hex-injective bs cs (h .0), h .1, h .2)
+
+mark-line-reads : (m n : Mark) (r r′ : List ℕ) → markLine m ++ r ≡ markLine n ++ r′
+    → (decimal (m .author) ≡ decimal (n .author)) × (markWord (m .kind) ≡ markWord (n .kind)) × (r ≡ r′)
+unfolding markLine
+mark-line-reads m n r r′ e =
+    pair-line-reads (decimal (m .author)) (decimal (n .author)) (markWord (m .kind)) (markWord (n .kind)) r r′
+    (decimal-digits (m .author)) (decimal-digits (n .author)) (word-letters (m .kind)) (word-letters (n .kind)) e
 
 update-readable : (ident : Update → Id) → Readable (updateLine ident) ident
 unfolding updateLine ascii codes
@@ -107,7 +118,7 @@ set-readable =
       opens = λ e. (hex (e .tag) ++ (ascii " " ++ (decimal (e .author) ++ ascii ")\n")), refl);
       reads = λ e f r r′ p.
           let h = author-line-reads (e .tag) (f .tag) (e .author) (f .author) r r′ p in
-          (λ i. ascii "(" ++ (hex (h .0 i) ++ (ascii " " ++ (h .1 i ++ ascii ")\n"))), h .2);
+          (λ i. pairLine (hex (h .0 i)) (h .1 i), h .2);
     }
 
 -- other lines
@@ -133,23 +144,6 @@ id-readable : (ident : Update → Id) → Readable (idLine ident) ident
 unfolding idLine
 id-readable ident = record { opens = λ u. bytes-readable .opens (ident u); reads = λ x y. bytes-readable .reads (ident x) (ident y) }
 
--- lines of marks: they show the author's digits and the word
-
-mark-text : (m : Mark) (rest : List ℕ) → markLine m ++ rest ≡ 40 ∷ (decimal (m .author) ++ 32 ∷ (markWord (m .kind) ++ 41 ∷ 10 ∷ rest))
-unfolding markLine ascii codes
-mark-text m rest =
-    ap {B = List ℕ} (λ l. 40 ∷ l)
-    (append-assoc (decimal (m .author)) (32 ∷ (markWord (m .kind) ++ 41 ∷ 10 ∷ [])) rest
-    ∙ ap {B = List ℕ} (λ l. decimal (m .author) ++ 32 ∷ l) (append-assoc (markWord (m .kind)) (41 ∷ 10 ∷ []) rest))
-
-mark-line-reads : (m n : Mark) (r r′ : List ℕ) → markLine m ++ r ≡ markLine n ++ r′
-    → (decimal (m .author) ≡ decimal (n .author)) × (markWord (m .kind) ≡ markWord (n .kind)) × (r ≡ r′)
-mark-line-reads m n r r′ e =
-    let q = tail-eq-of-cons-eq (sym (mark-text m r) ∙ e ∙ mark-text n r′) in
-    let h = cut (decimal (m .author)) (decimal (n .author)) (decimal-digits (m .author)) (decimal-digits (n .author)) (omega arith) (omega arith) q in
-    let k = cut (markWord (m .kind)) (markWord (n .kind)) (word-letters (m .kind)) (word-letters (n .kind)) (omega arith) (omega arith) (h .1) in
-    (h .0, k .0, tail-eq-of-cons-eq (k .1))
-
 -- a line of the marks shows its mark
 pub mark-line-injective : (m n : Mark) → m .author ≤ maxAuthor → n .author ≤ maxAuthor → markLine m ≡ markLine n → m ≡ n
 mark-line-injective m n h g p =
@@ -165,7 +159,7 @@ mark-readable =
       opens = λ m. (decimal (m .author) ++ (ascii " " ++ (markWord (m .kind) ++ ascii ")\n")), refl);
       reads = λ m n r r′ p.
           let h = mark-line-reads m n r r′ p in
-          (λ i. ascii "(" ++ (h .0 i ++ (ascii " " ++ (h .1 i ++ ascii ")\n"))), h .2);
+          (λ i. pairLine (h .0 i) (h .1 i), h .2);
     }
 
 -- What the parts of both forms show: the lines of the marks and of the set, and the list.

@@ -182,23 +182,19 @@ impl Tally {
     fn cover(&mut self, output: &[u8]) {
         let text = std::str::from_utf8(output).unwrap();
         let (answers, report) = text.split_at(text.find("(ledger 1\n").unwrap());
-        let size = |part: &str| {
-            let start = report.find(&format!("\n({part}\n")).unwrap() + part.len() + 3;
-            report[start..].lines().position(|l| l == ")").unwrap()
-        };
-        // The authors of each tag of the set, as the lines `(TAG author)` show them.
-        let mut authors: BTreeMap<&str, Vec<u8>> = BTreeMap::new();
-        let set = report.find("\n(set\n").unwrap() + "\n(set\n".len();
-        for entry in report[set..].lines().take_while(|&l| l != ")") {
-            let (tag, author) = entry[1..entry.len() - 1].split_once(' ').unwrap();
-            authors.entry(tag).or_default().push(author.parse().unwrap());
-        }
-        // The words of the marks, by author, and the authors of the void updates.
+        // What the lines of a part have between their brackets; where that is two words, the two.
         let part = |name: &str| -> Vec<&str> {
             let start = report.find(&format!("\n({name}\n")).unwrap() + name.len() + 3;
             report[start..].lines().take_while(|&l| l != ")").map(|l| &l[1..l.len() - 1]).collect()
         };
-        let marks: BTreeMap<&str, &str> = part("marks").into_iter().map(|l| l.split_once(' ').unwrap()).collect();
+        let pairs = |name: &str| part(name).into_iter().map(|l| l.split_once(' ').unwrap());
+        let size = |name: &str| part(name).len();
+        // The authors of each tag of the set, and the word of each marked author.
+        let mut authors: BTreeMap<&str, Vec<u8>> = BTreeMap::new();
+        for (tag, author) in pairs("set") {
+            authors.entry(tag).or_default().push(author.parse().unwrap());
+        }
+        let marks: BTreeMap<&str, &str> = pairs("marks").collect();
         let marked = |word: &str| marks.values().any(|&w| w == word);
         let faulty = |author: &str| matches!(marks.get(author), Some(&"fault" | &"both"));
         for what in COVERED {
@@ -212,9 +208,7 @@ impl Tally {
                 "a mark for a fork" => marked("fork"),
                 "a mark for a fault" => marked("fault"),
                 "a mark for both" => marked("both"),
-                "a void update of an author without a fault" => {
-                    part("void").into_iter().any(|l| !faulty(l.split_once(' ').unwrap().1))
-                }
+                "a void update of an author without a fault" => pairs("void").any(|(_, author)| !faulty(author)),
                 "some set" => size("set") > 0,
                 "a tag of 2 authors" => authors.values().any(|by| by.len() > 1),
                 "a tag of 3 authors" => authors.values().any(|by| by.len() > 2),

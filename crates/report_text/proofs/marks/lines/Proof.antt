@@ -7,6 +7,7 @@ use lib.ListN.{length}
 use denote.Ref.{now}
 use Rattle.bytes_print.specs.Page.{Prints}
 use Rattle.bytes_print.proofs.Printing.{both, nothing, same-text}
+use Rattle.bitset.specs.Bits.{has}
 use Rattle.update_format.specs.Update.{maxAuthor}
 use Rattle.report_wording.specs.Lines.{maxReportLine}
 use Rattle.report_text.proofs.MarkLaws.{linesBelow, lines-start, lines-more, lines-all}
@@ -15,7 +16,7 @@ use Rattle.report_text.proofs.marks.lines.Tie as tie
 
 abbrev Inv-loop : tie.InvT-loop
 Inv-loop forked faulty page₀ at end₀ a₀ page end a =
-    (a ≤ suc maxAuthor) × (length page ≡ length page₀) × (end ≤ at + maxReportLine * a) × Prints page₀ at (linesBelow forked faulty a) page end
+    (a ≤ suc maxAuthor) × (length page ≡ length page₀) × (end ≤ at + maxReportLine * a) × Prints page₀ at (linesBelow (has forked) (has faulty) a) page end
 
 abbrev μ-loop : tie.MeasureT-loop
 μ-loop forked faulty page₀ at end₀ a₀ page end a = suc maxAuthor - a
@@ -34,7 +35,7 @@ loop-holds : tie.Need-loop-holds Inv-loop μ-loop
 loop-holds c =
     let at-start = c .before in
     let args = at-start .args in
-    (search needs, refl, omega arith, same-text (lines-start (args .forked) (args .faulty)) (nothing (now (args .page)) (args .at)))
+    (search needs, refl, omega arith, same-text (lines-start (has (args .forked)) (has (args .faulty))) (nothing (now (args .page)) (args .at)))
 
 shown-line-requires : tie.Need-shown-line-requires Inv-loop μ-loop
 shown-line-requires c κs = record { line-within = omega arith; author-within = search needs }
@@ -55,7 +56,7 @@ loop-again c =
       search needs,
       omega (arith, line .kept .1 .1 .1 .0, at-loop .loop .inv .1),
       omega (arith, line .ensures .1, at-loop .loop .inv .2),
-      same-text (lines-more (args .forked) (args .faulty) (at-loop .loop .a)) (both (at-loop .loop .inv .3) (line .ensures .0)),
+      same-text (lines-more (has (args .forked)) (has (args .faulty)) (at-loop .loop .a)) (both (at-loop .loop .inv .3) (line .ensures .0)),
     )
 
 same-length : tie.Need-same-length Inv-loop μ-loop
@@ -69,7 +70,7 @@ returns c =
     let at-start = loop→start at-loop in
     let loop = at-loop .loop in
     let args = at-start .args in
-    (same-text (lines-all (args .forked) (args .faulty) (loop .a) (search needs) (search needs)) (loop .inv .3), omega arith)
+    (same-text (lines-all (has (args .forked)) (has (args .faulty)) (loop .a) (search needs) (search needs)) (loop .inv .3), omega arith)
 
 pub lines-spec : {M : Type 1} → statement M
 lines-spec =

@@ -2,7 +2,8 @@
 use native.Mathlib.Omega.{arith}
 use borrow.Author.Needs.{needs}
 use Rattle.bytes_print.proofs.Printing.{both, same-text}
-use Rattle.report_text.specs.Parts.{setMarks}
+use Rattle.bitset.specs.Bits.{has}
+use Rattle.report_parts.specs.PlaceParts.{authorMarks}
 use Rattle.report_text.proofs.MarkLaws.{marks-is}
 use Rattle.report_text.proofs.marks.print.Statement.{statement}
 use Rattle.report_text.proofs.marks.print.Tie as tie
@@ -45,7 +46,7 @@ returns c =
     let at-put = lines→put at-lines in
     let at-start = put→start at-put in
     let args = at-start .args in (
-      same-text (marks-is (setMarks (args .forked) (args .faulty))) (both (at-put .put .ensures) (both (at-lines .lines .ensures .0) (at-put2 .put2 .ensures))),
+      same-text (marks-is (authorMarks (has (args .forked)) (has (args .faulty)))) (both (at-put .put .ensures) (both (at-lines .lines .ensures .0) (at-put2 .put2 .ensures))),
       omega (arith, at-put2 .put2 .ensures .past, at-lines .lines .ensures .1, at-put .put .ensures .past),
     )
 

@@ -1,6 +1,7 @@
 -- `shown_line` meets its contract, by whether the author is in the sets.
 use borrow.Author.Needs.{needs}
 use denote.Ref.{now}
+use Rattle.bitset.specs.Bits.{has}
 use Rattle.bytes_print.proofs.Printing.{nothing, same-text}
 use Rattle.report_text.proofs.MarkLaws.{line-both, line-fork, line-fault, line-left}
 use Rattle.report_text.proofs.marks.shown_line.Statement.{statement}
@@ -56,7 +57,7 @@ returns-both c =
     let at-start = has→start at-has in
     let line = at-mark-line .mark-line in
     let args = at-start .args in
-    (same-text (line-both (args .forked) (args .faulty) (args .a) (at-has2 .has2 .ensures) (at-has .has .ensures) (in-then1 .if1 .taken) (in-then2 .if2 .taken)) (line .ensures .0), line .ensures .1)
+    (same-text (line-both (has (args .forked)) (has (args .faulty)) (args .a) (at-has2 .has2 .ensures) (at-has .has .ensures) (in-then1 .if1 .taken) (in-then2 .if2 .taken)) (line .ensures .0), line .ensures .1)
 
 same-length-2 : tie.Need-same-length-2
 same-length-2 c = search needs
@@ -71,7 +72,7 @@ returns-fork c =
     let at-start = has→start at-has in
     let line = at-mark-line2 .mark-line2 in
     let args = at-start .args in
-    (same-text (line-fork (args .forked) (args .faulty) (args .a) (at-has2 .has2 .ensures) (at-has .has .ensures) (in-then1 .if1 .taken) (in-else2 .if2 .left)) (line .ensures .0), line .ensures .1)
+    (same-text (line-fork (has (args .forked)) (has (args .faulty)) (args .a) (at-has2 .has2 .ensures) (at-has .has .ensures) (in-then1 .if1 .taken) (in-else2 .if2 .left)) (line .ensures .0), line .ensures .1)
 
 same-length-3 : tie.Need-same-length-3
 same-length-3 c = search needs
@@ -86,7 +87,7 @@ returns-fault c =
     let at-start = has→start at-has in
     let line = at-mark-line3 .mark-line3 in
     let args = at-start .args in
-    (same-text (line-fault (args .forked) (args .faulty) (args .a) (at-has2 .has2 .ensures) (at-has .has .ensures) (in-else1 .if1 .left) (in-then3 .if3 .taken)) (line .ensures .0), line .ensures .1)
+    (same-text (line-fault (has (args .forked)) (has (args .faulty)) (args .a) (at-has2 .has2 .ensures) (at-has .has .ensures) (in-else1 .if1 .left) (in-then3 .if3 .taken)) (line .ensures .0), line .ensures .1)
 
 returns-left : tie.Need-returns-4
 returns-left c =
@@ -95,7 +96,7 @@ returns-left c =
     let at-has = at-has2 .before in
     let at-start = has→start at-has in
     let args = at-start .args in
-    (same-text (line-left (args .forked) (args .faulty) (args .a) (at-has2 .has2 .ensures) (at-has .has .ensures) (in-else1 .if1 .left) (c .if3 .left)) (nothing (now (args .page)) (args .at)), search needs)
+    (same-text (line-left (has (args .forked)) (has (args .faulty)) (args .a) (at-has2 .has2 .ensures) (at-has .has .ensures) (in-else1 .if1 .left) (c .if3 .left)) (nothing (now (args .page)) (args .at)), search needs)
 
 pub shown-line-spec : {M : Type 1} → statement M
 shown-line-spec =
