@@ -1,6 +1,6 @@
 -- What an offer answers, from what the calls within it answered.
 use mathlib.Core.Path.{_≡_, sym, ap, subst, _∙_}
-use Prim.Native.Nat.{ℕ, _-_, _*_, _<_}
+use Prim.Native.Nat.{ℕ, _*_, _<_}
 use mathlib.Core.List.{List}
 use mathlib.Core.Option.{none, some}
 use mathlib.Core.Bool.{true, false}
@@ -14,12 +14,13 @@ use Rattle.update_format.specs.declared.ParseResult.{ParseResult}
 use Rattle.update_format.specs.declared.ParseResult.the-variants.{Update as Accepted, Refused as NotRead}
 use Rattle.ledger_state.specs.declared.Ledger.{Ledger}
 use Rattle.bytes_copy.specs.Overwritten.{overwritten}
-use Rattle.ledger_state.specs.State.{places, placeAt, findIn, isHeld, isVoid, standingCount}
+use Rattle.ledger_state.specs.State.{places, placeAt, findIn}
 use Rattle.ledger_state.specs.View.{bookOf}
 use Rattle.ledger_state.specs.Row1.{sound}
 use Rattle.ledger_refusals.specs.declared.Refusal.the-variants.{Unfit, Malformed as Bad, Full}
 use Rattle.ledger_offering.specs.declared.Answer.the-variants.{Taken, Known, Refused}
 use Rattle.ledger_offering.specs.declared.Offered.{Offered}
+use Rattle.ledger_offering.proofs.TakeLaws.{TookWith}
 use Rattle.ledger_offering.specs.Offer.{left, Took, Formed, Offering, unfit, malformed, known, full, taken}
 
 module _ (l : Ledger) (s b : List ℕ) where
@@ -43,11 +44,10 @@ module _ (l : Ledger) (s b : List ℕ) where
     pub offered-full : findIn (bookOf l) i ≡ none → bookOf l .used ≡ places → {o : Offered} → o ≡ left l (Refused Full) → Offering l s b o s
     offered-full h n e = rw e (full (f .value) (f .is-sound) (f .decodes) (ap (findIn (bookOf l)) (sym hashed) ∙ h) n)
 
-    -- a place is taken: the new place, and the counts after and before
-    pub offered-taken : findIn (bookOf l) i ≡ none → bookOf l .used < places → {r : Ledger} {s′ : List ℕ} → Took (bookOf l) s b (f .value) (bookOf r) s′
-        → s′ ≡ overwritten s (maxLength * bookOf l .used) b → {h₁ h₀ v₁ v₀ : ℕ}
-        → h₁ ≡ standingCount isHeld (bookOf r) → h₀ ≡ standingCount isHeld (bookOf l) → v₁ ≡ standingCount isVoid (bookOf r) → v₀ ≡ standingCount isVoid (bookOf l)
-        → Offering l s b (record { answer = Taken (placeAt (bookOf r) (bookOf l .used) .standing) (h₁ - h₀) (v₁ - v₀); ledger = r }) s′
-    offered-taken h n {r} t w e₁ e₀ d₁ d₀ =
-        rw (e₁, e₀, d₁, d₀, w)
-        (taken (f .value) r (f .is-sound) (f .decodes) (ap (findIn (bookOf l)) (sym hashed) ∙ h) n (subst (Took (bookOf l) s b (f .value) (bookOf r)) w t))
+    -- a place is taken: the new place, and the two counts
+    pub offered-taken : findIn (bookOf l) i ≡ none → bookOf l .used < places → {r : Ledger} {s′ : List ℕ} {held void : ℕ}
+        → TookWith (bookOf l) s b (f .value) held void (bookOf r) s′ → s′ ≡ overwritten s (maxLength * bookOf l .used) b
+        → Offering l s b (record { answer = Taken (placeAt (bookOf r) (bookOf l .used) .standing) held void; ledger = r }) s′
+    offered-taken h n {r} t w =
+        rw (t .held-right, t .void-right, w)
+        (taken (f .value) r (f .is-sound) (f .decodes) (ap (findIn (bookOf l)) (sym hashed) ∙ h) n (subst (Took (bookOf l) s b (f .value) (bookOf r)) w (t .took)))

@@ -1,6 +1,6 @@
 -- Taking the next place: the ledger with the place taken, and what it is once settled.
 use mathlib.Core.Path.{_≡_, refl, sym, ap, subst, _∙_}
-use Prim.Native.Nat.{ℕ, _+_, _*_, _≤_, _<_}
+use Prim.Native.Nat.{ℕ, _+_, _-_, _*_, _<_}
 use native.Mathlib.Nat.{eq-or-lt-of-le}
 use native.Mathlib.Omega.{arith}
 use mathlib.Core.Logic.{⊎-elim}
@@ -9,13 +9,12 @@ use mathlib.Core.Option.{none}
 use mathlib.Core.Bool.{Bool, true, false, cond}
 use lib.ListN.{length}
 use Rattle.bytes_order.specs.Member.{_∈_}
-use Rattle.bytes_order.specs.BoolLaws.{true-false}
 use Rattle.sha256_fips180.specs.Fips180.{SHA-256}
 use Rattle.update_format.specs.Update.{Id, Update, maxLength}
 use Rattle.update_format.specs.Decode.{update, decode}
 use Rattle.update_format.specs.Laws.{decode-sound, accepted}
 use Rattle.bitset.specs.Below.{countBelow}
-use Rattle.bitset.specs.BelowLaws.{countBelow-mono, countBelow-more}
+use Rattle.bitset.specs.BelowLaws.{countBelow-cong, countBelow-more}
 use Rattle.bitset.specs.BitsLaws.{within-more, within-none}
 use Rattle.ledger_state.specs.declared.Standing.{Standing}
 use Rattle.ledger_state.specs.declared.Standing.the-variants.{Waiting}
@@ -24,12 +23,26 @@ use Rattle.ledger_state.specs.State.{places, Place, Book, placeAt, withTaken, f
 use Rattle.ledger_state.specs.Row1.{sound}
 use Rattle.ledger_state.specs.Row1Laws.{SoundPlace, sound→, sound←}
 use Rattle.ledger_settling.specs.Settle.{OthersWait, SettledFrom}
+use Rattle.ledger_settling.specs.Worklist.{NewestWaits}
 use Rattle.ledger_state.specs.Stands.{ident, Holds, Truthful, Stands}
 use Rattle.ledger_state.specs.FindLaws.{find-none}
 use Rattle.ledger_state.specs.TakeLaws.{taken-new, taken-old, take-holds, take-truthful}
 use Rattle.ledger_settling.specs.WaitLaws.{taken-others}
-use Rattle.ledger_settling.specs.SettleLaws.{settled-kept-all, settled-sound, settled-stands}
+use Rattle.ledger_settling.specs.SettleLaws.{settled-kept, settled-sound, settled-stands}
+use Rattle.ledger_settling.specs.CountLaws.{reached-counts}
 use Rattle.ledger_offering.specs.Offer.{Took}
+
+-- the place that is taken is the newest, and waits
+pub taken-newest : (l : Book) (i : Id) (n : ℕ) {t : Book} → t ≡ withTaken l i n → l .used < places → NewestWaits t (l .used)
+taken-newest l i n grown free =
+    subst (λ (m : Book). NewestWaits m (l .used)) (sym grown)
+    (record { used-within = omega arith; newest = refl; waiting = ap (λ (p : Place). p .standing) (taken-new l i n) })
+
+-- what taking a place comes to, with the two counts: "held after less held before, and void after less void before"
+pub record TookWith (l : Book) (s b : List ℕ) (u : Update) (held void : ℕ) (r : Book) (s′ : List ℕ) : Type 0 where
+  pub took : Took l s b u r s′
+  pub held-right : held ≡ standingCount isHeld r - standingCount isHeld l
+  pub void-right : void ≡ standingCount isVoid r - standingCount isVoid l
 
 -- the update u with bytes b is offered, and a place is free
 module _ (l : Book) (s b : List ℕ) (u : Update) (fits : sound l s ≡ true) (decodes : decode b ≡ update u) (free : l .used < places) where
@@ -70,11 +83,11 @@ module _ (l : Book) (s b : List ℕ) (u : Update) (fits : sound l s ≡ true) (d
             (eq-or-lt-of-le (omega arith));
       })
 
-  -- i is the id, t the ledger with the place taken, r what it is once settled, and s′ the store with the bytes written
-  module _ {i : Id} (hashed : i ≡ SHA-256 b) (unknown : findIn l i ≡ none) {t r : Book} (grown : t ≡ withTaken l i (length b)) {s′ : List ℕ}
-      (wrote : s′ ≡ overwritten s (maxLength * l .used) b) (same : length s′ ≡ length s) (settling : SettledFrom t s′ r) where
-    settled : SettledFrom taken s′ r
-    settled = subst (λ (m : Book). SettledFrom m s′ r) (grown ∙ ap (λ (j : Id). withTaken l j (length b)) hashed) settling
+  -- i is the id, t the ledger with the place taken, r what it is once settled, with the two counts, and s′ the store with the bytes written
+  module _ {i : Id} (hashed : i ≡ SHA-256 b) (unknown : findIn l i ≡ none) {t r : Book} {held void : ℕ} (grown : t ≡ withTaken l i (length b)) {s′ : List ℕ}
+      (wrote : s′ ≡ overwritten s (maxLength * l .used) b) (same : length s′ ≡ length s) (settling : SettledFrom t s′ held void r) where
+    settled : SettledFrom taken s′ held void r
+    settled = subst (λ (m : Book). SettledFrom m s′ held void r) (grown ∙ ap (λ (j : Id). withTaken l j (length b)) hashed) settling
 
     taken-stands : (us : List Update) → Stands l s us → Stands r s′ (us ++ (u ∷ []))
     unfolding ident
@@ -92,9 +105,9 @@ module _ (l : Book) (s b : List ℕ) (u : Update) (fits : sound l s ≡ true) (d
         (subst (OthersWait taken) (sym wrote) (taken-others l s us h (SHA-256 b) b free (accepted b u decodes .short)))
         settled
 
-    pub took : Took l s b u r s′
-    took =
-        let kept = settled-kept-all taken s′ r settled in
+    place-taken : Took l s b u r s′
+    place-taken =
+        let kept = settled-kept taken s′ r settled in
         record {
           used-next = kept .used-kept;
           new-id = kept .id-kept (l .used) ∙ ap (λ (p : Place). p .id) at-new;
@@ -109,27 +122,22 @@ module _ (l : Book) (s b : List ℕ) (u : Update) (fits : sound l s ≡ true) (d
           settles = taken-stands;
         }
 
--- a standing other than waiting is as often there as before, or more often
-module _ {l : Book} {s b : List ℕ} {u : Update} {r : Book} {s′ : List ℕ} (t : Took l s b u r s′) where
-  one-more : (c : Bool) (n : ℕ) → n ≤ cond c (n + 1) n
-  one-more true n = omega arith
-  one-more false n = omega arith
+    -- the place that is taken waits, so each other standing is as often there as before
+    count-taken : (p : Standing → Bool) → p Waiting ≡ false → standingCount p taken ≡ standingCount p l
+    unfolding standingCount
+    count-taken p w =
+        let before : ℕ → Bool = λ k. p (placeAt l k .standing) in
+        let after : ℕ → Bool = λ k. p (placeAt taken k .standing) in
+        countBelow-more (l .used) after
+        ∙ ap (λ (c : Bool). cond c (countBelow (l .used) after + 1) (countBelow (l .used) after)) (ap (λ (q : Place). p (q .standing)) at-new ∙ w)
+        ∙ countBelow-cong (l .used) after before (λ k g. ap (λ (q : Place). p (q .standing)) (at-old k (λ (e : k ≡ l .used). omega arith)))
 
-  count-grows : (p : Standing → Bool) → p Waiting ≡ false → standingCount p l ≤ standingCount p r
-  unfolding standingCount
-  count-grows p w =
-      let before : ℕ → Bool = λ k. p (placeAt l k .standing) in
-      let after : ℕ → Bool = λ k. p (placeAt r k .standing) in
-      let stays : (k : ℕ) → k < l .used → before k ≡ true → after k ≡ true =
-      λ k h e. ap (λ (q : Place). p (q .standing)) (t .old-settled k h (λ q. true-false e (ap p q ∙ w))) ∙ e in
-      let last : countBelow (r .used) after ≡ cond (after (l .used)) (countBelow (l .used) after + 1) (countBelow (l .used) after) =
-      ap (λ (n : ℕ). countBelow n after) (t .used-next) ∙ countBelow-more (l .used) after in
-      omega (arith, countBelow-mono (l .used) before after stays, last, one-more (after (l .used)) (countBelow (l .used) after))
-
-  pub held-grows : standingCount isHeld l ≤ standingCount isHeld r
-  unfolding isHeld
-  held-grows = count-grows isHeld refl
-
-  pub void-grows : standingCount isVoid l ≤ standingCount isVoid r
-  unfolding isVoid
-  void-grows = count-grows isVoid refl
+    pub took-with : TookWith l s b u held void r s′
+    unfolding isHeld isVoid
+    took-with =
+        let counts = reached-counts (settled .reached) in
+        record {
+          took = place-taken;
+          held-right = omega (arith, counts .held-more, count-taken isHeld refl);
+          void-right = omega (arith, counts .void-more, count-taken isVoid refl);
+        }

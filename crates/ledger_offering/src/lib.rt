@@ -3,8 +3,6 @@ ghost use mathlib.Core.Path.{_≡_};
 ghost use Rattle.ledger_state.specs.View.{bookOf};
 ghost use Rattle.ledger_offering.specs.Offer.{Offering, left, Formed, Takeable};
 use ledger_refusals::Refusal;
-use ledger_row1::held_count;
-use ledger_row1::void_count;
 use ledger_settling::settle;
 use ledger_state::Found;
 use ledger_state::Ledger;
@@ -50,16 +48,15 @@ fn take(ledger: Ledger, store: &mut [u8], update: &[u8], id: Id) -> Offered
 {
     let k = ledger.used;
     write_at(store, k, update);
-    let next = settle(ledger.taken(id, update.len()), store);
+    let settled = settle(ledger.taken(id, update.len()), store, k);
+    let next = settled.ledger;
     let p = next.places[k];
     let standing = p.standing;
-    let held = held_count(next) - held_count(ledger);
-    let void = void_count(next) - void_count(ledger);
     Offered {
         answer: Answer::Taken {
             standing: standing,
-            held: held,
-            void: void,
+            held: settled.held,
+            void: settled.void,
         },
         ledger: next,
     }

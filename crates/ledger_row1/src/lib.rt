@@ -1,16 +1,11 @@
-// What a whole ledger shows: whether row 1 of the table applies, and how many places stand so.
+// Whether row 1 of the table applies to a ledger and its store.
 ghost use mathlib.Core.Path.{_≡_};
-ghost use Prim.Native.Nat.{_≤_};
-ghost use Rattle.ledger_state.specs.State.{places, isHeld, isVoid, standingCount};
 ghost use Rattle.ledger_state.specs.View.{placeOf, bookOf};
-ghost use Rattle.ledger_state.specs.Number.{hasStanding};
 ghost use Rattle.ledger_state.specs.Row1.{sound, soundPlace};
 use ledger_state::Ledger;
 use ledger_state::PLACES;
 use ledger_state::Place;
 use ledger_state::STORE_LENGTH;
-use ledger_state::Standing;
-use ledger_state::places::has_standing;
 use update_format::bounds::MAX_LENGTH;
 use update_format::bounds::MIN_LENGTH;
 
@@ -46,37 +41,4 @@ pub fn sound(l: Ledger, store: &[u8]) -> bool
         k += 1;
     }
     true
-}
-
-// How many taken places have this standing.
-fn count(l: Ledger, standing: Standing) -> usize
-    requires { ⌜ bookOf l .used ≤ places ⌝ }
-    ensures { λ r. ⌜ r ≡ standingCount (hasStanding standing) (bookOf l) ⌝ }
-{
-    let used = l.used;
-    let mut n: usize = 0;
-    let mut j: usize = 0;
-    while j < used {
-        if has_standing(l.places[j], standing) {
-            n += 1;
-        }
-        j += 1;
-    }
-    n
-}
-
-// How many taken places are held.
-pub fn held_count(l: Ledger) -> usize
-    requires { ⌜ bookOf l .used ≤ places ⌝ }
-    ensures { λ r. ⌜ r ≡ standingCount isHeld (bookOf l) ⌝ }
-{
-    count(l, Standing::Held)
-}
-
-// How many taken places are void.
-pub fn void_count(l: Ledger) -> usize
-    requires { ⌜ bookOf l .used ≤ places ⌝ }
-    ensures { λ r. ⌜ r ≡ standingCount isVoid (bookOf l) ⌝ }
-{
-    count(l, Standing::Void)
 }

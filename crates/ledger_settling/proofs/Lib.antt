@@ -1,1 +1,3 @@
-pub mod Settling
+pub mod Naming
+pub mod Judging
+pub mod Loops

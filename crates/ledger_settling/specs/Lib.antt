@@ -1,5 +1,7 @@
 pub mod Settle
-pub mod Passes
+pub mod Worklist
 pub mod SettleLaws
+pub mod CountLaws
 pub mod WaitLaws
-pub mod SuccessorLaws
+pub mod DueLaws
+pub mod WorklistLaws

@@ -1,29 +1,33 @@
-// Settling: the newest place and its successors, which are the places whose updates name its id; and passes over the waiting places.
+// Settling by a worklist: the newest place is judged; of each place that is settled, the waiting places whose updates name it are judged, until no settled place is left
+// whose successors were not. So the newest place is judged once, and any other at most once for each of its predecessors that is settled.
 ghost use mathlib.Core.Path.{_≡_};
-ghost use mathlib.Core.Bool.{_&&_, _||_};
-ghost use Prim.Native.Nat.{_*_, _≤_, _<_};
+ghost use mathlib.Core.Bool.{_&&_};
+ghost use Prim.Native.Nat.{_*_, _<_};
 ghost use Rattle.update_format.specs.Update.{maxLength};
 ghost use Rattle.update_format.specs.Decode.{slice, decode};
 ghost use Rattle.ledger_state.specs.State.{places, isWaiting};
 ghost use Rattle.ledger_state.specs.View.{bookOf};
-ghost use Rattle.ledger_state.specs.Bounds.{PlaceIn};
-ghost use Rattle.ledger_judging.specs.Judge.{judgeAt};
-ghost use Rattle.ledger_settling.specs.Settle.{outcomeOf, settleBy, passOver, pass, newestSettled, PassedFrom, SettledFrom};
-ghost use Rattle.ledger_settling.specs.Settle.{follows, selected, successors, begun};
+ghost use Rattle.ledger_settling.specs.Settle.{follows, SettledFrom};
+ghost use Rattle.ledger_settling.specs.Worklist.{Roomy, WaitsAt, ListedAt, NewestWaits, Judges, JudgesSuccessors, Empties};
 use ledger_judging::Judgement;
 use ledger_judging::judge;
 use ledger_state::Ledger;
+use ledger_state::PLACES;
 use ledger_state::Place;
 use ledger_state::Standing;
 use ledger_state::places::has_standing;
 use ledger_state::store::stored;
+use update_format::Id;
 use update_format::ParseResult;
 use update_format::bounds::FIRST_PREDECESSOR;
 
-// What a pass over the places comes to, and whether it changed a standing.
-pub struct Pass {
+// How far settling has come: the ledger; the places settled so far, in order, which are the first `held + void` elements of the worklist; and how many of them became held,
+// and how many void.
+pub struct Settling {
     pub ledger: Ledger,
-    pub changed: bool,
+    pub worklist: [usize; PLACES],
+    pub held: usize,
+    pub void: usize,
 }
 
 // Whether the bytes are an update that names the id among its predecessors.
@@ -36,159 +40,92 @@ fn follows(b: &[u8], id: &[u8]) -> bool
     }
 }
 
-// Whether the place k, which is p, waits and is chosen: every place is, where `all`; else those whose updates name the id.
-fn waits_selected(p: Place, store: &[u8], k: usize, all: bool, id: &[u8]) -> bool
+// Whether the place k, which is p, waits and its update names the id.
+fn waits_for(p: Place, store: &[u8], k: usize, id: Id) -> bool
     requires { ⌜ k < places ⌝ }
-    ensures { λ r. ⌜ r ≡ (isWaiting (p .standing) && (all || follows (now (id .entry)) (decode (slice (now (store .entry)) (maxLength * k) (p .length))))) ⌝ }
+    ensures { λ r. ⌜ r ≡ (isWaiting (p .standing) && follows id (decode (slice (now (store .entry)) (maxLength * k) (p .length)))) ⌝ }
 {
     if has_standing(p, Standing::Waiting) {
-        if all {
-            true
-        } else {
-            follows(stored(store, k, p.length), id)
-        }
+        follows(stored(store, k, p.length), &id)
     } else {
         false
     }
 }
 
-// The place k as it is judged.
-fn settle_waiting(l: Ledger, store: &[u8], k: usize) -> Pass
-    requires { ⌜ PlaceIn (bookOf l) k ⌝ }
-    ensures { λ r. ⌜ outcomeOf r ≡ settleBy (bookOf l) k (judgeAt (bookOf l) (now (store .entry)) k) ⌝ }
-{
-    match judge(l, store, k) {
-        Judgement::Holds(up) => {
-            let next = l.with_standing(k, Standing::Held, up);
-            Pass {
-                ledger: next,
-                changed: true,
-            }
-        }
-        Judgement::Fails => {
-            let next = l.with_standing(k, Standing::Void, 0);
-            Pass {
-                ledger: next,
-                changed: true,
-            }
-        }
-        Judgement::Waits => Pass {
-            ledger: l,
-            changed: false,
-        },
-    }
-}
-
-// One pass over the chosen places, from the last to the first.
-fn pass_over(l: Ledger, store: &[u8], all: bool, id: &[u8]) -> Pass
-    requires { ⌜ bookOf l .used ≤ places ⌝ }
-    ensures { λ r. ⌜ outcomeOf r ≡ passOver (selected (bookOf l) (now (store .entry)) all (now (id .entry))) (bookOf l) (now (store .entry)) ⌝ }
-{
-    let mut k = l.used;
-    let mut current = l;
-    let mut changed = false;
-    while 0 < k {
-        k -= 1;
-        if waits_selected(current.places[k], store, k, all, id) {
-            let q = settle_waiting(current, store, k);
-            let next = q.ledger;
-            current = next;
-            changed = changed | q.changed;
-        }
-    }
-    Pass {
-        ledger: current,
-        changed: changed,
-    }
-}
-
-// One pass over the taken places.
-fn pass_all(l: Ledger, store: &[u8]) -> Pass
-    requires { ⌜ bookOf l .used ≤ places ⌝ }
-    ensures { λ r. ⌜ outcomeOf r ≡ pass (bookOf l) (now (store .entry)) ⌝ }
-{
-    pass_over(l, store, true, &store[..0])
-}
-
-// The newest place as it is judged, and whether passes are to be made: not where it goes on waiting.
-fn newest(l: Ledger, store: &[u8]) -> Pass
-    requires { ⌜ bookOf l .used ≤ places ⌝ }
-    ensures { λ r. ⌜ outcomeOf r ≡ newestSettled (bookOf l) (now (store .entry)) ⌝ }
-{
-    let used = l.used;
-    if used == 0 {
-        return Pass {
-            ledger: l,
-            changed: true,
-        };
-    }
-    let k = used - 1;
-    if has_standing(l.places[k], Standing::Waiting) {
-        settle_waiting(l, store, k)
-    } else {
-        Pass {
-            ledger: l,
-            changed: true,
-        }
-    }
-}
-
-// One pass over the taken places whose updates name the newest place's id.
-fn successors(l: Ledger, store: &[u8]) -> Pass
-    requires { ⌜ bookOf l .used ≤ places ⌝ }
-    ensures { λ r. ⌜ outcomeOf r ≡ successors (bookOf l) (now (store .entry)) ⌝ }
-{
-    let used = l.used;
-    if used == 0 {
-        return Pass {
-            ledger: l,
-            changed: false,
-        };
-    }
-    let last = l.places[used - 1];
-    let id = last.id;
-    pass_over(l, store, false, &id)
-}
-
-// The newest place as it is judged; then, where it does not go on waiting, its successors; and whether passes over all places are to be made.
-fn begin(l: Ledger, store: &[u8]) -> Pass
-    requires { ⌜ bookOf l .used ≤ places ⌝ }
-    ensures { λ r. ⌜ outcomeOf r ≡ begun (bookOf l) (now (store .entry)) ⌝ }
-{
-    let first = newest(l, store);
-    let settled = first.ledger;
-    if first.changed {
-        successors(settled, store)
-    } else {
-        Pass {
-            ledger: settled,
-            changed: false,
-        }
-    }
-}
-
-impl Pass {
-    // Passes over the taken places, one after the other, until one changes nothing.
-    fn settle(mut self, store: &[u8]) -> Ledger
-        requires { ⌜ bookOf (self .ledger) .used ≤ places ⌝ }
-        ensures { λ r. ⌜ PassedFrom (outcomeOf self) (now (store .entry)) (bookOf r) ⌝ }
+impl Settling {
+    // The waiting place k as it is judged: on the worklist, if it is settled.
+    fn judged(mut self, store: &[u8], k: usize) -> Settling
+        requires { ⌜ WaitsAt self k ⌝ }
+        ensures { λ r. ⌜ Judges (now (store .entry)) k self r ⌝ }
     {
-        let mut more = self.changed;
-        while more {
-            let next = pass_all(self.ledger, store);
-            more = next.changed;
-            self = next;
+        let l = self.ledger;
+        let end = self.held + self.void;
+        match judge(l, store, k) {
+            Judgement::Holds(up) => {
+                let next = l.with_standing(k, Standing::Held, up);
+                self.ledger = next;
+                self.worklist[end] = k;
+                self.held += 1;
+                self
+            }
+            Judgement::Fails => {
+                let next = l.with_standing(k, Standing::Void, 0);
+                self.ledger = next;
+                self.worklist[end] = k;
+                self.void += 1;
+                self
+            }
+            Judgement::Waits => self,
         }
-        self.ledger
+    }
+
+    // The successors of the place at index i of the worklist as they are judged. (Until the loop comes to a place, it is as it was when the loop began.)
+    fn successors_judged(self, store: &[u8], i: usize) -> Settling
+        requires { ⌜ ListedAt self i ⌝ }
+        ensures { λ r. ⌜ JudgesSuccessors (now (store .entry)) i self r ⌝ }
+    {
+        let n = self.worklist[i];
+        let l = self.ledger;
+        let settled = l.places[n];
+        let id = settled.id;
+        let used = l.used;
+        let mut current = self;
+        let mut k: usize = 0;
+        while k < used {
+            let q = k;
+            k += 1;
+            if waits_for(l.places[q], store, q, id) {
+                current = current.judged(store, q);
+            }
+        }
+        current
+    }
+
+    // The successors of each place of the worklist as they are judged, until the worklist is at its end.
+    fn settle(mut self, store: &[u8]) -> Settling
+        requires { ⌜ Roomy self ⌝ }
+        ensures { λ r. ⌜ Empties (now (store .entry)) self r ⌝ }
+    {
+        let mut i: usize = 0;
+        while i < self.held + self.void {
+            self = self.successors_judged(store, i);
+            i += 1;
+        }
+        self
     }
 }
 
-// Judges the newest place; where it does not go on waiting, judges its successors; where that changes a standing, judges what waits, pass after
-// pass, until a pass changes nothing.
-pub fn settle(l: Ledger, store: &[u8]) -> Ledger
-    requires { ⌜ bookOf l .used ≤ places ⌝ }
-    ensures { λ r. ⌜ SettledFrom (bookOf l) (now (store .entry)) (bookOf r) ⌝ }
+// Settles a ledger whose newest place, k, waits.
+pub fn settle(l: Ledger, store: &[u8], k: usize) -> Settling
+    requires { ⌜ NewestWaits (bookOf l) k ⌝ }
+    ensures { λ r. ⌜ SettledFrom (bookOf l) (now (store .entry)) (r .held) (r .void) (bookOf (r .ledger)) ⌝ }
 {
-    let first = begin(l, store);
+    let begun = Settling {
+        ledger: l,
+        worklist: [0usize; PLACES],
+        held: 0,
+        void: 0,
+    };
+    let first = begun.judged(store, k);
     first.settle(store)
 }

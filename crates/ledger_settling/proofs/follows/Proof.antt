@@ -2,7 +2,7 @@
 use mathlib.Core.Path.{_∙_}
 use borrow.Author.Needs.{needs}
 use denote.Ref.{now}
-use Rattle.ledger_settling.proofs.Settling.{follows-update, follows-refused}
+use Rattle.ledger_settling.proofs.Naming.{follows-update, follows-refused}
 use Rattle.ledger_settling.proofs.follows.Statement.{statement}
 use Rattle.ledger_settling.proofs.follows.Tie as tie
 
