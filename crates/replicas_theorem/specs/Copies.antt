@@ -1,7 +1,7 @@
 -- Demand 3: one claim about two lists of offers, made to two fresh ledgers with stores of their own, and the two full reports asked for at the end.
 --
 -- The reports are equal, byte for byte, exactly when the two sets of well-formed updates are equal; and each report is, byte for byte, the one that the rules
--- give for its set. What is assumed: neither list holds more than 64 distinct well-formed updates, and no two different ones of both lists share a SHA-256.
+-- give for its set: laid out from parts that are those of the rules' definitions. What is assumed: neither list holds more than 64 distinct well-formed updates, and no two different ones of both lists share a SHA-256.
 -- Assumes nothing else. Of short reports (document 02, E10) the same is claimed, but for what unequal sets show.
 use mathlib.Core.Path.{_≡_, refl, sym, _∙_, ap}
 use Prim.Native.Nat.{ℕ}
@@ -9,7 +9,9 @@ use mathlib.Core.List.{List}
 use lib.ListN.{length, take}
 use Rattle.rules.specs.declared.Form.{Form}
 use Rattle.rules.specs.declared.Form.the-variants.{Full}
+use Rattle.rules.specs.Settle.{partsOf}
 use Rattle.rules.specs.Report.{reportOf}
+use Rattle.rules.specs.PartsLaws.{read-right}
 use Rattle.rules.specs.ReportLaws.{same-report, report-shows-set}
 use Rattle.ledger_state.specs.declared.Ledger.{Ledger}
 use Rattle.ledger_state.specs.State.{storeLength}
@@ -18,7 +20,7 @@ use Rattle.ledger_state.specs.Stands.{ident}
 use Rattle.ledger.specs.declared.Reported.the-variants.{Written}
 use Rattle.ledger.specs.Calls.{Calls, stored, offers-stand}
 use Rattle.ledger.specs.Report.{Reporting}
-use Rattle.ledger.specs.AfterOffers.{report-shown}
+use Rattle.ledger.specs.AfterOffers.{LaidOut, report-shown}
 use Rattle.replicas_theorem.specs.Sets.{setOf, reportFor, Fits, NoCollision}
 use Rattle.replicas_theorem.specs.SetLaws.{Apart, first-apart, second-apart, both-apart, updatesOf, updates-distinct, updates-identified, updates-unique}
 use Rattle.replicas_theorem.specs.StoredLaws.{stored-distinct, stored-same}
@@ -42,6 +44,8 @@ pub record SideBySide (xs ys : List (List ℕ)) (first second : List ℕ) : Type
   pub equal-reports-equal-sets : first ≡ second → setOf xs ≡ setOf ys
   pub first-right : first ≡ reportFor Full (setOf xs)
   pub second-right : second ≡ reportFor Full (setOf ys)
+  pub first-laid-out : LaidOut Full (updatesOf xs) first
+  pub second-laid-out : LaidOut Full (updatesOf ys) second
 
 -- What both forms have in common. "Mills with equal sets have equal short reports too, but unequal sets are promised to show only in the full one." (Two unequal sets
 -- with one short report: `unequal-sets`, `equal-short-reports`, `rules/specs/SmallLaws`.)
@@ -49,6 +53,8 @@ pub record SideBySideIn (form : Form) (xs ys : List (List ℕ)) (first second : 
   pub equal-sets-equal-reports : setOf xs ≡ setOf ys → first ≡ second
   pub first-right : first ≡ reportFor form (setOf xs)
   pub second-right : second ≡ reportFor form (setOf ys)
+  pub first-laid-out : LaidOut form (updatesOf xs) first
+  pub second-laid-out : LaidOut form (updatesOf ys) second
 
 -- the report of a copy is that of the updates stored
 copy-report : {form : Form} (bs : List (List ℕ)) (text : List ℕ) → Copy form bs text → text ≡ reportOf form ident (stored bs)
@@ -60,6 +66,12 @@ unfolding reportFor
 copy-right {form} bs text c fits one =
     copy-report bs text c
     ∙ same-report form ident (stored bs) (updatesOf bs) (stored-distinct bs fits one) (updates-distinct bs one) (stored-same bs fits one)
+
+-- the report that the rules give for a set is laid out from the parts that their definitions give
+set-laid-out : {form : Form} (bs : List (List ℕ)) (text : List ℕ) → Apart bs bs → text ≡ reportFor form (setOf bs) → LaidOut form (updatesOf bs) text
+unfolding reportFor reportOf
+set-laid-out bs text one e =
+    record { parts = partsOf ident (updatesOf bs); read = read-right ident (updatesOf bs) (updates-distinct bs one); laid-out = e }
 
 -- equal full reports of two sets show equal sets
 report-shows : (xs ys : List (List ℕ)) → NoCollision xs ys → reportFor Full (setOf xs) ≡ reportFor Full (setOf ys) → setOf xs ≡ setOf ys
@@ -74,7 +86,13 @@ pub side-by-side-in : (form : Form) (xs ys : List (List ℕ)) (first second : Li
 side-by-side-in form xs ys first second p q fits-first fits-second none =
     let r : first ≡ reportFor form (setOf xs) = copy-right xs first p fits-first (first-apart xs ys none) in
     let s : second ≡ reportFor form (setOf ys) = copy-right ys second q fits-second (second-apart xs ys none) in
-    record { equal-sets-equal-reports = λ e. r ∙ ap (reportFor form) e ∙ sym s; first-right = r; second-right = s }
+    record {
+      equal-sets-equal-reports = λ e. r ∙ ap (reportFor form) e ∙ sym s;
+      first-right = r;
+      second-right = s;
+      first-laid-out = set-laid-out xs first (first-apart xs ys none) r;
+      second-laid-out = set-laid-out ys second (second-apart xs ys none) s;
+    }
 
 pub side-by-side : (xs ys : List (List ℕ)) (first second : List ℕ) → Copy Full xs first → Copy Full ys second → Fits xs → Fits ys → NoCollision xs ys
     → SideBySide xs ys first second
@@ -85,4 +103,6 @@ side-by-side xs ys first second p q fits-first fits-second none =
       equal-reports-equal-sets = λ e. report-shows xs ys none (sym (b .first-right) ∙ e ∙ b .second-right);
       first-right = b .first-right;
       second-right = b .second-right;
+      first-laid-out = b .first-laid-out;
+      second-laid-out = b .second-laid-out;
     }
