@@ -11,44 +11,40 @@ use Rattle.rules.specs.declared.Form.the-variants.{Full}
 use Rattle.ledger_state.specs.declared.Ledger.{Ledger}
 use Rattle.ledger_state.specs.State.{storeLength}
 use Rattle.ledger_state.specs.View.{bookOf, freshLedger}
-use Rattle.ledger_refusals.specs.declared.Refusal.{Refusal}
-use Rattle.ledger_refusals.specs.Numbers.{refusalNumber}
+use Rattle.ledger_refusals.specs.Numbers.{putBytes}
 use Rattle.rules.specs.Report.{maxReport}
-use Rattle.ledger.specs.declared.Reported.the-variants.{Written}
 use Rattle.ledger.specs.Calls.{Calls, stored, offers-stand}
-use Rattle.ledger.specs.Report.{Reporting}
-use Rattle.replicas_check.specs.declared.Compared.{Compared}
-use Rattle.replicas_check.specs.declared.Compared.the-variants.{Same, Different, FirstUnreported, SecondUnreported}
+use Rattle.ledger.specs.Report.{ReportRow}
 use Rattle.replicas_theorem.specs.Sets.{setOf, reportFor, Fits, NoCollision}
 use Rattle.replicas_theorem.specs.Copies.{Copy, SideBySide, side-by-side}
 use Rattle.replicas_check.specs.LengthLaws.{reported-store, written-length}
 use Rattle.replicas_theorem.specs.FitLaws.{report-answers}
-use Rattle.replicas_check.specs.Check.{comparedOf, Checking, first-unreported, second-unreported, compared}
+use Rattle.replicas_check.specs.Check.{CheckValues, sameOf, differentOf, firstRefused, secondRefused, comparedOf, CheckRow, first-unreported, second-unreported, compared}
 
--- the lengths of the two full reports, by the answer
-unfoldable pub firstLength : Compared → ℕ
-firstLength (Same n) = n
-firstLength (Different n k) = n
-firstLength (FirstUnreported e) = 0
-firstLength (SecondUnreported e) = 0
+-- the lengths of the two full reports, by the values of the answer
+unfoldable pub firstLength : CheckValues → ℕ
+firstLength (sameOf n) = n
+firstLength (differentOf n k) = n
+firstLength (firstRefused i) = 0
+firstLength (secondRefused i) = 0
 
-unfoldable pub secondLength : Compared → ℕ
-secondLength (Same n) = n
-secondLength (Different n k) = k
-secondLength (FirstUnreported e) = 0
-secondLength (SecondUnreported e) = 0
+unfoldable pub secondLength : CheckValues → ℕ
+secondLength (sameOf n) = n
+secondLength (differentOf n k) = k
+secondLength (firstRefused i) = 0
+secondLength (secondRefused i) = 0
 
--- the answer is that of two reports
-pub record BothReported (r : Compared) : Type 0 where
-  pub first-reported : (e : Refusal) → r ≡ FirstUnreported e → ⊥
-  pub second-reported : (e : Refusal) → r ≡ SecondUnreported e → ⊥
+-- the values are those of two reports
+pub record BothReported (v : CheckValues) : Type 0 where
+  pub first-reported : (i : ℕ) → v ≡ firstRefused i → ⊥
+  pub second-reported : (i : ℕ) → v ≡ secondRefused i → ⊥
 
 -- What such an answer says: "same" exactly when the sets are equal; and each buffer begins with the report that the rules give for its set.
-pub record CheckSays (xs ys : List (List ℕ)) (r : Compared) (out other-out : List ℕ) : Type 0 where
-  pub equal-sets-same : setOf xs ≡ setOf ys → (n : ℕ) × (r ≡ Same n)
-  pub same-equal-sets : (n : ℕ) → r ≡ Same n → setOf xs ≡ setOf ys
-  pub first-right : take (firstLength r) out ≡ reportFor Full (setOf xs)
-  pub second-right : take (secondLength r) other-out ≡ reportFor Full (setOf ys)
+pub record CheckSays (xs ys : List (List ℕ)) (v : CheckValues) (out other-out : List ℕ) : Type 0 where
+  pub equal-sets-same : setOf xs ≡ setOf ys → (n : ℕ) × (v ≡ sameOf n)
+  pub same-equal-sets : (n : ℕ) → v ≡ sameOf n → setOf xs ≡ setOf ys
+  pub first-right : take (firstLength v) out ≡ reportFor Full (setOf xs)
+  pub second-right : take (secondLength v) other-out ≡ reportFor Full (setOf ys)
 
 -- the answer for two full reports
 module _ (first second : List ℕ) where
@@ -58,35 +54,35 @@ module _ (first second : List ℕ) where
   compared-lengths true e = (rw e (ap length (sym (same→eq first second e))), rw e refl)
   compared-lengths false e = (rw e refl, rw e refl)
 
-  compared-same : first ≡ second → comparedOf first second ≡ Same (length second)
+  compared-same : first ≡ second → comparedOf first second ≡ sameOf (length second)
   unfolding comparedOf
   compared-same e = rw (eq→same first second e) refl
 
-  same-compared : (t : Bool) → same first second ≡ t → (n : ℕ) → comparedOf first second ≡ Same n → first ≡ second
+  same-compared : (t : Bool) → same first second ≡ t → (n : ℕ) → comparedOf first second ≡ sameOf n → first ≡ second
   unfolding comparedOf
   same-compared true e n q = same→eq first second e
   same-compared false e n q =
-      let d : comparedOf first second ≡ Different (length first) (length second) = rw e refl in
+      let d : comparedOf first second ≡ differentOf (length first) (length second) = rw e refl in
       let z : _≡_ {A = ℕ} 0 1 = cc in
       absurd (omega arith)
 
   compared-both : (t : Bool) → same first second ≡ t → BothReported (comparedOf first second)
   unfolding comparedOf
   compared-both true h =
-      let d : comparedOf first second ≡ Same (length second) = rw h refl in
+      let d : comparedOf first second ≡ sameOf (length second) = rw h refl in
       record {
         first-reported = λ e q. let z : _≡_ {A = ℕ} 0 1 = cc in omega arith;
         second-reported = λ e q. let z : _≡_ {A = ℕ} 0 1 = cc in omega arith;
       }
   compared-both false h =
-      let d : comparedOf first second ≡ Different (length first) (length second) = rw h refl in
+      let d : comparedOf first second ≡ differentOf (length first) (length second) = rw h refl in
       record {
         first-reported = λ e q. let z : _≡_ {A = ℕ} 0 1 = cc in omega arith;
         second-reported = λ e q. let z : _≡_ {A = ℕ} 0 1 = cc in omega arith;
       }
 
 -- a copy that was reported
-reported-copy : {l : Ledger} {s s′ o o′ : List ℕ} {bs : List (List ℕ)} (n : ℕ) → Calls freshLedger s bs l s′ → Reporting Full (bookOf l) s′ o (Written n) o′
+reported-copy : {l : Ledger} {s s′ o o′ : List ℕ} {bs : List (List ℕ)} (n : ℕ) → Calls freshLedger s bs l s′ → ReportRow Full (bookOf l) s′ o (putBytes n) o′
     → Copy Full bs (take n o′)
 reported-copy {l} {s} {s′} {o} {o′} n c h =
     record {
@@ -103,8 +99,8 @@ reported-copy {l} {s} {s′} {o} {o′} n c h =
     }
 
 compared-says : {l m : Ledger} {s s′ o o′ t t′ p p′ : List ℕ} {xs ys : List (List ℕ)} (n k : ℕ)
-    → Calls freshLedger s xs l s′ → Reporting Full (bookOf l) s′ o (Written n) o′
-    → Calls freshLedger t ys m t′ → Reporting Full (bookOf m) t′ p (Written k) p′
+    → Calls freshLedger s xs l s′ → ReportRow Full (bookOf l) s′ o (putBytes n) o′
+    → Calls freshLedger t ys m t′ → ReportRow Full (bookOf m) t′ p (putBytes k) p′
     → Fits xs → Fits ys → NoCollision xs ys → CheckSays xs ys (comparedOf (take n o′) (take k p′)) o′ p′
 compared-says {o′ = o′} {p′ = p′} {xs = xs} {ys = ys} n k c h d q fits-first fits-second none =
     let first = take n o′ in
@@ -120,15 +116,15 @@ compared-says {o′ = o′} {p′ = p′} {xs = xs} {ys = ys} n k c h d q fits-f
 
 -- Demand 3 of the copy check: where both copies gave a report, where neither list has more distinct well-formed updates than there are places, and no two
 -- different ones of both share a SHA-256
-pub check-says : {xs ys : List (List ℕ)} {s t o p s′ t′ o′ p′ : List ℕ} {r : Compared} → Checking xs ys s t o p r s′ t′ o′ p′
-    → BothReported r → Fits xs → Fits ys → NoCollision xs ys → CheckSays xs ys r o′ p′
-check-says (first-unreported e c h) both fits-first fits-second none = absurd (both .first-reported e refl)
-check-says (second-unreported n e c h d q) both fits-first fits-second none = absurd (both .second-reported e refl)
+pub check-says : {xs ys : List (List ℕ)} {s t o p s′ t′ o′ p′ : List ℕ} {v : CheckValues} → CheckRow xs ys s t o p v s′ t′ o′ p′
+    → BothReported v → Fits xs → Fits ys → NoCollision xs ys → CheckSays xs ys v o′ p′
+check-says (first-unreported i c h) both fits-first fits-second none = absurd (both .first-reported i refl)
+check-says (second-unreported n i c h d q) both fits-first fits-second none = absurd (both .second-reported i refl)
 check-says (compared n k c h d q) both fits-first fits-second none = compared-says n k c h d q fits-first fits-second none
 
 -- Both give one where the stores have the stated length and the buffers 12,000 bytes.
-pub check-answers : {xs ys : List (List ℕ)} {s t o p s′ t′ o′ p′ : List ℕ} {r : Compared} → Checking xs ys s t o p r s′ t′ o′ p′
-    → length s ≡ storeLength → length t ≡ storeLength → maxReport ≤ length o → maxReport ≤ length p → BothReported r
-check-answers {xs = xs} (first-unreported f c h) u v a b = absurd (report-answers (stored xs) (offers-stand u c) h a (refusalNumber f) refl)
-check-answers {ys = ys} (second-unreported n f c h d q) u v a b = absurd (report-answers (stored ys) (offers-stand v d) q b (refusalNumber f) refl)
-check-answers (compared {o′ = o′} {p′ = p′} n k c h d q) u v a b = compared-both (take n o′) (take k p′) (same (take n o′) (take k p′)) refl
+pub check-answers : {xs ys : List (List ℕ)} {s t o p s′ t′ o′ p′ : List ℕ} {v : CheckValues} → CheckRow xs ys s t o p v s′ t′ o′ p′
+    → length s ≡ storeLength → length t ≡ storeLength → maxReport ≤ length o → maxReport ≤ length p → BothReported v
+check-answers {xs = xs} (first-unreported i c h) u w a b = absurd (report-answers (stored xs) (offers-stand u c) h a i refl)
+check-answers {ys = ys} (second-unreported n i c h d q) u w a b = absurd (report-answers (stored ys) (offers-stand w d) q b i refl)
+check-answers (compared {o′ = o′} {p′ = p′} n k c h d q) u w a b = compared-both (take n o′) (take k p′) (same (take n o′) (take k p′)) refl
