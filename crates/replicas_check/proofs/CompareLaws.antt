@@ -7,7 +7,7 @@ use lib.ListN.{length, take}
 use Rattle.bytes_order.specs.Order.{same}
 use Rattle.rules.specs.declared.Form.the-variants.{Full}
 use Rattle.ledger_refusals.specs.declared.Refusal.{Refusal}
-use Rattle.ledger_refusals.specs.Numbers.{refusalNumber, Output, putBytes, refusedBy}
+use Rattle.ledger_refusals.specs.Numbers.{refusalNumber, Output, refusedBy}
 use Rattle.ledger.specs.declared.Reported.{Reported}
 use Rattle.ledger.specs.declared.Reported.the-variants.{Written, Refused as NotReported}
 use Rattle.ledger_state.specs.View.{bookOf}

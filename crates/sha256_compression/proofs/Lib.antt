@@ -1,3 +1,4 @@
 pub mod Steps
 pub mod Schedule
 pub mod Words
+pub mod Identities

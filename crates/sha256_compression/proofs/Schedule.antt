@@ -1,12 +1,13 @@
 -- The schedule in an array: its first words are those of the definition so far.
-use mathlib.Core.Path.{_≡_, subst, sym, _∙_}
-use mathlib.Core.List.{List}
-use Prim.Native.Nat.{ℕ, suc, _+_, _-_, _*_, _<_}
-use native.Mathlib.Nat.{add-assoc}
+use mathlib.Core.Path.{_≡_, refl, ap, sym, _∙_}
+use mathlib.Core.List.{List, [], _∷_}
+use Prim.Native.Nat.{ℕ, zero, suc, _+_, _-_, _*_, _≤_, _<_}
+use native.Mathlib.Nat.{add-zero}
 use native.Mathlib.Numerals.{add-one}
+use native.Mathlib.Decide.{le-ind}
 use native.Mathlib.Omega.{arith}
-use lib.ListN.{length, getD, take, set, length-set}
-use lib.Seq.{take-suc-set, take-all, getD-take}
+use lib.ListN.{length, getD, take, set, length-append, length-set, List·getD-append}
+use lib.Seq.{take-suc-set, take-all, getD-take, length-take-le}
 use Rattle.sha256_fips180.specs.Fips180.{_⊞_, σ₀, σ₁, wordAt, words, nextWord, extend, schedule}
 use Rattle.sha256_compression.specs.Code.{Scheduled}
 
@@ -56,9 +57,24 @@ extended {w} {M} {n} {v} s h e =
       front = rw (i, j, add-one, take-suc-set w (16 + n) v l, ← s .front, next w n, e);
     }
 
--- the word at n + k leads to n + (k + 1), which computes where k is a numeral
-pub onward : (n k : ℕ) {w M : List ℕ} → Scheduled M (n + k + 1) w → Scheduled M (n + (k + 1)) w
-onward n k {w} {M} s = subst (λ (i : ℕ). Scheduled M i w) (add-assoc n k 1) s
-
 pub complete : {w M : List ℕ} → Scheduled M 48 w → w ≡ schedule M 48
 complete {w} s = sym (take-all 64 w (omega arith)) ∙ s .front
+
+length-schedule : (M : List ℕ) (n : ℕ) → length (schedule M n) ≡ length M + n
+unfolding schedule extend
+length-schedule M zero = sym (add-zero (length M))
+length-schedule M (suc n) = rw (length-append, length-schedule M n) (omega arith)
+
+-- a word of the schedule is the same in each longer schedule
+lasting : (M : List ℕ) {n : ℕ} (i : ℕ) → i < length M + n → (m : ℕ) → n ≤ m → getD (schedule M m) i 0 ≡ getD (schedule M n) i 0
+unfolding schedule extend
+lasting M {n} i h =
+    le-ind (λ (m : ℕ). getD (schedule M m) i 0 ≡ getD (schedule M n) i 0) refl (λ m (l : n ≤ m) e.
+    List·getD-append (schedule M m) (nextWord (schedule M m) (16 + m) ∷ []) 0 i (rw length-schedule (omega arith)) ∙ e)
+
+-- the words that the array has so far are those of the whole schedule
+pub made : {w M : List ℕ} {n : ℕ} → Scheduled M n w → n ≤ 48 → (i : ℕ) → i < 16 + n → getD w i 0 ≡ getD (schedule M 48) i 0
+made {w} {M} {n} s h i l =
+    let e : length M + n ≡ 16 + n = sym (length-schedule M n) ∙ ap length (sym (s .front)) ∙ length-take-le (16 + n) w (omega arith) in
+    let k : i < length M + n = omega arith in
+    sym (getD-take (16 + n) w i 0 l) ∙ ap (λ (v : List ℕ). getD v i 0) (s .front) ∙ sym (lasting M i k 48 h)

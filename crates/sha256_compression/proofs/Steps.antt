@@ -1,15 +1,13 @@
--- The steps of the compression, one more and eight more.
-use mathlib.Core.Path.{_≡_, subst}
+-- The steps of the compression: one more alone, and one more after one more word of the schedule.
+use mathlib.Core.Path.{_≡_, ap, sym, _∙_}
 use mathlib.Core.List.{List}
-use Prim.Native.Nat.{ℕ, suc, _+_, _≤_}
-use native.Mathlib.Nat.{add-assoc}
+use Prim.Native.Nat.{ℕ, _+_, _<_}
 use native.Mathlib.Numerals.{add-one}
 use native.Mathlib.Omega.{arith}
-use mir.Syntax.{w64}
-use mir.Val.{Fits}
-use mir.Facts.{fits-le, fits-lit}
 use lib.ListN.{getD}
-use Rattle.sha256_fips180.specs.Fips180.{Working, K, step, steps}
+use Rattle.sha256_fips180.specs.Fips180.{Working, K, schedule, step, steps}
+use Rattle.sha256_compression.specs.Code.{Scheduled, Underway}
+use Rattle.sha256_compression.proofs.Schedule.{made, complete}
 
 steps-one : (t : ℕ) (W : List ℕ) (H : Working) → steps (t + 1) W H ≡ step (steps t W H) (getD K t 0) (getD W t 0)
 unfolding steps
@@ -24,13 +22,21 @@ pub step-on
     → r ≡ steps (t + 1) W H
 step-on t k W H i j l = rw (l, j, i, steps-one t W H)
 
--- the step at t + n leads to t + (n + 1), which computes where n is a numeral
-pub onward : (t n : ℕ) (W : List ℕ) (H : Working) {s : Working} → s ≡ steps (t + n + 1) W H → s ≡ steps (t + (n + 1)) W H
-onward t n W H {s} e = subst (λ (k : ℕ). s ≡ steps k W H) (add-assoc t n 1) e
+-- one more step, after one more word: w has word t already, as the whole schedule has it
+pub turned
+    : {M v w k : List ℕ} {H : Working} (t : ℕ) {s r : Working}
+    → t < 48
+    → k ≡ K
+    → Underway M H t v s
+    → Scheduled M (t + 1) w
+    → r ≡ step s (getD k t 0) (getD w t 0)
+    → Underway M H (t + 1) w r
+turned {M} {v} {w} {k} {H} t {s} h i u l e =
+    record {
+      scheduled = l;
+      stepped = step-on t k (schedule M 48) H i (u .stepped) (e ∙ ap (step s (getD k t 0)) (made l (omega arith) t (omega arith)));
+    }
 
--- t + n is one of the 64 steps, where z more follow it
-pub index : (t n z : ℕ) → t + (n + suc z) ≤ 64 → t + n + 1 ≤ 64
-index t n z h = omega arith
-
-pub index-fits : (t n z : ℕ) → t + (n + suc z) ≤ 64 → Fits w64 (t + n)
-index-fits t n z h = let k : t + n ≤ 64 = omega arith in fits-le k (fits-lit tt)
+-- after 48 of these the array has the whole schedule
+pub all-turned : {M w : List ℕ} {H s : Working} → Underway M H 48 w s → s ≡ steps 48 w H
+all-turned {H = H} u = u .stepped ∙ ap (λ (W : List ℕ). steps 48 W H) (sym (complete (u .scheduled)))

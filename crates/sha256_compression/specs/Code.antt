@@ -4,7 +4,7 @@ use Prim.Native.Nat.{ℕ, _+_, _*_, _≤_, _<_}
 use mathlib.Core.List.{List}
 use mathlib.Core.Path.{_≡_}
 use lib.ListN.{length, take}
-use Rattle.sha256_fips180.specs.Fips180.{K, Working, schedule}
+use Rattle.sha256_fips180.specs.Fips180.{K, Working, schedule, steps}
 
 -- the code's eight words as the standard's
 abbrev pub working : State → Working
@@ -15,14 +15,19 @@ pub record Scheduled (M : List ℕ) (n : ℕ) (w : List ℕ) : Type 0 where
   pub size : length w ≡ 64
   pub front : take (16 + n) w ≡ schedule M n
 
+-- w has the first 16 + t words of the schedule of M, and s is the working variables after t steps from H, with the whole schedule
+pub record Underway (M : List ℕ) (H : Working) (t : ℕ) (w : List ℕ) (s : Working) : Type 0 where
+  pub scheduled : Scheduled M t w
+  pub stepped : s ≡ steps t (schedule M 48) H
+
 -- what is asked for a rotation by n
 pub record Rotation (n : ℕ) : Type 0 where
   pub positive : 0 < n
   pub within-word : n < 32
 
--- what is asked for n steps from step t on, with the constants k
-pub record StepsFrom (t n : ℕ) (k : List ℕ) : Type 0 where
-  pub steps-within : t + n ≤ 64
+-- what is asked for n steps from step t on, all before step `end`, with the constants k
+pub record StepsFrom (t n end : ℕ) (k : List ℕ) : Type 0 where
+  pub steps-within : t + n ≤ end
   pub constants : k ≡ K
 
 -- what is asked to load a block, the front of s, into the schedule w

@@ -5,7 +5,7 @@ ghost use mathlib.Core.List.{List};
 ghost use Prim.Native.Nat.{ℕ, _+_, _≤_, _<_};
 ghost use lib.ListN.{length};
 ghost use Rattle.sha256_fips180.specs.Fips180.{ROTR, Ch, Maj, Σ₀, Σ₁, σ₀, σ₁, K, wordAt, words, Working, T₁, T₂, step, steps, added, compress};
-ghost use Rattle.sha256_compression.specs.Code.{working, Scheduled, Rotation, StepsFrom, Loadable, Blocks};
+ghost use Rattle.sha256_compression.specs.Code.{working, Scheduled, Underway, Rotation, StepsFrom, Loadable, Blocks};
 
 // K₀ .. K₆₃ of 4.2.2.
 pub const CONSTANTS: [u32; 64] = [
@@ -102,32 +102,32 @@ fn rotr(n: u32, x: u32) -> u32
     (x >> n) | (x << (32 - n))
 }
 
-// Ch of 4.1.2: each bit of x chooses that of y or of z.
+// Ch of 4.1.2: each bit of x chooses that of y or of z. It and Maj are in forms of one operation less than the standard's.
 fn ch(x: u32, y: u32, z: u32) -> u32
     ensures { λ r. ⌜ r ≡ Ch x y z ⌝ }
 {
-    (x & y) ^ (!x & z)
+    z ^ (x & (y ^ z))
 }
 
 // Maj of 4.1.2: the majority of the three bits.
 fn maj(x: u32, y: u32, z: u32) -> u32
     ensures { λ r. ⌜ r ≡ Maj x y z ⌝ }
 {
-    (x & y) ^ (x & z) ^ (y & z)
+    y ^ ((x ^ y) & (y ^ z))
 }
 
-// Σ₀ of 4.1.2.
+// Σ₀ of 4.1.2: rotations by 2, 2 + 11 and 2 + 11 + 9. Nested, they need fewer copies of x.
 fn big_sigma0(x: u32) -> u32
     ensures { λ r. ⌜ r ≡ Σ₀ x ⌝ }
 {
-    rotr(2, x) ^ rotr(13, x) ^ rotr(22, x)
+    rotr(2, x ^ rotr(11, x ^ rotr(9, x)))
 }
 
-// Σ₁ of 4.1.2.
+// Σ₁ of 4.1.2: rotations by 6, 6 + 5 and 6 + 5 + 14, nested as well.
 fn big_sigma1(x: u32) -> u32
     ensures { λ r. ⌜ r ≡ Σ₁ x ⌝ }
 {
-    rotr(6, x) ^ rotr(11, x) ^ rotr(25, x)
+    rotr(6, x ^ rotr(5, x ^ rotr(14, x)))
 }
 
 // σ₀ of 4.1.2.
@@ -181,7 +181,7 @@ fn step(s: State, k: u32, w: u32) -> State
 
 // Step t: from the first t steps to the first t + 1, of any hash value H.
 fn step_at(s: State, k: &[u32; 64], w: &[u32; 64], t: usize) -> State
-    requires { ⌜ StepsFrom t 1 (now k) ⌝ }
+    requires { ⌜ StepsFrom t 1 64 (now k) ⌝ }
     ensures { λ r. ⌜ ((H : Working) → working s ≡ steps t (now (w .entry)) H → working r ≡ steps (t + 1) (now (w .entry)) H) ⌝ }
 {
     step(s, k[t], w[t])
@@ -189,7 +189,7 @@ fn step_at(s: State, k: &[u32; 64], w: &[u32; 64], t: usize) -> State
 
 // Eight steps: written out, they leave no move of a variable to the next.
 fn eight_steps(s: State, k: &[u32; 64], w: &[u32; 64], t: usize) -> State
-    requires { ⌜ StepsFrom t 8 (now k) ⌝ }
+    requires { ⌜ StepsFrom t 8 64 (now k) ⌝ }
     ensures { λ r. ⌜ ((H : Working) → working s ≡ steps t (now (w .entry)) H → working r ≡ steps (t + 8) (now (w .entry)) H) ⌝ }
 {
     let s1 = step_at(s, k, w, t);
@@ -202,18 +202,18 @@ fn eight_steps(s: State, k: &[u32; 64], w: &[u32; 64], t: usize) -> State
     step_at(s7, k, w, t + 7)
 }
 
-// The 64 steps.
-fn all_steps(h: State, k: &[u32; 64], w: &[u32; 64]) -> State
+// The last 16 steps, of any hash value H: the schedule is whole.
+fn last_steps(s: State, k: &[u32; 64], w: &[u32; 64]) -> State
     requires { ⌜ now k ≡ K ⌝ }
-    ensures { λ r. ⌜ working r ≡ steps 64 (now (w .entry)) (working h) ⌝ }
+    ensures { λ r. ⌜ ((H : Working) → working s ≡ steps 48 (now (w .entry)) H → working r ≡ steps 64 (now (w .entry)) H) ⌝ }
 {
-    let mut s = h;
-    let mut t: usize = 0;
+    let mut v = s;
+    let mut t: usize = 48;
     while t < 64 {
-        s = eight_steps(s, k, w, t);
+        v = eight_steps(v, k, w, t);
         t += 8;
     }
-    s
+    v
 }
 
 // The four bytes at i as a word, the most significant first.
@@ -246,30 +246,42 @@ fn extend_at(w: &mut [u32; 64], n: usize)
     w[n + 16] = std::num::wrapping_add_u32(y, w[n]);
 }
 
-// Eight words of the schedule.
-fn extend_eight(w: &mut [u32; 64], n: usize)
-    requires { ⌜ n + 8 ≤ 48 ⌝ }
-    ensures { λ r. ⌜ ((M : List ℕ) → Scheduled M n (now (w .entry)) → Scheduled M (n + 8) (now (w .exit))) ⌝ }
+// Word 16 + t of the schedule, then step t: of any words M of a block and any hash value H.
+fn turn(s: State, k: &[u32; 64], w: &mut [u32; 64], t: usize) -> State
+    requires { ⌜ StepsFrom t 1 48 (now k) ⌝ }
+    ensures { λ r. ⌜ ((M : List ℕ) (H : Working) → Underway M H t (now (w .entry)) (working s) → Underway M H (t + 1) (now (w .exit)) (working r)) ⌝ }
 {
-    extend_at(&mut *w, n);
-    extend_at(&mut *w, n + 1);
-    extend_at(&mut *w, n + 2);
-    extend_at(&mut *w, n + 3);
-    extend_at(&mut *w, n + 4);
-    extend_at(&mut *w, n + 5);
-    extend_at(&mut *w, n + 6);
-    extend_at(&mut *w, n + 7);
+    extend_at(&mut *w, t);
+    step(s, k[t], w[t])
 }
 
-// The whole schedule, from its first 16 words.
-fn extend(w: &mut [u32; 64])
-    ensures { λ r. ⌜ ((M : List ℕ) → Scheduled M 0 (now (w .entry)) → Scheduled M 48 (now (w .exit))) ⌝ }
+// Eight turns, written out as the steps are.
+fn eight_turns(s: State, k: &[u32; 64], w: &mut [u32; 64], t: usize) -> State
+    requires { ⌜ StepsFrom t 8 48 (now k) ⌝ }
+    ensures { λ r. ⌜ ((M : List ℕ) (H : Working) → Underway M H t (now (w .entry)) (working s) → Underway M H (t + 8) (now (w .exit)) (working r)) ⌝ }
 {
-    let mut n: usize = 0;
-    while n < 48 {
-        extend_eight(&mut *w, n);
-        n += 8;
+    let s1 = turn(s, k, &mut *w, t);
+    let s2 = turn(s1, k, &mut *w, t + 1);
+    let s3 = turn(s2, k, &mut *w, t + 2);
+    let s4 = turn(s3, k, &mut *w, t + 3);
+    let s5 = turn(s4, k, &mut *w, t + 4);
+    let s6 = turn(s5, k, &mut *w, t + 5);
+    let s7 = turn(s6, k, &mut *w, t + 6);
+    turn(s7, k, &mut *w, t + 7)
+}
+
+// The first 48 steps, with which the schedule becomes whole, from its first 16 words on.
+fn first_steps(h: State, k: &[u32; 64], w: &mut [u32; 64]) -> State
+    requires { ⌜ now k ≡ K ⌝ }
+    ensures { λ r. ⌜ ((M : List ℕ) → Scheduled M 0 (now (w .entry)) → Underway M (working h) 48 (now (w .exit)) (working r)) ⌝ }
+{
+    let mut s = h;
+    let mut t: usize = 0;
+    while t < 48 {
+        s = eight_turns(s, k, &mut *w, t);
+        t += 8;
     }
+    s
 }
 
 // The words of s and h added, each modulo 2^32.
@@ -295,6 +307,6 @@ pub fn compress(h: State, s: &[u8], k: &[u32; 64]) -> State
 {
     let mut w = [0u32; 64];
     load(&mut w, s);
-    extend(&mut w);
-    added(all_steps(h, k, &w), h)
+    let s48 = first_steps(h, k, &mut w);
+    added(last_steps(s48, k, &w), h)
 }
