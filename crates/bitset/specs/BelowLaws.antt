@@ -96,6 +96,11 @@ upTo-ascending (suc n) =
     ascending-append (upTo-ascending n) ascending-one
     (λ x y m k. before-less [] [] (let h : x < n = upTo-∈ n m in let q : y ≡ n = ∈-singleton k in omega arith))
 
+pub upTo-length : (n : ℕ) → length (upTo n) ≡ n
+unfolding upTo
+upTo-length zero = refl
+upTo-length (suc n) = length-append (upTo n) (n ∷ []) ∙ ap (λ (m : ℕ). m + 1) (upTo-length n) ∙ add-one n
+
 -- countBelow
 pub countBelow-cong : (n : ℕ) (p q : ℕ → Bool) → ((k : ℕ) → k < n → p k ≡ q k) → countBelow n p ≡ countBelow n q
 unfolding countBelow

@@ -1,6 +1,6 @@
--- How many: the members that pass a test, and the elements of lists one after another.
+-- How many: the members that pass a test, those that pass one of three tests, and the elements of lists one after another.
 use Prim.Native.Nat.{ℕ, suc, _*_, _+_, _<_, _≤_, suc-le-suc, zero-le}
-use native.Mathlib.Nat.{le-of-eq, le-of-lt, mul-suc}
+use native.Mathlib.Nat.{le-of-eq, le-of-lt, le-trans, mul-suc}
 use native.Mathlib.Omega.{arith}
 use mathlib.Core.Path.{_≡_, refl, sym, ap, subst}
 use mathlib.Core.Logic.{_⊎_, inl, inr, ⊎-elim}
@@ -8,7 +8,7 @@ use mathlib.Core.List.{List, [], _∷_, _++_, map, List·Memᴰ·head, List·Mem
 use mathlib.Core.Bool.{Bool, true, false, cond}
 use lib.ListN.{length, length-append}
 use Rattle.bytes_order.specs.Member.{_∈_, keep, concatMap}
-use Rattle.bytes_order.specs.MemberLaws.{keep-false, keep-true}
+use Rattle.bytes_order.specs.MemberLaws.{keep-false, keep-true, keep-length}
 
 module _ {A : Type 0} where
   -- how many members pass a test
@@ -37,6 +37,40 @@ module _ {A : Type 0} where
           let l : countMembers p (map f xs) ≤ countMembers p xs =
           ⊎-elim (λ (e : map f xs ≡ xs). le-of-eq (ap (countMembers p) e)) (λ (k : countMembers p (map f xs) < countMembers p xs). le-of-lt k) d in
           inr (rw (keep-false p (f x) (map f xs) (g .1), keep-true p x xs (g .0)) (suc-le-suc l))
+
+-- one where a test is passed
+abbrev pub oneIf : Bool → ℕ
+oneIf true = 1
+oneIf false = 0
+
+module _ {A : Type 0} where
+  keep-cons-length : (p : A → Bool) (x : A) (xs : List A) → length (keep p (x ∷ xs)) ≡ oneIf (p x) + length (keep p xs)
+  unfolding keep
+  keep-cons-length p x xs = step (p x)
+    where
+      step : (b : Bool) → length (cond b (x ∷ keep p xs) (keep p xs)) ≡ oneIf b + length (keep p xs)
+      step true = omega arith
+      step false = omega arith
+
+  -- of three tests each member passes one at most, and none where it fails a fourth
+  pub keep-apart-length : (p q r t : A → Bool) (xs : List A) → ((x : A) → oneIf (p x) + oneIf (q x) + oneIf (r x) ≤ oneIf (t x))
+      → length (keep p xs) + length (keep q xs) + length (keep r xs) ≤ length (keep t xs)
+  unfolding keep
+  keep-apart-length p q r t [] h = zero-le
+  keep-apart-length p q r t (x ∷ xs) h =
+      omega (
+        arith,
+        h x,
+        keep-cons-length p x xs,
+        keep-cons-length q x xs,
+        keep-cons-length r x xs,
+        keep-cons-length t x xs,
+        keep-apart-length p q r t xs h,
+      )
+
+  pub keep-three-length : (p q r : A → Bool) (xs : List A) → ((x : A) → oneIf (p x) + oneIf (q x) + oneIf (r x) ≤ 1)
+      → length (keep p xs) + length (keep q xs) + length (keep r xs) ≤ length xs
+  keep-three-length p q r xs h = le-trans (keep-apart-length p q r (λ (x : A). true) xs h) (keep-length (λ (x : A). true) xs)
 
 module _ {A B : Type 0} where
   -- lists of at most k elements each

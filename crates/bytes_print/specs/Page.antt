@@ -11,7 +11,7 @@ abbrev pub farthest : ℕ
 farthest = 1000000
 
 -- Printing the text at byte `at` of a page: the next byte is past it, and where it fits the page then holds it there, with no other byte changed. (On a
--- page where it does not fit, what is written is left free: the length is asked first, of a page that is too short for any report.)
+-- page where it does not fit, what is written is left free: where a text is not known to fit, its length is asked first, of a page that is too short for any.)
 pub record Prints (page : List ℕ) (at : ℕ) (text page′ : List ℕ) (next : ℕ) : Type 0 where
   pub past : next ≡ at + length text
   pub fits : next ≤ length page → page′ ≡ overwritten page at text

@@ -3,6 +3,7 @@ pub mod Calls
 pub mod Report
 pub mod ValueLaws
 pub mod FormLaws
+pub mod RoomLaws
 pub mod Answers
 pub mod AfterOffers
 pub mod WriteLaws

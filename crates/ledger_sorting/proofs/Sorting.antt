@@ -5,9 +5,8 @@ use mathlib.Core.Logic.{⊎-elim}
 use mathlib.Core.List.{List, [], _∷_, _++_}
 use mathlib.Core.Bool.{Bool, true, false, cond}
 use native.Mathlib.Nat.{le-of-suc-le-suc, eq-or-lt-of-le}
-use native.Mathlib.Numerals.{add-one}
 use native.Mathlib.Omega.{arith}
-use lib.ListN.{length, take, drop, length-append, take-append-drop}
+use lib.ListN.{length, take, drop, take-append-drop}
 use lib.Seq.{drop-append-le, drop-at, drop-length}
 use Rattle.bytes_order.specs.Order.{before, same}
 use Rattle.bytes_order.specs.Compare.{orderOf}
@@ -17,6 +16,7 @@ use Rattle.bytes_order.specs.MemberLaws.{keep-all}
 use Rattle.bytes_order.specs.declared.Order.{Order}
 use Rattle.bytes_order.specs.declared.Order.the-variants.{Less, Equal, Greater}
 use Rattle.bitset.specs.Below.{upTo}
+use Rattle.bitset.specs.BelowLaws.{upTo-length}
 use Rattle.ledger_state.specs.State.{Book}
 use Rattle.ledger_sorting.specs.declared.Key.the-variants.{Id}
 use Rattle.ledger_relations.specs.PlaceTests.{idAt, idOrder}
@@ -61,18 +61,13 @@ module _ (key : ℕ → List ℕ) (x : ℕ) where
     over d = sym (inv ∙ ap (λ (r : List ℕ). take i xs ++ insert key x r) d ∙ ap (λ (r : List ℕ). take i xs ++ (x ∷ r)) (sym d))
 
 -- the numbers below n
-pub upTo-length : (n : ℕ) → length (upTo n) ≡ n
-unfolding upTo
-upTo-length zero = refl
-upTo-length (suc n) = length-append (upTo n) (n ∷ []) ∙ ap (λ (m : ℕ). m + 1) (upTo-length n) ∙ add-one n
-
 pub upTo-next : (n k : ℕ) → k < n → drop k (upTo n) ≡ k ∷ drop (suc k) (upTo n)
 unfolding upTo
 upTo-next zero k h = absurd (omega arith)
 upTo-next (suc n) k h = ⊎-elim (λ (e : k ≡ n). here e) (λ (g : k < n). earlier g (upTo-next n k g)) (eq-or-lt-of-le (le-of-suc-le-suc h))
   where
     whole : length (upTo n ++ (n ∷ [])) ≡ suc n
-    whole = length-append (upTo n) (n ∷ []) ∙ ap (λ (m : ℕ). m + 1) (upTo-length n) ∙ add-one n
+    whole = upTo-length (suc n)
 
     here : k ≡ n → drop k (upTo n ++ (n ∷ [])) ≡ k ∷ drop (suc k) (upTo n ++ (n ∷ []))
     here e =

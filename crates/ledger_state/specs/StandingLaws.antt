@@ -1,6 +1,9 @@
 -- The standings differ, and what the tests of a standing tell.
+use Prim.Native.Nat.{_+_, _≤_}
+use native.Mathlib.Omega.{arith}
 use mathlib.Core.Path.{_≡_, refl, ap}
 use mathlib.Core.Bool.{true, false, true≢false, false≢true}
+use Rattle.bytes_order.specs.CountLaws.{oneIf}
 use Rattle.ledger_state.specs.declared.Standing.{Standing}
 use Rattle.ledger_state.specs.declared.Standing.the-variants.{Held, Waiting, Void}
 use Rattle.ledger_state.specs.State.{isHeld, isWaiting, isVoid}
@@ -34,3 +37,10 @@ unfolding isWaiting isVoid
 held-left Held w x = refl
 held-left Waiting w x = absurd (true≢false w)
 held-left Void w x = absurd (true≢false x)
+
+-- no two of the tests are passed
+pub one-standing : (v : Standing) → oneIf (isHeld v) + oneIf (isWaiting v) + oneIf (isVoid v) ≤ 1
+unfolding isHeld isWaiting isVoid
+one-standing Held = omega arith
+one-standing Waiting = omega arith
+one-standing Void = omega arith

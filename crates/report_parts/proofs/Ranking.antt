@@ -1,18 +1,14 @@
 -- The list's entries, put rank by rank: never more than there are places.
-use Prim.Native.Nat.{ℕ, zero, suc, _+_, _≤_, _<_}
+use Prim.Native.Nat.{ℕ, _+_, _≤_}
 use mathlib.Core.Path.{_≡_, refl, sym, ap, ap₂, subst, _∙_}
-use mathlib.Core.Logic.{_⊎_, inl, inr, ⊎-elim}
 use mathlib.Core.List.{List, [], _∷_, _++_}
-use mathlib.Core.Bool.{Bool, true, false, cond, _&&_}
+use mathlib.Core.Bool.{Bool, true, false, cond}
 use native.Mathlib.Numerals.{add-one}
 use native.Mathlib.Omega.{arith}
-use borrow.Author.Tests.{eq-eqb, ne-eqb, lt-ltb, le-ltb, ltb-true, ltb-false}
-use lib.Dec.{eqb, ltb}
 use lib.ListN.{length, drop, length-append}
-use Rattle.bytes_order.specs.BoolLaws.{bool-cases}
 use Rattle.bytes_order.specs.Order.{same}
 use Rattle.bytes_order.specs.Member.{keep}
-use Rattle.bytes_order.specs.MemberLaws.{keep-append, keep-length}
+use Rattle.bytes_order.specs.MemberLaws.{keep-append}
 use Rattle.rules.specs.Standing.{beginning}
 use Rattle.ledger_state.specs.State.{places, Book, placeAt}
 use Rattle.ledger_relations.specs.PlaceTests.{decodedAt, heldAt, rankAt, idOrder}
@@ -22,89 +18,14 @@ use Rattle.update_fields.specs.Fields.{anchorIn}
 use Rattle.ledger_sorting.specs.declared.Places.{Places}
 use Rattle.ledger_sorting.specs.PlaceLists.{placesIn, ins, PlaceList, Lists}
 use Rattle.report_parts.specs.Ranked.{rankedAt}
+use Rattle.report_parts.specs.LengthLaws.{by-rank-most}
 use Rattle.ledger_sorting.proofs.Inserting.{renamed}
 use Rattle.ledger_sorting.proofs.Keeping.{keep-no, keep-one}
-
-counted : (b : Bool) (x : ℕ) (xs : List ℕ) → length (cond b (x ∷ xs) xs) ≡ cond b (suc (length xs)) (length xs)
-counted true x xs = refl
-counted false x xs = refl
-
--- a number below n + 1 is below n or equal to n, and not both
-numbers : (b : Bool) (y n m a c : ℕ) → m ≡ a + c →
-    cond (b && ltb y (suc n)) (suc m) m ≡ cond (b && ltb y n) (suc a) a + cond (b && eqb y n) (suc c) c
-numbers false y n m a c e = e
-numbers true y n m a c e = ⊎-elim low (⊎-elim mid high) three
-  where
-    low : y < n → cond (ltb y (suc n)) (suc m) m ≡ cond (ltb y n) (suc a) a + cond (eqb y n) (suc c) c
-    low h =
-        let g : y < suc n = omega arith in
-        rw (lt-ltb y (suc n) g, lt-ltb y n h, ne-eqb y n (λ q. omega arith)) (omega arith)
-
-    mid : y ≡ n → cond (ltb y (suc n)) (suc m) m ≡ cond (ltb y n) (suc a) a + cond (eqb y n) (suc c) c
-    mid h =
-        let g : y < suc n = omega arith in
-        let k : n ≤ y = omega arith in
-        rw (lt-ltb y (suc n) g, le-ltb y n k, eq-eqb y n h) (omega arith)
-
-    high : n < y → cond (ltb y (suc n)) (suc m) m ≡ cond (ltb y n) (suc a) a + cond (eqb y n) (suc c) c
-    high h =
-        let g : suc n ≤ y = omega arith in
-        let k : n ≤ y = omega arith in
-        rw (le-ltb y (suc n) g, le-ltb y n k, ne-eqb y n (λ q. omega arith)) (omega arith)
-
-    three : (y < n) ⊎ ((y ≡ n) ⊎ (n < y))
-    three =
-        ⊎-elim
-        (λ (q : ltb y n ≡ true). inl (ltb-true y n q))
-        (λ (q : ltb y n ≡ false).
-        ⊎-elim
-        (λ (g : ltb n y ≡ true). inr (inr (ltb-true n y g)))
-        (λ (g : ltb n y ≡ false). inr (inl (omega (arith, ltb-false y n q, ltb-false n y g))))
-        (bool-cases (ltb n y)))
-        (bool-cases (ltb y n))
-
-module _ (p : ℕ → Bool) (f : ℕ → ℕ) (n : ℕ) where
-  abbrev lower : ℕ → ℕ → Bool
-  lower m k = p k && ltb (f k) m
-
-  abbrev equal : ℕ → Bool
-  equal k = p k && eqb (f k) n
-
-  -- of those below n + 1, those below n and those equal to n
-  pub split : (xs : List ℕ) → length (keep (lower (suc n)) xs) ≡ length (keep (lower n) xs) + length (keep equal xs)
-  unfolding keep
-  split [] = refl
-  split (x ∷ xs) =
-      counted (lower (suc n) x) x (keep (lower (suc n)) xs)
-      ∙ numbers (p x) (f x) n (length (keep (lower (suc n)) xs)) (length (keep (lower n) xs)) (length (keep equal xs)) (split xs)
-      ∙ sym (ap₂ _+_ (counted (lower n x) x (keep (lower n) xs)) (counted (equal x) x (keep equal xs)))
-
-  pub none : n ≡ 0 → (xs : List ℕ) → length (keep (lower n) xs) ≡ 0
-  unfolding keep
-  none e [] = refl
-  none e (x ∷ xs) =
-      let h : n ≤ f x = omega arith in
-      rw (le-ltb (f x) n h) (go (p x) (none e xs))
-    where
-      go : (b : Bool) → length (keep (lower n) xs) ≡ 0 → length (cond (b && false) (x ∷ keep (lower n) xs) (keep (lower n) xs)) ≡ 0
-      go true i = i
-      go false i = i
 
 module _ (l : Book) (s : List ℕ) where
   pub ranked-is : (k n : ℕ) {b : Bool} → b ≡ rankedIn s n (placeAt l k) k → b ≡ rankedAt l s n k
   unfolding rankedAt
   ranked-is k n e = e
-
-  by-rank-length : (n : ℕ) → length (byRank l s n) ≡ length (keep (λ (k : ℕ). insertAt l s k && ltb (rankAt l s k) n) (idOrder l s))
-  unfolding byRank
-  by-rank-length zero = sym (none (insertAt l s) (rankAt l s) 0 refl (idOrder l s))
-  by-rank-length (suc n) =
-      length-append (byRank l s n) (keep (λ (k : ℕ). insertAt l s k && eqb (rankAt l s k) n) (idOrder l s))
-      ∙ ap (λ (m : ℕ). m + length (keep (λ (k : ℕ). insertAt l s k && eqb (rankAt l s k) n) (idOrder l s))) (by-rank-length n)
-      ∙ sym (split (insertAt l s) (rankAt l s) n (idOrder l s))
-
-  pub by-rank-most : (n : ℕ) → length (byRank l s n) ≤ length (idOrder l s)
-  by-rank-most n = omega (arith, by-rank-length n, keep-length (λ (k : ℕ). insertAt l s k && ltb (rankAt l s k) n) (idOrder l s))
 
   pub by-rank-more : (n : ℕ) → byRank l s (n + 1) ≡ byRank l s n ++ keep (rankedAt l s n) (idOrder l s)
   unfolding byRank insertAt heldAt rankAt rankedAt
@@ -120,7 +41,7 @@ module _ (l : Book) (s : List ℕ) where
   rank-room n os e h =
       let f = ap (λ (x : List ℕ). length (keep (rankedAt l s n) x)) e in
       let g = ap length e in
-      omega (arith, f, g, ap length (by-rank-more n), length-append (byRank l s n) (keep (rankedAt l s n) (idOrder l s)), by-rank-most (n + 1))
+      omega (arith, f, g, ap length (by-rank-more n), length-append (byRank l s n) (keep (rankedAt l s n) (idOrder l s)), by-rank-most l s (n + 1))
 
   pub rank-zero : length (byRank l s 0) ≡ 0
   unfolding byRank

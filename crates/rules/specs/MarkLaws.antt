@@ -1,10 +1,12 @@
 -- Document 02, E7: a fault is exactly a void update by the second clause of Void; an author has one mark at most, and one where it has a fork or a fault; more updates
 -- keep it, but for a second kind. And what is computed of marks from a settled table is what `ReadOff` defines.
-use Prim.Native.Nat.{ℕ}
+use Prim.Native.Nat.{ℕ, _≤_}
+use native.Mathlib.Omega.{arith}
 use mathlib.Core.Path.{_≡_, refl, sym, _∙_, ap, subst, subst₂}
 use mathlib.Core.Logic.{_⊎_, inl, inr, ⊎-elim}
 use mathlib.Core.List.{List, head-eq-of-cons-eq, List·Memᴰ·head, List·Memᴰ·not-nil}
 use mathlib.Core.Bool.{Bool, true, false, _&&_, false≢true}
+use lib.ListN.{length}
 use lib.Dec.{eqb}
 use borrow.Author.Tests.{eqb-true, eq-eqb}
 use Rattle.bytes_order.specs.Member.{_∈_, any, all, concatMap}
@@ -297,6 +299,14 @@ grow-marked ident S S′ more distinct k a m =
     step IsBoth IsFork m n = absurd (n .1 (fault (m .1)))
     step IsBoth IsFault m n = absurd (n .1 (fork (m .0)))
     step IsBoth IsBoth m n = inl refl
+
+-- an author has one mark at most
+pub marks-by-few : (a : ℕ) (fork fault : Bool) → length (marksBy a fork fault) ≤ 1
+unfolding marksBy kindsBy
+marks-by-few a true true = omega arith
+marks-by-few a true false = omega arith
+marks-by-few a false true = omega arith
+marks-by-few a false false = omega arith
 
 -- an author's marks, one at most, stand ascending
 pub marks-by-ascending : (a : ℕ) (fork fault : Bool) → Ascending markKey (marksBy a fork fault)

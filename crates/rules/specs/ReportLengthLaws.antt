@@ -25,7 +25,7 @@ use Rattle.bytes_ascii.specs.AsciiLaws.{hex-length, decimal-length}
 use Rattle.rules.specs.TableLaws.{add-sized, setEntriesFrom-∈}
 use Rattle.rules.specs.MarkLaws.{marks-by-author}
 use Rattle.rules.specs.Report.{pairLine, authorLine, updateLine, setLine, bytesLine, idLine, markWord, markLine, partText, readOffsText, reportText}
-use Rattle.bytes_order.specs.CountLaws.{concatMap-length, keep-concatMap-length}
+use Rattle.bytes_order.specs.CountLaws.{oneIf, keep-three-length, concatMap-length, keep-concatMap-length}
 
 -- lines
 
@@ -42,7 +42,7 @@ mark-word-length Fork = omega arith
 mark-word-length Fault = omega arith
 mark-word-length Both = omega arith
 
-mark-line-length : (m : Mark) → m .author ≤ maxAuthor → length (markLine m) ≤ 11
+pub mark-line-length : (m : Mark) → m .author ≤ maxAuthor → length (markLine m) ≤ 11
 unfolding markLine
 mark-line-length m h =
     let d : length (decimal (m .author)) ≤ 2 = decimal-length (m .author) (omega arith) in
@@ -50,14 +50,14 @@ mark-line-length m h =
     let e = pair-line-length (decimal (m .author)) (markWord (m .kind)) in
     omega arith
 
-bytes-line-length : (bs : List ℕ) → length (bytesLine bs) ≡ 3 + 2 * length bs
+pub bytes-line-length : (bs : List ℕ) → length (bytesLine bs) ≡ 3 + 2 * length bs
 unfolding bytesLine ascii codes
 bytes-line-length bs =
     let x = hex-length bs in
     let e = length-append (hex bs) (ascii ")\n") in
     omega arith
 
-author-line-length : (bs : List ℕ) (a : ℕ) → a ≤ maxAuthor → length (authorLine bs a) ≤ 6 + 2 * length bs
+pub author-line-length : (bs : List ℕ) (a : ℕ) → a ≤ maxAuthor → length (authorLine bs a) ≤ 6 + 2 * length bs
 author-line-length bs a h =
     let d : length (decimal a) ≤ 2 = decimal-length a (omega arith) in
     let x = hex-length bs in
@@ -102,17 +102,15 @@ unfolding below
 ∈-below a (suc n) h = ⊎-elim (λ (e : a ≡ n). List·Memᴰ·head (ap (λ (k : ℕ). k ∷ []) e)) (λ (k : a < n). List·Memᴰ·tail (∈-below a n k)) (eq-or-lt-of-le (le-of-suc-le-suc h))
 
 -- a row has one verdict
+one-verdict : (v : Verdict) → oneIf (isHeld v) + oneIf (isWaiting v) + oneIf (isVoid v) ≤ 1
+unfolding isHeld isWaiting isVoid
+one-verdict held = omega arith
+one-verdict waiting = omega arith
+one-verdict void = omega arith
+
 by-verdict : (T : Table)
-    → length (keep (λ (r : Row). isHeld (r .verdict)) T) + length (keep (λ (r : Row). isWaiting (r .verdict)) T) + length (keep (λ (r : Row). isVoid (r .verdict)) T) ≡ length T
-unfolding keep isHeld isWaiting isVoid
-by-verdict [] = refl
-by-verdict (r ∷ T) = step (r .verdict) (keep (λ (q : Row). isHeld (q .verdict)) T) (keep (λ (q : Row). isWaiting (q .verdict)) T) (keep (λ (q : Row). isVoid (q .verdict)) T) (by-verdict T)
-  where
-    step : (v : Verdict) (hs ws vs : Table) → length hs + length ws + length vs ≡ length T
-        → length (cond (isHeld v) (r ∷ hs) hs) + length (cond (isWaiting v) (r ∷ ws) ws) + length (cond (isVoid v) (r ∷ vs) vs) ≡ suc (length T)
-    step held hs ws vs e = omega arith
-    step waiting hs ws vs e = omega arith
-    step void hs ws vs e = omega arith
+    → length (keep (λ (r : Row). isHeld (r .verdict)) T) + length (keep (λ (r : Row). isWaiting (r .verdict)) T) + length (keep (λ (r : Row). isVoid (r .verdict)) T) ≤ length T
+by-verdict T = keep-three-length (λ (r : Row). isHeld (r .verdict)) (λ (r : Row). isWaiting (r .verdict)) (λ (r : Row). isVoid (r .verdict)) T (λ r. one-verdict (r .verdict))
 
 -- an update is an Add or an Insert, not both
 insertRow : Row → Bool

@@ -11,9 +11,8 @@ use lib.ListN.{length, drop, drop-of-length-le, length-take}
 use lib.Seq.{drop-cons}
 use Rattle.bytes_order.specs.Order.{same}
 use Rattle.bytes_order.specs.Member.{member, concatMap}
-use Rattle.update_format.specs.Update.{maxAuthor, Id, idLength, tagLength}
-use Rattle.update_format.specs.Decode.{slice, idsAt, Decoded, refused, update, decode}
-use Rattle.update_format.specs.Laws.{decode-sound}
+use Rattle.update_format.specs.Update.{Id, idLength, tagLength}
+use Rattle.update_format.specs.Decode.{slice, idsAt, Decoded, decode}
 use Rattle.update_format.specs.Slices.{ids-length, ids-get}
 use Rattle.update_format.specs.ParseResult.{decodedOf}
 use Rattle.update_format.specs.declared.Malformed.{Malformed}
@@ -150,15 +149,6 @@ module _ (b : List ℕ) where
   erases-laid i L.remove = other refl refl
   erases-laid i L.insert = other refl refl
   erases-laid i L.delete = here refl refl
-
--- an author is within the bound
-pub author-small : (b : List ℕ) → authorIn (decode b) ≤ maxAuthor
-unfolding authorIn
-author-small b = go (decode b) refl
-  where
-    go : (d : Decoded) → decode b ≡ d → authorIn d ≤ maxAuthor
-    go (refused n) e = omega arith
-    go (update u) e = decode-sound b u e .0 .author-small
 
 -- the ids of a run from the k-th on
 module _ (b : List ℕ) (at n k : ℕ) (x : Id) where

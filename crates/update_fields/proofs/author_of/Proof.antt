@@ -2,7 +2,8 @@
 use native.Mathlib.Omega.{arith}
 use borrow.Author.Needs.{needs}
 use denote.Ref.{now}
-use Rattle.update_fields.proofs.FieldsRead.{author-laid, author-small}
+use Rattle.update_fields.specs.FieldLaws.{author-small}
+use Rattle.update_fields.proofs.FieldsRead.{author-laid}
 use Rattle.update_fields.proofs.author_of.Statement.{statement}
 use Rattle.update_fields.proofs.author_of.Tie as tie
 
