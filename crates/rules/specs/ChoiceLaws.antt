@@ -1,11 +1,11 @@
 -- The choice of predecessors from a settled table: at most eight heads, ascending, one of which is at or above each held update of an author
--- without a fork.
+-- without a fork; above eight heads the author's own head and the lowest others.
 use mathlib.Core.Path.{_≡_, refl, sym, _∙_, ap, subst}
 use mathlib.Core.Logic.{_⊎_, inl, inr, ⊎-elim}
 use Prim.Native.Nat.{ℕ, zero, suc, _+_, _≤_, _<_}
-use native.Mathlib.Nat.{le-trans, min-le-left, not-le-of-lt}
+use native.Mathlib.Nat.{le-trans, min-le-left, min-eq-left, not-le-of-lt}
 use native.Mathlib.Omega.{arith}
-use mathlib.Core.List.{List, [], _∷_, _++_, map, tail-eq-of-cons-eq, List·Memᴰ·not-nil}
+use mathlib.Core.List.{List, [], _∷_, _++_, map, tail-eq-of-cons-eq, List·Memᴰ·head, List·Memᴰ·tail, List·Memᴰ·not-nil}
 use mathlib.Core.Bool.{Bool, true, false, cond, not, _&&_}
 use lib.ListN.{length, take, length-take}
 use lib.Dec.{leb, eqb}
@@ -14,11 +14,12 @@ use Rattle.bytes_order.specs.Order.{before}
 use Rattle.bytes_order.specs.Member.{_∈_, member, keep}
 use Rattle.bytes_order.specs.BoolLaws.{true-false}
 use Rattle.bytes_order.specs.OrderLaws.{before→ne, before-first}
-use Rattle.bytes_order.specs.MemberLaws.{∈-cast, ∈-append-left, ∈-append-right, append-∈, map-∈, ∈→member, member→∈, ∈-keep, keep-∈, take-∈, front-∈, some-taken}
-use Rattle.bytes_order.specs.Distinct.{Distinct, Identifies}
-use Rattle.bytes_order.specs.Ascending.{Ascending}
+use Rattle.bytes_order.specs.MemberLaws.{∈-cases, ∈-singleton, ∈-cast, ∈-append-left, ∈-append-right, append-∈, ∈-map, map-∈, ∈→member, member→∈, ∈-keep, keep-∈, reverse-∈, take-∈, front-∈, some-taken}
+use Rattle.bytes_order.specs.Distinct.{Distinct, distinct-nil, distinct-cons, Identifies}
+use Rattle.bytes_order.specs.DistinctLaws.{distinct-identifies, distinct-keep, distinct-append, distinct-subset-length, distinct-same-length}
+use Rattle.bytes_order.specs.Ascending.{Ascending, ascending-nil, ascending-cons}
 use Rattle.bytes_order.specs.Sort.{sort}
-use Rattle.bytes_order.specs.SortLaws.{ascending-keep, sort-∈, ∈-sort, sort-ascending, sort-length, sort-key, greatest-first}
+use Rattle.bytes_order.specs.SortLaws.{ascending-head, ascending-distinct, ascending-identifies, ascending-keep, sort-∈, ∈-sort, sort-ascending, sort-same, sort-distinct, sort-length, sort-key, greatest-first}
 use Rattle.update_format.specs.Update.{Id, maxPredecessors, Update}
 use Rattle.rules.specs.declared.CausalOrder.the-variants.{Same, Before}
 use Rattle.rules.specs.Standing.{Ancestor}
@@ -27,11 +28,40 @@ use Rattle.rules.specs.CausalOrder.{isBefore, sameOrBefore}
 use Rattle.rules.specs.Settle.{Row, Table, orderIn, heldRow, covered, heads, rank, rankKey}
 use Rattle.rules.specs.Decides.{Decides}
 use Rattle.rules.specs.CausalLaws.{isBefore→, sameOrBefore→}
-use Rattle.rules.specs.TableLaws.{HeldRow, any-held→, keep-held→, →keep-held, row-eq, row-held, row-id, ancestor→above, above→ancestor, row-order, above-trans, rank-bound, rank-less}
+use Rattle.rules.specs.TableLaws.{not-true→, HeldRow, any-held→, keep-held→, →keep-held, row-eq, row-held, row-id, ancestor→above, above→ancestor, row-order, above-trans, rank-bound, rank-less}
 use Rattle.rules.specs.Writing.{heldBy, ranked, atOrAbove, firstHeads, others, chosenFrom, chosen}
 
 abbrev pub rowId : Row → Id
 rowId r = r .id
+
+-- the front of a list
+
+module _ {A : Type 0} {key : A → List ℕ} where
+  distinct-take : (n : ℕ) {xs : List A} → Distinct key xs → Distinct key (take n xs)
+  distinct-take zero d = distinct-nil
+  distinct-take (suc n) distinct-nil = distinct-nil
+  distinct-take (suc n) (distinct-cons {xs = xs} h d) = distinct-cons (λ y m. h y (take-∈ n xs m)) (distinct-take n d)
+
+  -- xs, then an ascending list: what is taken of this comes before what is not
+  front-lowest : (n : ℕ) (xs : List A) {ys : List A} → Ascending key ys → {x y : A} → x ∈ take n (xs ++ ys) → (x ∈ xs → ⊥) → y ∈ ys
+      → (y ∈ take n (xs ++ ys) → ⊥) → before (key x) (key y) ≡ true
+  front-lowest zero xs a i n j out = absurd (List·Memᴰ·not-nil i)
+  front-lowest (suc k) [] ascending-nil i n j out = absurd (List·Memᴰ·not-nil i)
+  front-lowest (suc k) [] (ascending-cons {x = z} {xs = zs} b a) {x} {y} i n j out =
+      step (∈-cases i) (∈-cases j) (λ (p : x ∈ take k zs) (q : y ∈ zs). front-lowest k [] a p n q (λ t. out (List·Memᴰ·tail t)))
+    where
+      step : (x ≡ z) ⊎ (x ∈ take k zs) → (y ≡ z) ⊎ (y ∈ zs) → (x ∈ take k zs → y ∈ zs → before (key x) (key y) ≡ true) → before (key x) (key y) ≡ true
+      step p (inl q) later = absurd (out (List·Memᴰ·head q))
+      step (inl p) (inr q) later = subst (λ (w : A). before (key w) (key y) ≡ true) (sym p) (b y q)
+      step (inr p) (inr q) later = later p q
+  front-lowest (suc k) (z ∷ xs) {ys} a {x} i n j out =
+      ⊎-elim (λ (p : x ≡ z). absurd (n (List·Memᴰ·head p)))
+      (λ (p : x ∈ take k (xs ++ ys)). front-lowest k xs a p (λ q. n (List·Memᴰ·tail q)) j (λ t. out (List·Memᴰ·tail t))) (∈-cases i)
+
+-- a list with a member has a first one
+first-of : {A : Type 0} {x : A} {xs : List A} → x ∈ xs → (y : A) × (ys : List A) × (xs ≡ y ∷ ys)
+first-of (List·Memᴰ·head {x = y} {xs = ys} e) = (y, ys, refl)
+first-of (List·Memᴰ·tail {x = y} {xs = ys} m) = (y, ys, refl)
 
 -- the first heads
 
@@ -48,6 +78,11 @@ module _ (T : Table) where
       let n = length (keep (atOrAbove T t) hs) in
       le-trans (subst (λ (k : ℕ). k ≤ 1) (sym (length-take 1 (keep (atOrAbove T t) hs))) (min-le-left 1 n)) (omega arith)
 
+  first-heads-distinct : (hs ts : Table) → Distinct rowId hs → Distinct rowId (firstHeads T hs ts)
+  unfolding firstHeads
+  first-heads-distinct hs [] d = distinct-nil
+  first-heads-distinct hs (t ∷ ts) d = distinct-take 1 (distinct-keep (atOrAbove T t) d)
+
 -- what is chosen of the heads hs
 module _ (hs first : Table) (among : (r : Row) → r ∈ first → r ∈ hs) where
   abbrev candidates : Table
@@ -63,15 +98,31 @@ module _ (hs first : Table) (among : (r : Row) → r ∈ first → r ∈ hs) whe
       (λ (k : r ∈ others hs first). keep-∈ (λ (h : Row). not (member (h .id) (map rowId first))) hs k .0) (append-∈ first m)
 
   -- each head is a candidate, or a first one has its id
-  some-candidate : {h : Row} → h ∈ hs → (r : Row) × (r ∈ candidates)
+  some-candidate : {h : Row} → h ∈ hs → (r : Row) × (r ∈ candidates) × (r .id ≡ h .id)
   unfolding others
   some-candidate {h} m = step (member (h .id) (map rowId first)) refl
     where
-      step : (b : Bool) → member (h .id) (map rowId first) ≡ b → (r : Row) × (r ∈ candidates)
+      step : (b : Bool) → member (h .id) (map rowId first) ≡ b → (r : Row) × (r ∈ candidates) × (r .id ≡ h .id)
       step true e =
           let f = map-∈ rowId first (member→∈ (h .id) (map rowId first) e) in
-          (f .0, ∈-append-left (others hs first) (f .1))
-      step false e = (h, ∈-append-right first (∈-keep (λ (q : Row). not (member (q .id) (map rowId first))) m (ap not e)))
+          (f .0, ∈-append-left (others hs first) (f .1), f .2)
+      step false e = (h, ∈-append-right first (∈-keep (λ (q : Row). not (member (q .id) (map rowId first))) m (ap not e)), refl)
+
+  ∈-candidates : Identifies rowId hs → {h : Row} → h ∈ hs → h ∈ candidates
+  ∈-candidates one {h} m =
+      let f = some-candidate m in subst (λ (r : Row). r ∈ candidates) (one (f .0) h (candidates-∈ (f .0) (f .1)) m (f .2)) (f .1)
+
+  candidates-distinct : Distinct rowId hs → Distinct rowId first → Distinct rowId candidates
+  unfolding others
+  candidates-distinct d c =
+      distinct-append c (distinct-keep (λ (h : Row). not (member (h .id) (map rowId first))) d)
+      (λ x y i j e.
+      let m : y .id ∈ map rowId first = ∈-cast (sym e) (∈-map rowId i) in
+      true-false (∈→member m)
+      (not-true→ (member (y .id) (map rowId first)) (keep-∈ (λ (h : Row). not (member (h .id) (map rowId first))) hs j .1)))
+
+  taken-identified : Identifies rowId hs → Identifies rowId taken
+  taken-identified one x y i j = one x y (candidates-∈ x (take-∈ maxPredecessors candidates i)) (candidates-∈ y (take-∈ maxPredecessors candidates j))
 
   -- the heads themselves where they are at most eight, else eight of the candidates
   chosen-cases : (P : Table → Type 0) → (length hs ≤ maxPredecessors → P hs) → (maxPredecessors < length hs → P (sort rowId taken)) → P (chosenFrom hs first)
@@ -102,9 +153,29 @@ module _ (hs first : Table) (among : (r : Row) → r ∈ first → r ∈ hs) whe
   from-first : Identifies rowId hs → length first ≤ maxPredecessors → {r : Row} → r ∈ first → r ∈ chosenFrom hs first
   from-first one few {r} m =
       chosen-cases (λ (rs : Table). r ∈ rs) (λ h. among r m)
-      (λ l. ∈-sort rowId
-      (λ x y i j. one x y (candidates-∈ x (take-∈ maxPredecessors candidates i)) (candidates-∈ y (take-∈ maxPredecessors candidates j)))
-      (front-∈ maxPredecessors first (others hs first) few m))
+      (λ l. ∈-sort rowId (taken-identified one) (front-∈ maxPredecessors first (others hs first) few m))
+
+  from-number : Distinct rowId hs → Distinct rowId first → maxPredecessors < length hs → length (chosenFrom hs first) ≡ maxPredecessors
+  from-number d c many =
+      chosen-cases (λ (rs : Table). length rs ≡ maxPredecessors) (λ few. absurd (not-le-of-lt many few))
+      (λ l.
+      let enough : length hs ≤ length candidates = distinct-subset-length d candidates (λ h m. ∈-candidates (distinct-identifies d) m) in
+      distinct-same-length (sort-distinct rowId taken) (distinct-take maxPredecessors (candidates-distinct d c))
+      (sort-same rowId taken (taken-identified (distinct-identifies d)))
+      ∙ length-take maxPredecessors candidates ∙ min-eq-left (omega arith))
+
+  -- a head that is left out has a larger id than each that is chosen, but for the first
+  from-lowest : Ascending rowId hs → length first ≤ maxPredecessors → {h g : Row} → h ∈ chosenFrom hs first → (h ∈ first → ⊥) → g ∈ hs
+      → (g ∈ chosenFrom hs first → ⊥) → before (h .id) (g .id) ≡ true
+  unfolding others
+  from-lowest a few {h} {g} i n j =
+      chosen-cases (λ (rs : Table). h ∈ rs → (g ∈ rs → ⊥) → before (h .id) (g .id) ≡ true) (λ l p out. absurd (out j))
+      (λ l p out.
+      let one : Identifies rowId hs = ascending-identifies a in
+      let untaken : g ∈ taken → ⊥ = λ t. out (∈-sort rowId (taken-identified one) t) in
+      front-lowest maxPredecessors first (ascending-keep (λ (q : Row). not (member (q .id) (map rowId first))) a) (sort-∈ rowId taken p) n
+      (⊎-elim (λ (k : g ∈ first). absurd (untaken (front-∈ maxPredecessors first (others hs first) few k))) (λ (k : g ∈ others hs first). k)
+      (append-∈ first (∈-candidates one j))) untaken) i
 
   from-some : {h : Row} → h ∈ hs → (r : Row) × (r ∈ chosenFrom hs first)
   from-some {h} m =
@@ -113,31 +184,64 @@ module _ (hs first : Table) (among : (r : Row) → r ∈ first → r ∈ hs) whe
 
 -- the same, of the heads of a table
 module _ (T : Table) (a : ℕ) where
-  abbrev first : Table
-  first = firstHeads T (heads T) (ranked (heldBy T a))
+  -- the author's own head, if it has held updates
+  abbrev pub ownHeads : Table
+  ownHeads = firstHeads T (heads T) (ranked (heldBy T a))
 
-  first-among : (r : Row) → r ∈ first → r ∈ heads T
+  first-among : (r : Row) → r ∈ ownHeads → r ∈ heads T
   first-among r = first-heads-∈ T (heads T) (ranked (heldBy T a))
+
+  first-few : length ownHeads ≤ maxPredecessors
+  first-few = first-heads-few T (heads T) (ranked (heldBy T a))
+
+  heads-ascending : Ascending rowId T → Ascending rowId (heads T)
+  unfolding heads
+  heads-ascending k = ascending-keep (λ (r : Row). heldRow r && not (covered T r)) k
 
   pub chosen-all : length (heads T) ≤ maxPredecessors → chosen T a ≡ heads T
   unfolding chosen
-  chosen-all = from-all (heads T) first first-among
+  chosen-all = from-all (heads T) ownHeads first-among
 
   pub chosen-few : length (chosen T a) ≤ maxPredecessors
   unfolding chosen
-  chosen-few = from-few (heads T) first first-among
+  chosen-few = from-few (heads T) ownHeads first-among
 
   pub chosen-ascending : Ascending rowId T → Ascending rowId (chosen T a)
-  unfolding chosen heads
-  chosen-ascending k = from-ascending (heads T) first first-among (ascending-keep (λ (r : Row). heldRow r && not (covered T r)) k)
+  unfolding chosen
+  chosen-ascending k = from-ascending (heads T) ownHeads first-among (heads-ascending k)
 
   pub chosen-head : {r : Row} → r ∈ chosen T a → r ∈ heads T
   unfolding chosen
-  chosen-head = from-∈ (heads T) first first-among
+  chosen-head = from-∈ (heads T) ownHeads first-among
 
   pub chosen-some : {h : Row} → h ∈ heads T → (r : Row) × (r ∈ chosen T a)
   unfolding chosen
-  chosen-some = from-some (heads T) first first-among
+  chosen-some = from-some (heads T) ownHeads first-among
+
+  pub chosen-number : Ascending rowId T → maxPredecessors < length (heads T) → length (chosen T a) ≡ maxPredecessors
+  unfolding chosen
+  chosen-number k =
+      let d = ascending-distinct (heads-ascending k) in
+      from-number (heads T) ownHeads first-among d (first-heads-distinct T (heads T) (ranked (heldBy T a)) d)
+
+  pub chosen-lowest : Ascending rowId T → {h g : Row} → h ∈ chosen T a → (h ∈ ownHeads → ⊥) → g ∈ heads T → (g ∈ chosen T a → ⊥)
+      → before (h .id) (g .id) ≡ true
+  unfolding chosen
+  chosen-lowest k = from-lowest (heads T) ownHeads first-among (heads-ascending k) first-few
+
+-- the held row h is that of t, or of an update with t's as an ancestor
+abbrev pub RowAtOrAbove : Row → Row → Type 0
+RowAtOrAbove t h = (h .id ≡ t .id) ⊎ (t .id ∈ h .above)
+
+-- t is the author's held row of highest rank, and h the lowest head at or above it
+pub record OwnRows (T : Table) (a : ℕ) (t h : Row) : Type 0 where
+  pub top-held : HeldRow T t
+  pub top-by : t .update .author ≡ a
+  pub top : (q : Row) → HeldRow T q → q .update .author ≡ a → (q ≡ t) ⊎ (before (rankKey q) (rankKey t) ≡ true)
+  pub is-head : h ∈ heads T
+  pub is-above : RowAtOrAbove t h
+  pub lowest : (g : Row) → g ∈ heads T → RowAtOrAbove t g → (g ≡ h) ⊎ (before (h .id) (g .id) ≡ true)
+  pub is-own : ownHeads T a ≡ h ∷ []
 
 -- the choice from a table that decides its set
 module _ {ident : Update → Id} {S : List Update} {T : Table} (distinct : Distinct ident S) (decides : Decides ident S T) where
@@ -145,11 +249,7 @@ module _ {ident : Update → Id} {S : List Update} {T : Table} (distinct : Disti
   unfolding heads
   head-row m = keep-held→ T (λ (q : Row). not (covered T q)) m .0
 
-  -- the held row h is that of t, or of an update with t's as an ancestor
-  abbrev pub AtOrAbove : Row → Row → Type 0
-  AtOrAbove t h = (h .id ≡ t .id) ⊎ (t .id ∈ h .above)
-
-  atOrAbove→ : {t h : Row} → HeldRow T t → HeldRow T h → atOrAbove T t h ≡ true → AtOrAbove t h
+  atOrAbove→ : {t h : Row} → HeldRow T t → HeldRow T h → atOrAbove T t h ≡ true → RowAtOrAbove t h
   unfolding atOrAbove
   atOrAbove→ {t} {h} k l e =
       ⊎-elim
@@ -158,7 +258,7 @@ module _ {ident : Update → Id} {S : List Update} {T : Table} (distinct : Disti
       (λ (o : orderIn T (t .id) (h .id) ≡ Before). inr (ancestor→above distinct decides k l (row-order distinct decides k l .right Before o)))
       (sameOrBefore→ (orderIn T (t .id) (h .id)) e)
 
-  →atOrAbove : {t h : Row} → HeldRow T t → HeldRow T h → AtOrAbove t h → atOrAbove T t h ≡ true
+  →atOrAbove : {t h : Row} → HeldRow T t → HeldRow T h → RowAtOrAbove t h → atOrAbove T t h ≡ true
   unfolding atOrAbove sameOrBefore
   →atOrAbove {t} {h} k l c =
       ⊎-elim
@@ -166,19 +266,19 @@ module _ {ident : Update → Id} {S : List Update} {T : Table} (distinct : Disti
       ap sameOrBefore (row-order distinct decides k l .all Same (ap (λ (r : Row). r .update) (row-eq distinct decides (k .row-in) (l .row-in) (sym e)))))
       (λ (m : t .id ∈ h .above). ap sameOrBefore (row-order distinct decides k l .all Before (above→ancestor distinct decides k l m))) c
 
-  atOrAbove-trans : (t : Row) {q h : Row} → HeldRow T q → HeldRow T h → AtOrAbove t q → AtOrAbove q h → AtOrAbove t h
-  atOrAbove-trans t kq kh c (inl e) = subst (AtOrAbove t) (row-eq distinct decides (kq .row-in) (kh .row-in) (sym e)) c
+  atOrAbove-trans : (t : Row) {q h : Row} → HeldRow T q → HeldRow T h → RowAtOrAbove t q → RowAtOrAbove q h → RowAtOrAbove t h
+  atOrAbove-trans t kq kh c (inl e) = subst (RowAtOrAbove t) (row-eq distinct decides (kq .row-in) (kh .row-in) (sym e)) c
   atOrAbove-trans t kq kh (inl e) (inr m) = inr (∈-cast (sym e) m)
   atOrAbove-trans t kq kh (inr n) (inr m) = inr (above-trans distinct decides kq kh m n)
 
   -- every held update is at or below a head; n bounds how many are above it
-  head-above : (n : ℕ) (t : Row) → HeldRow T t → length T ≤ rank t + n → (h : Row) × (h ∈ heads T) × AtOrAbove t h
+  head-above : (n : ℕ) (t : Row) → HeldRow T t → length T ≤ rank t + n → (h : Row) × (h ∈ heads T) × RowAtOrAbove t h
   unfolding covered heads
   head-above zero t k b = absurd (let l : rank t < length T = rank-bound distinct decides k in omega arith)
   head-above (suc n) t k b = step (covered T t) refl (λ q kq l. head-above n q kq l)
     where
-      step : (c : Bool) → covered T t ≡ c → ((q : Row) → HeldRow T q → length T ≤ rank q + n → (h : Row) × (h ∈ heads T) × AtOrAbove q h)
-          → (h : Row) × (h ∈ heads T) × AtOrAbove t h
+      step : (c : Bool) → covered T t ≡ c → ((q : Row) → HeldRow T q → length T ≤ rank q + n → (h : Row) × (h ∈ heads T) × RowAtOrAbove q h)
+          → (h : Row) × (h ∈ heads T) × RowAtOrAbove t h
       step true e below =
           let f = any-held→ T (λ (q : Row). isBefore (orderIn T (t .id) (q .id))) e in
           let m : t .id ∈ f .0 .above =
@@ -188,13 +288,13 @@ module _ {ident : Update → Id} {S : List Update} {T : Table} (distinct : Disti
           (g .0, g .1, atOrAbove-trans t (f .1) (head-row (g .1)) (inr m) (g .2))
       step false e below = (t, →keep-held T (λ (q : Row). not (covered T q)) k (ap not e), inl refl)
 
-  pub some-head : {t : Row} → HeldRow T t → (h : Row) × (h ∈ heads T) × AtOrAbove t h
+  pub some-head : {t : Row} → HeldRow T t → (h : Row) × (h ∈ heads T) × RowAtOrAbove t h
   some-head {t} k = head-above (length T) t k (omega arith)
 
   heads-one : Identifies rowId (heads T)
   heads-one x y m k e = row-eq distinct decides (head-row m .row-in) (head-row k .row-in) e
 
-  module _ (a : ℕ) where
+  module _ (ordered : Ascending rowId T) (a : ℕ) where
     abbrev byAuthor : Row → Bool
     byAuthor r = eqb (r .update .author) a
 
@@ -239,38 +339,65 @@ module _ {ident : Update → Id} {S : List Update} {T : Table} (distinct : Disti
               other-apart = apart t r l k (λ m. not-le-of-lt (rank-less distinct decides l k m) le);
             }))
 
-    -- the author's held update of highest rank is at or above each other
-    top : (Forked ident S a → ⊥) → {r : Row} → HeldRow T r → r .update .author ≡ a
-        → (t : Row) × (ts : Table) × (ranked (heldBy T a) ≡ t ∷ ts) × HeldRow T t × AtOrAbove r t
-    unfolding ranked by-rank
-    top n {r} k e =
-        let i : r ∈ by-rank = ∈-by-rank k e in
-        let f = greatest-first rankKey by-rank (sort-ascending rankKey (heldBy T a)) i in
+    -- an author with a held update has these rows
+    pub own-rows : {r : Row} → HeldRow T r → r .update .author ≡ a → (t h : Row) × OwnRows T a t h
+    unfolding ranked by-rank firstHeads
+    own-rows k e =
+        let f = greatest-first rankKey by-rank (sort-ascending rankKey (heldBy T a)) (∈-by-rank k e) in
         let t : Row = f .0 in
-        let h = held-by→ (sort-∈ rankKey (heldBy T a) (f .3)) in
-        let ne : before (rankKey r) (rankKey t) ≡ true → r .id ≡ t .id → ⊥ = λ b q.
-        before→ne (rankKey r) (rankKey t) b (ap rankKey (row-eq distinct decides (k .row-in) (h .0 .row-in) q)) in (
+        let l = held-by→ (sort-∈ rankKey (heldBy T a) (f .3)) in
+        let g = some-head (l .0) in
+        let above : (q : Row) → q ∈ heads T → RowAtOrAbove t q → q ∈ keep (atOrAbove T t) (heads T) = λ q m c.
+        ∈-keep (atOrAbove T t) m (→atOrAbove (l .0) (head-row m) c) in
+        let h = first-of (above (g .0) (g .1) (g .2)) in
+        let m = keep-∈ (atOrAbove T t) (heads T) (subst (λ (rs : Table). h .0 ∈ rs) (sym (h .2)) (List·Memᴰ·head refl)) in
+        let sorted : Ascending rowId (h .0 ∷ h .1) =
+        subst (Ascending rowId) (h .2) (ascending-keep (atOrAbove T t) (heads-ascending T a ordered)) in (
           t,
-          f .1,
-          f .2,
           h .0,
-          ⊎-elim (λ (q : r ≡ t). inl (ap rowId (sym q)))
-              (λ (b : before (rankKey r) (rankKey t) ≡ true).
-              inr (unforked n k (h .0) e (h .1) (before-first (rank r) (rank t) (r .id) (t .id) b) (ne b))) (f .4 r i),
+          record {
+            top-held = l .0;
+            top-by = l .1;
+            top = λ q kq eq. f .4 q (∈-by-rank kq eq);
+            is-head = m .0;
+            is-above = atOrAbove→ (l .0) (head-row (m .0)) (m .1);
+            lowest = λ q mq c.
+                ⊎-elim inl (λ (i : q ∈ h .1). inr (ascending-head sorted q i)) (∈-cases (subst (λ (rs : Table). q ∈ rs) (h .2) (above q mq c)));
+            is-own = ap (firstHeads T (heads T)) (f .2) ∙ ap (take 1) (h .2);
+          },
         )
 
-    -- a head at or above each held update of the author is named
-    pub named : (Forked ident S a → ⊥) → {r : Row} → HeldRow T r → r .update .author ≡ a → (h : Row) × (h ∈ chosen T a) × HeldRow T h × AtOrAbove r h
-    unfolding chosen firstHeads
+    -- a first head is the author's own
+    pub own-∈ : {r : Row} → r ∈ ownHeads T a → (t : Row) × OwnRows T a t r
+    unfolding ranked firstHeads
+    own-∈ {r} m = step (ranked (heldBy T a)) refl
+      where
+        step : (rs : Table) → ranked (heldBy T a) ≡ rs → (t : Row) × OwnRows T a t r
+        step [] e = absurd (List·Memᴰ·not-nil (subst (λ (rs : Table). r ∈ firstHeads T (heads T) rs) e m))
+        step (q ∷ qs) e =
+            let i : q ∈ ranked (heldBy T a) = subst (λ (rs : Table). q ∈ rs) (sym e) (List·Memᴰ·head refl) in
+            let l = held-by→ (sort-∈ rankKey (heldBy T a) (reverse-∈ (sort rankKey (heldBy T a)) i)) in
+            let f = own-rows (l .0) (l .1) in
+            (f .0, subst (OwnRows T a (f .0)) (sym (∈-singleton (subst (λ (rs : Table). r ∈ rs) (f .2 .is-own) m))) (f .2))
+
+    -- it is chosen
+    pub chosen-own : {t h : Row} → OwnRows T a t h → h ∈ chosen T a
+    unfolding chosen
+    chosen-own {t} {h} o =
+        from-first (heads T) (ownHeads T a) (first-among T a) heads-one (first-few T a)
+        (subst (λ (rs : Table). h ∈ rs) (sym (o .is-own)) (List·Memᴰ·head refl))
+
+    -- a head at or above each held update of an author without a fork is named
+    pub named : (Forked ident S a → ⊥) → {r : Row} → HeldRow T r → r .update .author ≡ a → (h : Row) × (h ∈ chosen T a) × HeldRow T h × RowAtOrAbove r h
     named n {r} k e =
-        let t = top n k e in
-        let g = some-head (t .3) in
-        let f = some-taken 0 (∈-keep (atOrAbove T (t .0)) (g .1) (→atOrAbove (t .3) (head-row (g .1)) (g .2))) in
-        let h = keep-∈ (atOrAbove T (t .0)) (heads T) (take-∈ 1 (keep (atOrAbove T (t .0)) (heads T)) (f .1)) in
-        let m : f .0 ∈ first T a =
-        subst (λ (ts : Table). f .0 ∈ firstHeads T (heads T) ts) (sym (t .2)) (f .1) in (
-          f .0,
-          from-first (heads T) (first T a) (first-among T a) heads-one (first-heads-few T (heads T) (ranked (heldBy T a))) m,
-          head-row (h .0),
-          atOrAbove-trans r (t .3) (head-row (h .0)) (t .4) (atOrAbove→ (t .3) (head-row (h .0)) (h .1)),
-        )
+        let f = own-rows k e in
+        let t : Row = f .0 in
+        let o = f .2 in
+        let l = o .top-held in
+        let ne : before (rankKey r) (rankKey t) ≡ true → r .id ≡ t .id → ⊥ = λ b q.
+        before→ne (rankKey r) (rankKey t) b (ap rankKey (row-eq distinct decides (k .row-in) (l .row-in) q)) in
+        let below : RowAtOrAbove r t =
+        ⊎-elim (λ (q : r ≡ t). inl (ap rowId (sym q)))
+        (λ (b : before (rankKey r) (rankKey t) ≡ true).
+        inr (unforked n k l e (o .top-by) (before-first (rank r) (rank t) (r .id) (t .id) b) (ne b))) (o .top r k e) in
+        (f .1, chosen-own o, head-row (o .is-head), atOrAbove-trans r l (head-row (o .is-head)) below (o .is-above))

@@ -4,9 +4,12 @@ pub mod Mark
 pub mod ReadOff
 pub mod CausalOrder
 pub mod Parts
+pub mod Choice
 pub mod Settle
 pub mod Report
+pub mod Writing
 pub mod Small
+pub mod Cases
 pub mod Decides
 pub mod LeastSets
 pub mod CausalLaws
@@ -20,11 +23,11 @@ pub mod ListedLaws
 pub mod ReadOffLaws
 pub mod MarkLaws
 pub mod PartsLaws
-pub mod SmallLaws
 pub mod TextLaws
 pub mod ShortLaws
 pub mod ReportLengthLaws
 pub mod ReportLaws
-pub mod Writing
 pub mod ChoiceLaws
 pub mod WritingLaws
+pub mod ChosenLaws
+pub mod SmallLaws

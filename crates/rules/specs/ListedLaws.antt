@@ -153,7 +153,7 @@ module _ {ident : Update → Id} {S : List Update} where
   rank-unique : {u : Update} {m n : ℕ} → Rank ident S u m → Rank ident S u n → m ≡ n
   rank-unique r q = sym (r .number) ∙ distinct-same-length (r .once) (q .once) (record { forth = rank-ids r q; back = rank-ids q r }) ∙ q .number
 
-  sooner-asym : {u v : Update} → Sooner ident S u v → Sooner ident S v u → ⊥
+  pub sooner-asym : {u v : Update} → Sooner ident S u v → Sooner ident S v u → ⊥
   sooner-asym {u} {v} s t =
       true-false (subst₂ (λ (m n : ℕ). before (m ∷ ident u) (n ∷ ident v) ≡ true) (rank-unique (t .is-rank-v) (s .is-rank-u)) (rank-unique (t .is-rank-u) (s .is-rank-v)) (t .larger))
       (before-asym (s .rank-v ∷ ident v) (s .rank-u ∷ ident u) (s .larger))

@@ -1,5 +1,6 @@
--- Document 01, "Sixteen small ledgers": small sets with short stand-in ids, as a table, and the rules computed on it. The theorem that covers the table is
--- `small-ledgers` of `SmallLaws`. At the end document 02's four answers, and two sets with one short report, computed.
+-- Document 01, "Sixteen small ledgers": small sets with short stand-in ids, as a table. The rules are computed on it in `Cases`, and the theorem that covers it is
+-- `small-ledgers` of `SmallLaws`. At the end sets for document 02's four answers, two with one short report, one whose reports are written out whole, a table of what
+-- the writer names, and a set with the longest short report.
 --
 -- The stand-in ids are chosen so that the careless rules of "Where a careful hand goes wrong" fail here:
 --   a Remove judged by the whole set: 10 (it would be held, and remove a);
@@ -11,27 +12,24 @@
 -- Document 02, E5, gives each set entry its author. The other Add of 12 is by the same author; the further ledgers have it by another, and both.
 -- Document 02, E7, marks faults: d of 7, 8 and 9, and r of 10. In 8 and 9 e, by author 3, is void through d and marks nobody. The further ledgers have that with a held
 -- predecessor beside d, an author with a fork and a fault, and one whose Remove will be bad but waits.
-use Prim.Native.Nat.{ℕ}
-use mathlib.Core.Path.{_≡_, refl}
+use Prim.Native.Nat.{ℕ, zero, suc, _+_, _/_, _%_}
 use mathlib.Core.List.{List, [], _∷_, map, _++_}
-use mathlib.Core.Bool.{Bool, true, false, cond, not, _&&_}
-use Rattle.bytes_order.specs.Order.{same, before}
-use Rattle.bytes_order.specs.Member.{member, keep, any, all, concatMap}
-use Rattle.bytes_order.specs.Sort.{insert, sort}
-use Rattle.bytes_ascii.specs.Ascii.{codes, ascii, digit, hexByte, hex, decimalIn, decimal}
-use Rattle.update_format.specs.Update.{Id, Operation, Add, Remove, Insert, Delete, Update, encode, encodeOperation}
+use mathlib.Core.Bool.{Bool, true, cond, not, _&&_}
+use lib.ListN.{replicate}
+use lib.Dec.{ltb}
+use Rattle.bytes_order.specs.Order.{same}
+use Rattle.bytes_order.specs.Member.{member, keep, concatMap}
+use Rattle.bytes_ascii.specs.Ascii.{ascii}
+use Rattle.update_format.specs.Update.{Id, Operation, Add, Remove, Insert, Delete, Update, encode}
 use Rattle.rules.specs.declared.CausalOrder.{CausalOrder}
-use Rattle.rules.specs.declared.CausalOrder.the-variants.{Same, Before, After, Apart}
-use Rattle.rules.specs.declared.Form.the-variants.{Full, Short}
 use Rattle.rules.specs.Standing.{beginning}
 use Rattle.rules.specs.declared.MarkKind.{MarkKind}
 use Rattle.rules.specs.declared.MarkKind.the-variants.{Fork, Fault, Both}
-use Rattle.rules.specs.SetEntry.{SetEntry, entryKey}
-use Rattle.rules.specs.Mark.{Mark, markKey, kindsBy, marksBy}
+use Rattle.rules.specs.SetEntry.{SetEntry}
+use Rattle.rules.specs.Mark.{Mark}
 use Rattle.rules.specs.Parts.{Parts}
-use Rattle.rules.specs.CausalOrder.{orderBy, isBefore, isApart, beforeOrAfter}
-use Rattle.rules.specs.Settle.{held, Table, isHeld, isWaiting, isVoid, isAdd, isInsert, heldIn, voidIn, addIn, insertIn, aboveIn, orderIn, ancestorsOf, antichain, validOp, fineBy, ruled, judgeFine, judgeKnown, judgeBy, judgeFrom, judge, round, rounds, start, startAll, settledTable, heldRow, covered, heads, forkedBy, forkedRow, faultRow, someRowBy, marksIn, marks, names, removed, tagsOf, setEntriesFrom, setEntries, rank, anchored, siblings, under, walk, entries, deletes, deleted, valuesOf, list, partsIn, partsOf, causalOrder}
-use Rattle.rules.specs.Report.{updateLine, setLine, bytesLine, idLine, markWord, markLine, partText, reportText, reportOf}
+use Rattle.rules.specs.Settle.{Row, held, Table, ancestorsOf, causalOrder}
+use Rattle.rules.specs.Writing.{heldBy, writtenIn}
 
 -- an update with its stand-in id
 pub record Named : Type 0 where
@@ -401,18 +399,10 @@ further =
 abbrev pub smallLedgers : List Small
 smallLedgers = sixteen ++ further
 
-pub computed : map (λ (c : Small). partsOf (identOf c) (smallSet c)) smallLedgers ≡ map (λ (c : Small). c .gives) smallLedgers
-unfolding sixteen further expect added marked by nameIn encode encodeOperation same before member keep any all concatMap insert sort isHeld isWaiting isVoid isAdd isInsert heldIn voidIn addIn insertIn aboveIn orderIn orderBy isBefore isApart beforeOrAfter ancestorsOf antichain validOp fineBy ruled judgeFine judgeKnown judgeBy judgeFrom judge round rounds start startAll settledTable heldRow covered heads forkedBy forkedRow faultRow someRowBy kindsBy marksBy markKey marksIn marks names removed tagsOf setEntriesFrom setEntries entryKey rank anchored siblings under walk entries deletes deleted valuesOf list partsIn partsOf a b a′ d e e′ e″ r r′ r″ c c′ n n′ o o′ p q q′ i x m f g w z y i′ x′ v u k
-computed = refl
-
 -- no id stands twice
 unfoldable pub apart : List Id → Bool
 apart [] = true
 apart (i ∷ is) = not (member i is) && apart is
-
-pub ids-apart : all (λ (c : Small). apart (map (identOf c) (smallSet c))) smallLedgers ≡ true
-unfolding sixteen further by nameIn encode encodeOperation same member all concatMap apart a b a′ d e e′ e″ r r′ r″ c c′ n n′ o o′ p q q′ i x m f g w z y i′ x′ v u k
-ids-apart = refl
 
 -- Document 02, E4: the four answers, of the set a, b after a, and another root
 abbrev pub threeNamed : List Named
@@ -421,20 +411,12 @@ threeNamed = a ∷ b ∷ a′ ∷ []
 abbrev pub orderNamed : Named → Named → CausalOrder
 orderNamed n m = causalOrder (nameIn threeNamed) (namedUpdates threeNamed) (n .update) (m .update)
 
-pub orders-computed : (orderNamed a a ∷ orderNamed a b ∷ orderNamed b a ∷ orderNamed a a′ ∷ orderNamed a′ b ∷ []) ≡ (Same ∷ Before ∷ After ∷ Apart ∷ Apart ∷ [])
-unfolding by nameIn encode encodeOperation same before member keep any all concatMap insert sort isHeld isWaiting isVoid isAdd isInsert heldIn voidIn addIn insertIn aboveIn orderIn orderBy isBefore isApart beforeOrAfter ancestorsOf antichain validOp fineBy ruled judgeFine judgeKnown judgeBy judgeFrom judge round rounds start startAll settledTable causalOrder a b a′
-orders-computed = refl
-
 -- and of a table that no set has, in which the first is an ancestor of itself, and each of the other
 abbrev pub crossedRows : Table
 crossedRows =
     record { id = #a; update = record { author = 1; preds = []; op = Add t }; verdict = held; above = #a ∷ #b ∷ [] }
     ∷ record { id = #b; update = record { author = 1; preds = []; op = Add t′ }; verdict = held; above = #a ∷ [] }
     ∷ []
-
-pub orders-crossed : (orderIn crossedRows #a #a ∷ orderIn crossedRows #a #b ∷ orderIn crossedRows #b #a ∷ []) ≡ (Same ∷ Apart ∷ Apart ∷ [])
-unfolding same member any aboveIn orderIn orderBy
-orders-crossed = refl
 
 -- Document 02, E10: of two sets the second has one more Add of the tag, by the same author and after the first: the entry is the same, and so is the short report
 abbrev pub oneAdd : List Update
@@ -449,8 +431,110 @@ addIdent = nameIn (a ∷ c ∷ [])
 abbrev pub addShort : List ℕ
 addShort = ascii "(ledger 1\n(marks\n)\n(set\n(07 1)\n)\n(list\n)\n)\n"
 
--- .. but the full one has the second Add's id
-pub forms-computed : (reportOf Short addIdent oneAdd ≡ addShort) × (reportOf Short addIdent twoAdds ≡ addShort)
-    × (same (reportOf Full addIdent oneAdd) (reportOf Full addIdent twoAdds) ≡ false)
-unfolding by nameIn encode encodeOperation same before member keep any all concatMap insert sort isHeld isWaiting isVoid isAdd isInsert heldIn voidIn addIn insertIn aboveIn orderIn orderBy isBefore isApart beforeOrAfter ancestorsOf antichain validOp fineBy ruled judgeFine judgeKnown judgeBy judgeFrom judge round rounds start startAll settledTable heldRow covered heads forkedBy forkedRow faultRow someRowBy kindsBy marksBy markKey marksIn marks names removed tagsOf setEntriesFrom setEntries entryKey rank anchored siblings under walk entries deletes deleted valuesOf list partsIn partsOf a c codes ascii digit hexByte hex decimalIn decimal updateLine idLine setLine bytesLine markWord markLine partText reportText reportOf
-forms-computed = (refl, refl, refl)
+-- Document 01, "Command and report", with the mark lines and the set lines of document 02: nine updates, whose reports are written out whole in `wholeFull` and
+-- `wholeShort`. By hand, with ids in hexadecimal:
+--   0b, 1f and a0 have no predecessors, and 9c follows 1f and a0, of which none is the other's ancestor: these four are held.
+--   44 deletes a0, which is no ancestor, and e3, a Remove of the tag 2d, names an Add of 2c: void, with all predecessors held. 05 is void through e3.
+--   fe waits for 77, which is missing, and 3a, after 9c, waits for fe.
+--   No held update is above 0b or 9c, only the void 44 and the waiting 3a: these two are heads.
+--   3 has the fault e3; 7 the fork 0b and 9c, and the fault 44; 12 the fork 1f and a0. 05 marks nobody, nor does what waits.
+--   The held Adds are 1f, by 12, and 9c, by 7, of one tag: 7 comes before 12. The held Inserts are a0 and 0b, at the beginning and of rank 0: the larger id first.
+unfoldable pub whole : List Named
+whole =
+    by (0x44 ∷ []) 7 ((0x0b ∷ []) ∷ []) (Delete (0xa0 ∷ []))
+    ∷ by (0xfe ∷ []) 15 ((0x77 ∷ []) ∷ []) (Add (0x2e ∷ []))
+    ∷ by (0x9c ∷ []) 7 ((0x1f ∷ []) ∷ (0xa0 ∷ []) ∷ []) (Add (0x2c ∷ []))
+    ∷ by (0x1f ∷ []) 12 [] (Add (0x2c ∷ []))
+    ∷ by (0x05 ∷ []) 10 ((0xe3 ∷ []) ∷ []) (Add (0x2f ∷ []))
+    ∷ by (0xa0 ∷ []) 12 [] (Insert beginning (0xd5 ∷ []))
+    ∷ by (0x3a ∷ []) 1 ((0x9c ∷ []) ∷ (0xfe ∷ []) ∷ []) (Insert beginning (0x99 ∷ []))
+    ∷ by (0x0b ∷ []) 7 [] (Insert beginning (0x6e ∷ []))
+    ∷ by (0xe3 ∷ []) 3 ((0x1f ∷ []) ∷ []) (Remove (0x2d ∷ []) ((0x1f ∷ []) ∷ []))
+    ∷ []
+
+abbrev pub wholeIdent : Update → Id
+wholeIdent = nameIn whole
+
+abbrev pub wholeSet : List Update
+wholeSet = namedUpdates whole
+
+abbrev pub wholeFull : List ℕ
+wholeFull =
+    concatMap ascii
+    ("(ledger 1\n"
+    ∷ "(held\n(0b 7)\n(1f 12)\n(9c 7)\n(a0 12)\n)\n"
+    ∷ "(heads\n(0b)\n(9c)\n)\n"
+    ∷ "(waiting\n(3a 1)\n(fe 15)\n)\n"
+    ∷ "(void\n(05 10)\n(44 7)\n(e3 3)\n)\n"
+    ∷ "(marks\n(3 fault)\n(7 both)\n(12 fork)\n)\n"
+    ∷ "(set\n(2c 7)\n(2c 12)\n)\n"
+    ∷ "(list\n(d5)\n(6e)\n)\n"
+    ∷ ")\n"
+    ∷ [])
+
+abbrev pub wholeShort : List ℕ
+wholeShort =
+    ascii "(ledger 1\n(marks\n(3 fault)\n(7 both)\n(12 fork)\n)\n(set\n(2c 7)\n(2c 12)\n)\n(list\n(d5)\n(6e)\n)\n)\n"
+
+-- Document 01, "Writing": a set, who writes, the ids that its update names, and those of the writer's held updates that it leaves behind: they are no ancestors of it
+pub record SmallChoice : Type 0 where
+  pub updates : List Named
+  pub writer : ℕ
+  pub names : List Id
+  pub leaves : List Id
+
+abbrev pub choiceIdent : SmallChoice → Update → Id
+choiceIdent c = nameIn (c .updates)
+
+abbrev pub choiceSet : SmallChoice → List Update
+choiceSet c = namedUpdates (c .updates)
+
+-- what is left behind, computed
+unfoldable pub leftIn : Table → ℕ → List Id
+leftIn T author =
+    map (λ (r : Row). r .id) (keep (λ (r : Row). not (member (r .id) (ancestorsOf T (writtenIn T author (Add []))))) (heldBy T author))
+
+-- an Add without predecessors, whose tag is its id
+unfoldable pub root : ℕ → ℕ → Named
+root i author = by (i ∷ []) author [] (Add (i ∷ []))
+
+-- an Add after another
+unfoldable pub next : ℕ → ℕ → ℕ → Named
+next i author after = by (i ∷ []) author ((after ∷ []) ∷ []) (Add (i ∷ []))
+
+-- the ids of the numbers
+abbrev pub ids : List ℕ → List Id
+ids is = map (λ (i : ℕ). i ∷ []) is
+
+abbrev pub sevenRoots : List Named
+sevenRoots = root 17 1 ∷ root 16 1 ∷ root 15 1 ∷ root 14 1 ∷ root 13 2 ∷ root 12 1 ∷ root 11 1 ∷ []
+
+-- Author 5 has 60, 50 after it, and 90, which has a larger id and a lower rank. Two heads are above 50: 70 and 80.
+abbrev pub elevenHeads : List Named
+elevenHeads = root 60 5 ∷ next 50 5 60 ∷ root 90 5 ∷ next 80 6 50 ∷ next 70 7 50 ∷ root 18 1 ∷ sevenRoots
+
+unfoldable pub smallChoices : List SmallChoice
+smallChoices =
+    -- eleven heads, 11 to 18, 70, 80 and 90: 50 is of rank 1, and 60 and 90 of rank 0, so the own head is 70, the lower of 70 and 80; then the seven lowest others
+    record { updates = elevenHeads; writer = 5; names = ids (11 ∷ 12 ∷ 13 ∷ 14 ∷ 15 ∷ 16 ∷ 17 ∷ 70 ∷ []); leaves = ids (90 ∷ []) }
+    -- the same for an author without held updates: the eight lowest
+    ∷ record { updates = elevenHeads; writer = 9; names = ids (11 ∷ 12 ∷ 13 ∷ 14 ∷ 15 ∷ 16 ∷ 17 ∷ 18 ∷ []); leaves = [] }
+    -- the same for an author whose own head, 13, is among the lowest: it is named once, and the eight are the lowest again
+    ∷ record { updates = elevenHeads; writer = 2; names = ids (11 ∷ 12 ∷ 13 ∷ 14 ∷ 15 ∷ 16 ∷ 17 ∷ 18 ∷ []); leaves = [] }
+    -- nine heads, and a tie: 40 and 50 are of rank 0, and 50 has the larger id. The author has a fork and no fault (nothing is void), and 40 is left behind
+    ∷ record { updates = (root 40 5 ∷ root 50 5 ∷ sevenRoots); writer = 5; names = ids (11 ∷ 12 ∷ 13 ∷ 14 ∷ 15 ∷ 16 ∷ 17 ∷ 50 ∷ []); leaves = ids (40 ∷ []) }
+    -- eight heads: all of them
+    ∷ record { updates = (root 40 5 ∷ sevenRoots); writer = 9; names = ids (11 ∷ 12 ∷ 13 ∷ 14 ∷ 15 ∷ 16 ∷ 17 ∷ 40 ∷ []); leaves = [] }
+    ∷ []
+
+-- The longest short report: 64 Adds without predecessors, each of another tag, two by each author up to 9 and seven or more by each of the others. All are held, and
+-- every author has a fork. 36 bytes of an empty report; ten mark lines of 9 and six of 10; twenty set lines of 37 and 44 of 38.
+abbrev pub longestShort : ℕ
+longestShort = 2598
+
+unfoldable pub bookedBy : ℕ → ℕ
+bookedBy i = cond (ltb i 20) (i / 2) (10 + i % 6)
+
+unfoldable pub booked : ℕ → List Update
+booked zero = []
+booked (suc i) = record { author = bookedBy i; preds = []; op = Add (i ∷ replicate 15 0) } ∷ booked i

@@ -1,24 +1,30 @@
 -- Document 01, "Sixteen small ledgers": one theorem covers the table. For each of its sets the parts that document 01 gives are exactly those that `Standing` and
--- `ReadOff` define. At the end two unequal sets with one short report.
+-- `ReadOff` define; and for each row of the table of choices the ids are those that `Choice` defines. At the end two unequal sets with one short report, and the longest
+-- short report.
 use mathlib.Core.Path.{_≡_, refl, sym, ap, _∙_, subst}
 use mathlib.Core.Logic.{⊎-elim}
 use mathlib.Core.List.{List, [], _∷_, map, head-eq-of-cons-eq, tail-eq-of-cons-eq, List·Memᴰ·head, List·Memᴰ·tail, List·Memᴰ·not-nil}
 use mathlib.Core.Bool.{true, not}
 use Prim.Native.Nat.{ℕ}
 use native.Mathlib.Omega.{arith}
+use lib.ListN.{length}
 use Rattle.bytes_order.specs.Member.{_∈_, SameMembers, member}
 use Rattle.bytes_order.specs.MemberLaws.{∈-cases, ∈-singleton, ∈-cast, ∈-map, member-false→, all→∈}
 use Rattle.bytes_order.specs.BoolLaws.{true-false, and-true→}
 use Rattle.bytes_order.specs.OrderLaws.{eq→same}
 use Rattle.bytes_order.specs.Distinct.{Distinct, distinct-nil, distinct-cons}
-use Rattle.update_format.specs.Update.{Id, Update}
+use Rattle.update_format.specs.Update.{Id, Add, Update, encode}
 use Rattle.rules.specs.declared.Form.the-variants.{Full, Short}
 use Rattle.rules.specs.Parts.{ReadFrom}
+use Rattle.rules.specs.Choice.{Chosen}
 use Rattle.rules.specs.Settle.{partsOf}
-use Rattle.rules.specs.Report.{reportOf}
-use Rattle.rules.specs.Small.{#a, Small, by, a, c, identOf, smallSet, smallLedgers, computed, apart, ids-apart, oneAdd, twoAdds, addIdent, forms-computed}
+use Rattle.rules.specs.Report.{places, reportText, reportOf}
+use Rattle.rules.specs.Writing.{writtenOf}
+use Rattle.rules.specs.Small.{#a, Small, by, a, c, identOf, smallSet, smallLedgers, apart, oneAdd, twoAdds, addIdent, SmallChoice, choiceIdent, choiceSet, smallChoices, longestShort, booked}
+use Rattle.rules.specs.Cases.{computed, ids-apart, forms-computed, choices-computed, choice-ids-apart, longest-computed}
 use Rattle.rules.specs.TableLaws.{not-true→}
 use Rattle.rules.specs.PartsLaws.{read-right}
+use Rattle.rules.specs.ChosenLaws.{chosen-right}
 
 -- the test of the ids
 apart-distinct : {A : Type 0} (key : A → List ℕ) (xs : List A) → apart (map key xs) ≡ true → Distinct key xs
@@ -40,6 +46,15 @@ small-ledgers c m =
     (agree (λ (c : Small). partsOf (identOf c) (smallSet c)) (λ (c : Small). c .gives) smallLedgers computed m)
     (read-right (identOf c) (smallSet c) (apart-distinct (identOf c) (smallSet c) (all→∈ (λ (c : Small). apart (map (identOf c) (smallSet c))) smallLedgers ids-apart c m)))
 
+-- Document 01, "Writing": the ids worked out by hand for the table of choices are exactly those that `Choice` defines
+pub small-choices : (c : SmallChoice) → c ∈ smallChoices → Chosen (choiceIdent c) (choiceSet c) (c .writer) (c .names)
+small-choices c m =
+    subst (Chosen (choiceIdent c) (choiceSet c) (c .writer))
+    (agree (λ (c : SmallChoice). writtenOf (choiceIdent c) (choiceSet c) (c .writer) (Add []) .preds) (λ (c : SmallChoice). c .names) smallChoices (choices-computed .0) m)
+    (chosen-right (choiceIdent c) (choiceSet c)
+    (apart-distinct (choiceIdent c) (choiceSet c) (all→∈ (λ (c : SmallChoice). apart (map (choiceIdent c) (choiceSet c))) smallChoices choice-ids-apart c m))
+    (c .writer) (Add []))
+
 -- Document 02, E10: "unequal sets are promised to show only in the full one". These two are unequal, and their short reports are equal.
 pub unequal-sets : SameMembers oneAdd twoAdds → ⊥
 unfolding a c by
@@ -55,3 +70,8 @@ equal-short-reports = forms-computed .0 ∙ sym (forms-computed .1)
 -- .. and their full ones are not
 pub unequal-full-reports : reportOf Full addIdent oneAdd ≡ reportOf Full addIdent twoAdds → ⊥
 unequal-full-reports e = true-false (eq→same (reportOf Full addIdent oneAdd) (reportOf Full addIdent twoAdds) e) (forms-computed .2)
+
+-- the longest short report, of 64 updates
+pub longest-short-report : length (reportOf Short encode (booked places)) ≡ longestShort
+unfolding reportOf reportText
+longest-short-report = longest-computed .0

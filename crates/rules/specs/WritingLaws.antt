@@ -146,7 +146,7 @@ module _ (ident : Update → Id) (S : List Update) (distinct : Distinct ident S)
   unfolding writtenOf writtenIn
   written-no-fork n u k e =
       let r = held-row distinct decides k in
-      let f = named distinct decides a n (r .1) (ap (λ (v : Update). v .author) (r .2) ∙ e) in
+      let f = named distinct decides (settled-ascending ident S) a n (r .1) (ap (λ (v : Update). v .author) (r .2) ∙ e) in
       let m : f .0 .update ∈ S = decides .of-set (f .0) (f .2 .row-in) in
       let p : ident (f .0 .update) ∈ writtenOf ident S a o .preds = ∈-cast (sym (row-id distinct decides (f .2))) (∈-map rowId (f .1)) in
       subst (λ (v : Update). Ancestor ident S v (writtenOf ident S a o)) (r .2)
