@@ -1,5 +1,6 @@
 #!/usr/bin/env bash
-# The command against the second program, and that against the stored sessions, whose outputs were worked out by hand. The last line is 'N passed, M failed'.
+# The command against the second program, and that against the stored sessions, whose outputs were worked out by hand; the command where calls of the system fail
+# (faults.sh); the script ./silkcliff (script.sh). The last line is 'N passed, M failed'.
 # The command must have been built: rt check silkcliff.
 set -euo pipefail
 cd "$(dirname "${BASH_SOURCE[0]}")"
@@ -63,5 +64,7 @@ check "the second program on the command's long session" long_session
 check "the command on the stored and random sessions, and past the limit of its input" compare_command
 check "the command says what failed, and nothing where nothing did" failures_told
 check "the command waits for input that comes late" waits_for_input
+source ./faults.sh
+source ./script.sh
 echo "$passed passed, $failed failed"
 [ "$failed" -eq 0 ] && [ "$passed" -gt 0 ]

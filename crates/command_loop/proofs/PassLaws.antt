@@ -1,5 +1,5 @@
 -- Pieces of a chunk, one after the other, and a whole chunk.
-use mathlib.Core.Path.{_≡_, sym, subst}
+use mathlib.Core.Path.{_≡_, refl, sym, subst}
 use Prim.Native.Nat.{ℕ, _+_, _-_, _≤_, _<_}
 use native.Mathlib.Omega.{arith}
 use mathlib.Core.List.{List, [], _++_}
@@ -13,7 +13,7 @@ use Rattle.command_session.specs.Feeding.{Feeds, Feeding}
 use Rattle.command_session.specs.FeedLaws.{feeding-feeds}
 use Rattle.command_session.specs.InPieces.{done}
 use Rattle.command_session.specs.PieceLaws.{pieces-more}
-use Rattle.command_streams.specs.Streams.{Writes}
+use Rattle.command_streams.specs.Streams.{passing, Writes}
 use Rattle.command_loop.specs.declared.Handed.{Handed}
 use Rattle.command_loop.specs.Command.{HandsOn, Consumes, Passes}
 
@@ -51,7 +51,8 @@ module _ {l l₁ : Ledger} {s s₁ s′ buffer buffer₁ buffer′ chunk out out
 
 module _ {l l′ : Ledger} {s s′ buffer buffer′ chunk : List ℕ} {fill fill′ at : ℕ} (c : Consumes l s buffer fill chunk at l′ s′ buffer′ fill′) where
   pub passes-all : length chunk ≤ at → Passes l s buffer fill chunk (record { ledger = l′; fill = fill′; error = 0 }) s′ buffer′
-  passes-all h = record { consumed = at; consumes = c; all = λ _. omega (arith, c .within) }
+  unfolding passing
+  passes-all h = record { consumed = at; consumes = c; all = λ _. omega (arith, c .within); lasts = refl }
 
-  pub passes-part : (error : ℕ) → (error ≡ 0 → ⊥) → Passes l s buffer fill chunk (record { ledger = l′; fill = fill′; error = error }) s′ buffer′
-  passes-part error h = record { consumed = at; consumes = c; all = λ e. absurd (h e) }
+  pub passes-part : {n taken error : ℕ} → Writes n taken error → (error ≡ 0 → ⊥) → Passes l s buffer fill chunk (record { ledger = l′; fill = fill′; error = error }) s′ buffer′
+  passes-part w h = record { consumed = at; consumes = c; all = λ e. absurd (h e); lasts = w .lasts }

@@ -1,8 +1,10 @@
-// The command's loop: reads, feeds what was read, and writes what that puts out. The work on the bytes is `command_session`, the calls are `command_streams`.
+// The command's loop: reads, feeds what was read, and writes what that puts out. The work on the bytes is `command_session`, the calls are `command_streams`. What is
+// made of the answers of these is `next_state` and `ended_by`, which make no call.
 ghost use mathlib.Core.Path.{_≡_};
 ghost use Rattle.command_session.specs.Session.{maxInput};
-ghost use Rattle.command_loop.specs.Command.{AtPiece, HandsOn, Room, Passes, BeginsRun, StepReady, Steps, Ends, Lent, Runs, Commands};
+ghost use Rattle.command_loop.specs.Command.{nextState, endedBy, AtPiece, HandsOn, Room, Passes, BeginsRun, StepReady, Steps, Ends, Lent, Runs, Commands};
 use command_session::Fed;
+use command_streams::Input;
 use command_streams::Moved;
 use command_syntax::MAX_LINE;
 use ledger::Ledger;
@@ -111,46 +113,14 @@ fn pass_on(
     }
 }
 
-// The beginning: a fresh ledger, no line, and the first bytes of the input.
-fn begin(chunk: &mut [u8]) -> State
-    ensures { λ r. ⌜ BeginsRun r (now (chunk .exit)) ⌝ }
+// The state after a chunk, of what it came to and of what was read next.
+fn next_state(p: Passed, i: Input) -> State
+    ensures { λ r. ⌜ r ≡ nextState p i ⌝ }
 {
-    let i = command_streams::read_some(max_input(), chunk);
-    let ledger = ledger::fresh();
+    let ledger = p.ledger;
     State {
         ledger: ledger,
-        fill: 0,
-        got: i.got,
-        left: i.left,
-        reading: i.error,
-        writing: 0,
-    }
-}
-
-// Feeds what was read last, and reads on.
-fn step(state: State, store: &mut [u8], line: &mut [u8], chunk: &mut [u8], out: &mut [u8]) -> State
-    requires { ⌜ StepReady state (now line) (now chunk) (now out) ⌝ }
-    ensures { λ r. ⌜ Steps state (now (store .entry)) (now (line .entry)) (now (chunk .entry)) r (now (store .exit)) (now (line .exit)) (now (chunk .exit)) ⌝ }
-{
-    let ledger = state.ledger;
-    let got = state.got;
-    let p = pass_on(ledger, store, line, state.fill, &chunk[..got], out);
-    let next = p.ledger;
-    let fill = p.fill;
-    if p.error != 0 {
-        return State {
-            ledger: next,
-            fill: fill,
-            got: 0,
-            left: state.left,
-            reading: 0,
-            writing: p.error,
-        };
-    }
-    let i = command_streams::read_some(state.left, chunk);
-    State {
-        ledger: next,
-        fill: fill,
+        fill: p.fill,
         got: i.got,
         left: i.left,
         reading: i.error,
@@ -158,13 +128,59 @@ fn step(state: State, store: &mut [u8], line: &mut [u8], chunk: &mut [u8], out: 
     }
 }
 
+// The beginning: a fresh ledger, no line, and the first bytes of the input.
+fn begin(chunk: &mut [u8]) -> State
+    ensures { λ r. ⌜ BeginsRun r (now (chunk .exit)) ⌝ }
+{
+    let i = command_streams::read_some(max_input(), chunk);
+    let ledger = ledger::fresh();
+    let p = Passed {
+        ledger: ledger,
+        fill: 0,
+        error: 0,
+    };
+    next_state(p, i)
+}
+
+// Feeds what was read last, and reads on, unless a write failed.
+fn step(state: State, store: &mut [u8], line: &mut [u8], chunk: &mut [u8], out: &mut [u8]) -> State
+    requires { ⌜ StepReady state (now line) (now chunk) (now out) ⌝ }
+    ensures { λ r. ⌜ Steps state (now (store .entry)) (now (line .entry)) (now (chunk .entry)) r (now (store .exit)) (now (line .exit)) (now (chunk .exit)) ⌝ }
+{
+    let ledger = state.ledger;
+    let got = state.got;
+    let p = pass_on(ledger, store, line, state.fill, &chunk[..got], out);
+    if p.error != 0 {
+        let none = Input {
+            got: 0,
+            left: state.left,
+            error: 0,
+        };
+        return next_state(p, none);
+    }
+    let i = command_streams::read_some(state.left, chunk);
+    next_state(p, i)
+}
+
 // The end of the input. With room for the longest end, there always is a report (`command-output`, specs/CommandLaws).
 fn end(ledger: Ledger, store: &mut [u8], line: &[u8], fill: usize, out: &mut [u8]) -> Moved
-    ensures { λ r. ⌜ Ends ledger (now (store .entry)) (now (line .entry)) fill (now (out .entry)) (r .count) (r .error) (now (store .exit)) (now (out .exit)) ⌝ }
+    ensures { λ r. ⌜ Ends ledger (now (store .entry)) (now (line .entry)) fill (now (out .entry)) r (now (store .exit)) (now (out .exit)) ⌝ }
 {
     let finished = command_session::finish(ledger, store, line, fill, out);
     let n = finished.written();
     command_streams::write_all(&out[..n])
+}
+
+// What the command came to, of the last state and of what the last write came to.
+fn ended_by(state: State, m: Moved) -> Ended
+    ensures { λ r. ⌜ r ≡ endedBy state m ⌝ }
+{
+    Ended {
+        taken: m.count,
+        left: state.left,
+        reading: state.reading,
+        writing: m.error,
+    }
 }
 
 // Reads, feeds and writes, up to the limit.
@@ -177,21 +193,15 @@ fn run_on(store: &mut [u8], line: &mut [u8], chunk: &mut [u8], out: &mut [u8]) -
         state = step(state, store, line, chunk, out);
     }
     if state.writing != 0 {
-        return Ended {
-            taken: 0,
-            left: state.left,
-            reading: state.reading,
-            writing: state.writing,
+        let none = Moved {
+            count: 0,
+            error: state.writing,
         };
+        return ended_by(state, none);
     }
     let ledger = state.ledger;
     let m = end(ledger, store, line, state.fill, out);
-    Ended {
-        taken: m.count,
-        left: state.left,
-        reading: state.reading,
-        writing: m.error,
-    }
+    ended_by(state, m)
 }
 
 // The command, from a fresh ledger to the report.

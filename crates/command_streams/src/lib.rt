@@ -1,8 +1,9 @@
 // Standard input and output by the C library's calls. A call that was interrupted, or that would block, is made again. No contract can say which bytes a call of C
-// reads or writes: these say how many were counted, and whether a call failed.
-ghost use Prim.Native.Nat.{_≤_, _<_};
+// reads or writes, nor that it is made: these say what is made of its answer. Each function that makes a call hands the answer to one that makes none.
+ghost use mathlib.Core.Path.{_≡_};
+ghost use Prim.Native.Nat.{_+_, _^_, _≤_, _<_};
 ghost use lib.ListN.{length};
-ghost use Rattle.command_streams.specs.Streams.{MovesAtMost, TakesSome, Reads, Writes};
+ghost use Rattle.command_streams.specs.Streams.{passing, errorOf, cameTo, tookSome, lasting, takenFrom, takenAfter, MovesAtMost, TakesSome, ReadsAgain, WritesAgain, Reads, Writes};
 use libc::EAGAIN;
 use libc::EINTR;
 use libc::EIO;
@@ -25,12 +26,28 @@ pub struct Input {
     pub error: u64,
 }
 
-// The number of the error of the call just made: never 0.
-fn error() -> u64
-    ensures { λ r. ⌜ 0 < r ⌝ }
+// The number of an error, of C's errno: never 0.
+fn error_of(errno: i32) -> u64
+    ensures { λ r. ⌜ r ≡ errorOf errno ⌝ }
 {
-    let e = os::errno();
-    if e > 0 { e as u64 } else { EIO as u64 }
+    if errno > 0 { errno as u64 } else { EIO as u64 }
+}
+
+// What a call came to that was handed these bytes, of its answer and C's errno.
+fn came_to(answer: isize, errno: i32, bytes: &[u8]) -> Moved
+    ensures { λ r. ⌜ r ≡ cameTo (length (now (bytes .entry))) answer errno ⌝ }
+{
+    if answer < 0 {
+        return Moved {
+            count: 0,
+            error: error_of(errno),
+        };
+    }
+    let moved = io::count(answer, bytes);
+    Moved {
+        count: moved,
+        error: 0,
+    }
 }
 
 // Waits for a millisecond, or until a signal.
@@ -46,16 +63,31 @@ fn pause() {
     libc::nanosleep(&asked, &mut left);
 }
 
-// Whether a call with this error is made again: it was interrupted; or it would block, and then this waits first.
-fn is_passing(error: u64) -> bool {
-    if error == EINTR as u64 {
-        return true;
-    }
+// Whether a call with this error is made again: it was interrupted, or would block.
+fn is_passing(error: u64) -> bool
+    ensures { λ r. ⌜ r ≡ passing error ⌝ }
+{
+    error == EINTR as u64 || error == EAGAIN as u64
+}
+
+// Waits where a call would block, before it is made again.
+fn wait(error: u64) {
     if error == EAGAIN as u64 {
         pause();
-        return true;
     }
-    false
+}
+
+// What a call came to that is not made again.
+fn lasting(m: Moved) -> Moved
+    ensures { λ r. ⌜ r ≡ lasting m ⌝ }
+{
+    if is_passing(m.error) {
+        return Moved {
+            count: 0,
+            error: EIO as u64,
+        };
+    }
+    m
 }
 
 // One read.
@@ -63,29 +95,22 @@ fn try_read(buffer: &mut [u8]) -> Moved
     ensures { λ r. ⌜ MovesAtMost (length (now (buffer .exit))) r ⌝ }
 {
     let got = libc::read(STDIN_FILENO, buffer);
-    if got < 0 {
-        return Moved {
-            count: 0,
-            error: error(),
-        };
-    }
-    Moved {
-        count: io::count(got, buffer),
-        error: 0,
-    }
+    let errno = os::errno();
+    came_to(got, errno, buffer)
 }
 
 // A read, made again while its error passes. A proved loop has to end, so it counts its turns down, from a number that no run uses up.
 fn read_again(buffer: &mut [u8]) -> Moved
-    ensures { λ r. ⌜ MovesAtMost (length (now (buffer .exit))) r ⌝ }
+    ensures { λ r. ⌜ ReadsAgain (length (now (buffer .exit))) r ⌝ }
 {
     let mut turns = u64::MAX;
     let mut moved = try_read(buffer);
     while turns > 0 && is_passing(moved.error) {
+        wait(moved.error);
         moved = try_read(buffer);
         turns -= 1;
     }
-    moved
+    lasting(moved)
 }
 
 fn least(a: usize, b: usize) -> usize
@@ -94,55 +119,77 @@ fn least(a: usize, b: usize) -> usize
     if a < b { a } else { b }
 }
 
-// Reads once from standard input into the buffer, where the limit leaves `left` bytes to be read.
-pub fn read_some(left: usize, buffer: &mut [u8]) -> Input
-    ensures { λ r. ⌜ Reads left (length (now (buffer .exit))) (r .got) (r .left) (r .error) ⌝ }
+// What a read came to, of which the limit left `left` bytes.
+fn taken_from(left: usize, read: Moved) -> Input
+    requires { ⌜ read .count ≤ left ⌝ }
+    ensures { λ r. ⌜ r ≡ takenFrom left read ⌝ }
 {
-    let most = least(left, buffer.len());
-    let moved = read_again(&mut buffer[..most]);
-    let rest = left - moved.count;
+    let rest = left - read.count;
     Input {
-        got: moved.count,
+        got: read.count,
         left: rest,
-        error: moved.error,
+        error: read.error,
     }
 }
 
-// One write. One that takes nothing has failed.
-fn try_write(bytes: &[u8]) -> Moved
-    ensures { λ r. ⌜ TakesSome (length (now (bytes .entry))) r ⌝ }
+// Reads once from standard input into the buffer, where the limit leaves `left` bytes to be read.
+pub fn read_some(left: usize, buffer: &mut [u8]) -> Input
+    ensures { λ r. ⌜ Reads left (length (now (buffer .exit))) r ⌝ }
 {
-    let took = libc::write(STDOUT_FILENO, bytes);
-    if took < 0 {
-        return Moved {
-            count: 0,
-            error: error(),
-        };
+    let most = least(left, buffer.len());
+    let m = read_again(&mut buffer[..most]);
+    taken_from(left, m)
+}
+
+// What a write came to: one that takes nothing has failed.
+fn took_some(m: Moved) -> Moved
+    ensures { λ r. ⌜ r ≡ tookSome m ⌝ }
+{
+    if m.error != 0 {
+        return m;
     }
-    let count = io::count(took, bytes);
-    if count == 0 {
+    if m.count == 0 {
         return Moved {
             count: 0,
             error: EIO as u64,
         };
     }
-    Moved {
-        count: count,
-        error: 0,
-    }
+    m
+}
+
+// One write.
+fn try_write(bytes: &[u8]) -> Moved
+    ensures { λ r. ⌜ TakesSome (length (now (bytes .entry))) r ⌝ }
+{
+    let took = libc::write(STDOUT_FILENO, bytes);
+    let errno = os::errno();
+    took_some(came_to(took, errno, bytes))
 }
 
 // A write, made again while its error passes.
 fn write_again(bytes: &[u8]) -> Moved
-    ensures { λ r. ⌜ TakesSome (length (now (bytes .entry))) r ⌝ }
+    ensures { λ r. ⌜ WritesAgain (length (now (bytes .entry))) r ⌝ }
 {
     let mut turns = u64::MAX;
     let mut moved = try_write(bytes);
     while turns > 0 && is_passing(moved.error) {
+        wait(moved.error);
         moved = try_write(bytes);
         turns -= 1;
     }
-    moved
+    lasting(moved)
+}
+
+// What writing came to, where `at` bytes were taken before and the next write came to `wrote`.
+fn taken_after(at: usize, wrote: Moved) -> Moved
+    requires { ⌜ at + wrote .count < 2 ^ 64 ⌝ }
+    ensures { λ r. ⌜ r ≡ takenAfter at wrote ⌝ }
+{
+    let taken = at + wrote.count;
+    Moved {
+        count: taken,
+        error: wrote.error,
+    }
 }
 
 // Writes the bytes to standard output, from the first on, until all are taken or a write fails.
@@ -152,13 +199,11 @@ pub fn write_all(bytes: &[u8]) -> Moved
     let mut at: usize = 0;
     while at < bytes.len() {
         let m = write_again(&bytes[at..]);
-        if m.error != 0 {
-            return Moved {
-                count: at,
-                error: m.error,
-            };
+        let done = taken_after(at, m);
+        if done.error != 0 {
+            return done;
         }
-        at += m.count;
+        at = done.count;
     }
     Moved {
         count: at,

@@ -1,8 +1,9 @@
 -- What is written is a well-formed update, whatever the ledger. For a ledger that stands it is of the author and the operation asked for, is held where it is
--- offered next, and so no fault, and forms no fork with the held updates of an author without a fork.
+-- offered next, and so no fault, and forms no fork with the held updates of an author without a fork, neither before the offer nor after it.
 use mathlib.Core.Path.{_≡_, refl, sym, ap, subst, _∙_}
 use Prim.Native.Nat.{ℕ, _+_, _-_, _≤_, _<_}
 use native.Mathlib.Omega.{arith}
+use mathlib.Core.Logic.{_⊎_}
 use mathlib.Core.List.{List, [], _∷_, _++_}
 use mathlib.Core.Bool.{Bool, true, false, cond}
 use lib.ListN.{length, take, drop, length-append}
@@ -16,8 +17,9 @@ use Rattle.update_format.specs.Laws.{decode-complete}
 use Rattle.rules.specs.Standing.{Ancestor, Held}
 use Rattle.rules.specs.Settle.{held}
 use Rattle.rules.specs.ReadOff.{Forked, Fault}
+use Rattle.rules.specs.Growth.{Reached}
 use Rattle.rules.specs.Writing.{writtenOf, writableOf}
-use Rattle.rules.specs.WritingLaws.{written-held, written-no-fault, written-no-fork, add-writable}
+use Rattle.rules.specs.WritingLaws.{written-held, written-no-fault, written-no-fork, written-no-fork-next, add-writable}
 use Rattle.bitset.specs.Below.{countBelow}
 use Rattle.bitset.specs.BelowLaws.{countBelow-more, countBelow-mono}
 use Rattle.ledger_state.specs.declared.Standing.{Standing}
@@ -174,6 +176,12 @@ module _ (l : Book) (s : List ℕ) (us : List Update) (stands : Stands l s us) (
     -- by the rules after the offer it is held, and so none of the faults
     pub written-faults-not : Fault ident (us ++ (writtenOf ident us a (operationFor k t i named) ∷ [])) (writtenOf ident us a (operationFor k t i named)) → ⊥
     written-faults-not = written-no-fault ident us (stands .holds .distinct) a op (λ u m e. fresh u m (e ∙ id-is)) (W .may us stands)
+
+    -- in the set with it, a held update of its author is an ancestor of it, is the update itself, or has it as an ancestor
+    pub written-forks-not-next : (Forked ident us a → ⊥) → (u : Update) → Held ident (us ++ (writtenOf ident us a (operationFor k t i named) ∷ [])) u → u .author ≡ a
+        → Ancestor ident (us ++ (writtenOf ident us a (operationFor k t i named) ∷ [])) u (writtenOf ident us a (operationFor k t i named))
+        ⊎ Reached ident us (writtenOf ident us a (operationFor k t i named)) u
+    written-forks-not-next = written-no-fork-next ident us (stands .holds .distinct) a op (λ u m e. fresh u m (e ∙ id-is))
 
     -- the place that the update took
     stands-held : (u : Update) (r : Book) {s′ : List ℕ} → u ≡ new → Stands r s′ (us ++ (u ∷ [])) → placeAt r (l .used) .standing ≡ IsHeld

@@ -1,6 +1,6 @@
 -- A written update is laid out, is held where it is offered next, and so is then no fault, and forms no fork with the held updates of an author without a fork.
 use mathlib.Core.Path.{_≡_, refl, sym, _∙_, ap, subst}
-use mathlib.Core.Logic.{⊎-elim}
+use mathlib.Core.Logic.{_⊎_, inl, inr, ⊎-elim}
 use Prim.Native.Nat.{ℕ, _≤_}
 use mathlib.Core.List.{List, [], _∷_, _++_, List·Memᴰ·head, List·Memᴰ·not-nil}
 use mathlib.Core.Bool.{true, false}
@@ -17,7 +17,7 @@ use Rattle.rules.specs.ReadOff.{Head, Forked, Fault}
 use Rattle.rules.specs.Settle.{held, Row, Table, settledTable, heads, validOp}
 use Rattle.rules.specs.Decides.{Decides}
 use Rattle.rules.specs.LeastSets.{held-stored, held-not-void}
-use Rattle.rules.specs.Growth.{extended, added-more, grow-ready, grow-broken, held-kept}
+use Rattle.rules.specs.Growth.{extended, added-more, Reached, grow-ancestor, grow-ready, grow-broken, held-cases, held-kept}
 use Rattle.rules.specs.SettlingTable.{PredecessorsHeld, preds-known, preds-held, valid→, →valid}
 use Rattle.rules.specs.Settling.{settled-ascending, settled-decides}
 use Rattle.rules.specs.TableLaws.{decides-sound, row-eq, row-id, held-row, above→ancestor}
@@ -154,6 +154,18 @@ module _ (ident : Update → Id) (S : List Update) (distinct : Distinct ident S)
       (λ (i : f .0 .id ≡ r .0 .id).
       subst (λ (q : Row). Ancestor ident S (q .update) (writtenOf ident S a o)) (row-eq distinct decides (f .2 .row-in) (r .1 .row-in) i) (Ancestor.direct m p))
       (λ (i : r .0 .id ∈ f .0 .above). Ancestor.further m p (above→ancestor distinct decides (r .1) (f .2) i)) (f .3))
+
+  -- Offered next, where no stored update has its id, it forms no fork either: a held update of its author is then an ancestor of it, is the update itself, or has it as an
+  -- ancestor. (Updates that waited for it may be held with it; of those two of the author may fork, or one be a fault.)
+  pub written-no-fork-next : ((u : Update) → u ∈ S → ident u ≡ ident (writtenOf ident S a o) → ⊥) → (Forked ident S a → ⊥)
+      → (u : Update) → Held ident (S ++ (writtenOf ident S a o ∷ [])) u → u .author ≡ a
+      → Ancestor ident (S ++ (writtenOf ident S a o ∷ [])) u (writtenOf ident S a o) ⊎ Reached ident S (writtenOf ident S a o) u
+  written-no-fork-next new n u h e =
+      let w : Update = writtenOf ident S a o in
+      ⊎-elim
+      (λ (k : Held ident S u). inl (grow-ancestor ident S (extended S w) (added-more S w) (added-distinct new) (written-no-fork n u k e)))
+      inr
+      (held-cases ident S w (added-distinct new) h)
 
 -- an Add is always writable
 pub add-writable : (ident : Update → Id) (S : List Update) (a : ℕ) (t : List ℕ) → writableOf ident S a (Add t) ≡ true

@@ -41,7 +41,7 @@ at-start c = c .before .before .before .before .before
 hand-on-requires : tie.Need-hand-on-requires Inv-loop μ-loop
 hand-on-requires c κs =
     let at-loop = hand-on-arg3→loop c in
-    record { within = at-loop .loop .inv .0 .within; line-long = at-loop .loop .inv .2 ∙ at-start at-loop .pre .line-long }
+    record { within = omega (arith, at-loop .loop .inv .0 .within); line-long = at-loop .loop .inv .2 ∙ at-start at-loop .pre .line-long }
 
 -- the chunk is consumed as far as the piece went
 consumed : (c : tie.After-struct-known Inv-loop μ-loop)
@@ -78,7 +78,7 @@ same-length-3 c =
 returns : tie.Need-returns Inv-loop μ-loop
 returns c =
     let at-struct-known = c .before in
-    passes-part (consumed (at-struct-known)) _ (c .if1 .taken)
+    passes-part (consumed (at-struct-known)) (at-hand-on at-struct-known .hand-on .ensures .writes) (c .if1 .taken)
 
 add-at : tie.Need-add-at Inv-loop μ-loop
 add-at c =

@@ -1,12 +1,12 @@
--- `run_on` meets its contract. The loop's invariant: what was fed so far, what was read last and what is left make up the limit. The measure is what is left, with
--- what was read last.
+-- `run_on` meets its contract. The loop's invariant: the state was come to by steps from the beginning. The measure is what is left of the limit, with what was read
+-- last.
 use mathlib.Core.Path.{_≡_, refl, sym, subst, _∙_}
 use Prim.Native.Nat.{ℕ, _+_, _≤_}
 use native.Mathlib.Omega.{arith}
 use lib.ListN.{length}
 use Rattle.command_session.specs.Feeding.{maxEnd}
 use Rattle.command_loop.specs.Command.{stopped, ended}
-use Rattle.command_loop.proofs.RunLaws.{Running, above-zero, running-begun, running-less, running-step}
+use Rattle.command_loop.proofs.RunLaws.{Running, above-zero, running-begun, running-within, running-less, running-step}
 use Rattle.command_loop.proofs.run_on.Statement.{statement}
 use Rattle.command_loop.proofs.run_on.Tie as tie
 
@@ -54,7 +54,7 @@ chunk-kept c =
 step-requires : tie.Need-step-requires Inv-loop μ-loop
 step-requires c κs =
     let at-loop = step-arg4→loop c in
-    record { within = at-loop .loop .inv .0 .within; lent = record { line-long = at-loop .loop .inv .2 ∙ at-start at-loop .pre .line-long; room = omega (arith, room at-loop) } }
+    record { within = running-within (at-loop .loop .inv .0); lent = record { line-long = at-loop .loop .inv .2 ∙ at-start at-loop .pre .line-long; room = omega (arith, room at-loop) } }
 
 -- the places of a turn's call of `step` and of the turn
 abbrev at-step : tie.After-slice-known9 Inv-loop μ-loop → tie.After-step Inv-loop μ-loop
@@ -75,39 +75,46 @@ loop-again c = (
   at-step c .step .kept .1 .1 .1 .1 .0 ∙ at-turn c .before .before .loop .inv .4,
 )
 
+ended-by-requires : tie.Need-ended-by-requires Inv-loop μ-loop
+ended-by-requires c κs = tt
+
 same-length : tie.Need-same-length Inv-loop μ-loop
 same-length c =
-    let at-loop = then2→loop c in
+    let at-loop = then2→loop (c .before) in
     at-loop .loop .inv .1
 
 same-length-2 : tie.Need-same-length-2 Inv-loop μ-loop
 same-length-2 c =
-    let at-loop = then2→loop c in
+    let at-loop = then2→loop (c .before) in
     at-loop .loop .inv .2
 
 same-length-3 : tie.Need-same-length-3 Inv-loop μ-loop
 same-length-3 c =
-    let at-loop = then2→loop c in
+    let at-loop = then2→loop (c .before) in
     chunk-kept (at-loop)
 
 same-length-4 : tie.Need-same-length-4 Inv-loop μ-loop
 same-length-4 c =
-    let at-loop = then2→loop c in
+    let at-loop = then2→loop (c .before) in
     at-loop .loop .inv .4
 
 returns : tie.Need-returns Inv-loop μ-loop
 returns c =
-    let at-loop = then2→loop c in
-    stopped (at-loop .loop .state) (at-loop .loop .inv .0 .ran) (above-zero (c .if2 .taken)) refl
+    let in-then2 = c .before in
+    let at-loop = then2→loop in-then2 in
+    stopped _ _ _ (at-loop .loop .state) (at-loop .loop .inv .0 .ran) (above-zero (in-then2 .if2 .taken)) (c .ended-by .ensures)
 
 end-requires : tie.Need-end-requires Inv-loop μ-loop
 end-requires c κs = tt
 
--- the places of the call of `end`, and of the loop's head before it
-abbrev at-end : tie.After-slice-known11 Inv-loop μ-loop → tie.After-end Inv-loop μ-loop
-at-end c = c .before .before .before .before
+ended-by-requires-2 : tie.Need-ended-by-requires-2 Inv-loop μ-loop
+ended-by-requires-2 c κs = tt
 
-abbrev at-loop : tie.After-slice-known11 Inv-loop μ-loop → tie.At-loop Inv-loop μ-loop
+-- the places of the call of `end`, and of the loop's head before it
+abbrev at-end : tie.After-ended-by2 Inv-loop μ-loop → tie.After-end Inv-loop μ-loop
+at-end c = c .before .before .before .before .before
+
+abbrev at-loop : tie.After-ended-by2 Inv-loop μ-loop → tie.At-loop Inv-loop μ-loop
 at-loop c = at-end c .before .before .before .before .before .before .before .before .before
 
 same-length-5 : tie.Need-same-length-5 Inv-loop μ-loop
@@ -126,10 +133,11 @@ returns-2 : tie.Need-returns-2 Inv-loop μ-loop
 returns-2 c =
     let l = at-loop c in
     let k = at-end c .before .before .before .before .before in
-    ended (l .loop .state) (l .loop .store) (l .loop .out) (l .loop .inv .0 .ran) (omega (arith, k .before .before .if1 .left)) (k .if2 .left) refl (room l) (at-end c .end .ensures)
+    ended _ _ _ (l .loop .state) (l .loop .store) (l .loop .out) _ (l .loop .inv .0 .ran) (omega (arith, k .before .before .if1 .left)) (k .if2 .left) (room l) (at-end c .end .ensures)
+    (c .ended-by2 .ensures)
 
 pub run-on-spec : {M : Type 1} → statement M
 run-on-spec =
     tie.close
-    (tie.spec Inv-loop μ-loop begin-requires loop-holds step-requires loop-less loop-again same-length same-length-2 same-length-3 same-length-4
-    returns end-requires same-length-5 same-length-6 same-length-7 same-length-8 returns-2)
+    (tie.spec Inv-loop μ-loop begin-requires loop-holds step-requires loop-less loop-again ended-by-requires same-length same-length-2 same-length-3 same-length-4
+    returns end-requires ended-by-requires-2 same-length-5 same-length-6 same-length-7 same-length-8 returns-2)

@@ -1,7 +1,8 @@
--- `read_again` meets its contract: whatever the last read came to. The measure is the number of turns that are left.
+-- `read_again` meets its contract: whatever the last read came to, its error is none that passes. The measure is the number of turns that are left.
 use mathlib.Core.Path.{_≡_}
 use lib.ListN.{length}
 use Rattle.command_streams.specs.Streams.{MovesAtMost}
+use Rattle.command_streams.specs.StreamLaws.{lasting-reads}
 use borrow.Author.Needs.{needs}
 use Rattle.command_streams.proofs.read_again.Statement.{statement}
 use Rattle.command_streams.proofs.read_again.Tie as tie
@@ -21,6 +22,9 @@ loop-holds c = search needs
 is-passing-requires : tie.Need-is-passing-requires Inv-loop μ-loop
 is-passing-requires c κs = search needs
 
+wait-requires : tie.Need-wait-requires Inv-loop μ-loop
+wait-requires c κs = search needs
+
 try-read-requires-2 : tie.Need-try-read-requires-2 Inv-loop μ-loop
 try-read-requires-2 c κs = search needs
 
@@ -33,17 +37,14 @@ loop-less c = search needs
 loop-again : tie.Need-loop-again Inv-loop μ-loop
 loop-again c = search needs
 
+lasting-requires : tie.Need-lasting-requires Inv-loop μ-loop
+lasting-requires c κs = search needs
+
 same-length : tie.Need-same-length Inv-loop μ-loop
 same-length c = search needs
 
 returns : tie.Need-returns Inv-loop μ-loop
-returns c = search needs
-
-same-length-2 : tie.Need-same-length-2 Inv-loop μ-loop
-same-length-2 c = search needs
-
-returns-2 : tie.Need-returns-2 Inv-loop μ-loop
-returns-2 c = search needs
+returns c = rw (c .lasting .ensures) (lasting-reads (c .before .before .loop .inv .0))
 
 pub read-again-spec : {M : Type 1} → statement M
 read-again-spec =
@@ -54,11 +55,11 @@ read-again-spec =
     try-read-requires
     loop-holds
     is-passing-requires
+    wait-requires
     try-read-requires-2
     sub-turns
     loop-less
     loop-again
+    lasting-requires
     same-length
-    returns
-    same-length-2
-    returns-2)
+    returns)

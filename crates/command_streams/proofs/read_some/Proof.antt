@@ -13,9 +13,6 @@ use Rattle.command_streams.proofs.read_some.Tie as tie
 abbrev read-again→least : tie.After-read-again → tie.After-least
 read-again→least c = c .before .before
 
-abbrev struct-known→read-again : tie.After-struct-known → tie.After-read-again
-struct-known→read-again c = c .before .before .before
-
 least-requires : tie.Need-least-requires
 least-requires c κs = search needs
 
@@ -44,11 +41,11 @@ most-within c =
 
 -- no more was read than was asked for
 got-within : (c : tie.After-read-again) → c .read-again .result .count ≤ most c
-got-within c = omega (arith, c .read-again .ensures .within, c .read-again .kept .0, length-take-le (most c) (buffer c) (most-within c))
+got-within c = omega (arith, c .read-again .ensures .moves .within, c .read-again .kept .0, length-take-le (most c) (buffer c) (most-within c))
 
-sub-rest : tie.Need-sub-rest
-sub-rest c =
-    let at-read-again = struct-known→read-again c in
+taken-from-requires : tie.Need-taken-from-requires
+taken-from-requires c κs =
+    let at-read-again = c .before .before in
     let at-least = read-again→least at-read-again in
     omega (arith, got-within at-read-again, at-least .least .ensures)
 
@@ -57,15 +54,17 @@ same-length c = search needs
 
 returns : tie.Need-returns
 returns c =
-    let at-read-again = struct-known→read-again c in
+    let at-read-again = c .before .before .before in
     let kept = length-front (buffer at-read-again) (at-read-again .read-again .last .0) (most at-read-again) (at-read-again .read-again .kept .0) in
+    rw (c .taken-from .ensures)
     record {
       within = omega (arith, got-within at-read-again, most-within at-read-again, kept);
-      falls = omega (arith, sub-rest c);
-      none = at-read-again .read-again .ensures .none;
+      falls = omega (arith, taken-from-requires (c .before) tt);
+      none = at-read-again .read-again .ensures .moves .none;
+      lasts = at-read-again .read-again .ensures .lasts;
     }
 
 pub read-some-spec : {M : Type 1} → statement M
 read-some-spec =
     tie.close
-    (tie.spec least-requires slice-relend-prefix-read-again slice-aggregate-read-again read-again-requires sub-rest same-length returns)
+    (tie.spec least-requires slice-relend-prefix-read-again slice-aggregate-read-again read-again-requires taken-from-requires same-length returns)

@@ -1,6 +1,7 @@
--- `write_again` meets its contract: whatever the last write came to. The measure is the number of turns that are left.
+-- `write_again` meets its contract: whatever the last write came to, its error is none that passes. The measure is the number of turns that are left.
 use lib.ListN.{length}
 use Rattle.command_streams.specs.Streams.{TakesSome}
+use Rattle.command_streams.specs.StreamLaws.{lasting-writes}
 use borrow.Author.Needs.{needs}
 use Rattle.command_streams.proofs.write_again.Statement.{statement}
 use Rattle.command_streams.proofs.write_again.Tie as tie
@@ -20,6 +21,9 @@ loop-holds c = search needs
 is-passing-requires : tie.Need-is-passing-requires Inv-loop μ-loop
 is-passing-requires c κs = search needs
 
+wait-requires : tie.Need-wait-requires Inv-loop μ-loop
+wait-requires c κs = search needs
+
 try-write-requires-2 : tie.Need-try-write-requires-2 Inv-loop μ-loop
 try-write-requires-2 c κs = search needs
 
@@ -32,11 +36,11 @@ loop-less c = search needs
 loop-again : tie.Need-loop-again Inv-loop μ-loop
 loop-again c = search needs
 
-returns : tie.Need-returns Inv-loop μ-loop
-returns c = search needs
+lasting-requires : tie.Need-lasting-requires Inv-loop μ-loop
+lasting-requires c κs = search needs
 
-returns-2 : tie.Need-returns-2 Inv-loop μ-loop
-returns-2 c = search needs
+returns : tie.Need-returns Inv-loop μ-loop
+returns c = rw (c .lasting .ensures) (lasting-writes (c .before .before .loop .inv))
 
 pub write-again-spec : {M : Type 1} → statement M
 write-again-spec =
@@ -47,9 +51,10 @@ write-again-spec =
     try-write-requires
     loop-holds
     is-passing-requires
+    wait-requires
     try-write-requires-2
     sub-turns
     loop-less
     loop-again
-    returns
-    returns-2)
+    lasting-requires
+    returns)
