@@ -14,7 +14,7 @@ use Rattle.ledger_state.specs.State.{Book, placeAt}
 use Rattle.report_text.specs.Text.{textOf}
 use Rattle.bytes_print.specs.Page.{Prints}
 use Rattle.report_text.specs.TextRight.{text-right}
-use Rattle.report_text.specs.TextLength.{text-length}
+use Rattle.report_text.specs.TextLength.{textOf-length}
 use Rattle.ledger_refusals.specs.declared.Refusal.the-variants.{Short}
 use Rattle.ledger.specs.declared.Reported.the-variants.{Written, Refused}
 use Rattle.ledger.specs.Report.{ReportText, Reporting, short, written}
@@ -39,7 +39,7 @@ module _ (form : Form) (l : Book) (s : List ℕ) (fits : sound l s ≡ true) (o 
   pub reported-at-once : ((k : ℕ) → k < l .used → length (placeAt l k .id) ≡ idLength) → longest form ≤ length o
       → {o′ : List ℕ} {n : ℕ} → Prints o 0 (textOf l s form) o′ n → Reporting form l s o (Written n) o′
   reported-at-once sized room p =
-      reported-written p (subst (λ (k : ℕ). k ≤ length o) (sym (long p)) (le-trans (text-length form l s (sound→ l s fits .few) sized) room))
+      reported-written p (subst (λ (k : ℕ). k ≤ length o) (sym (long p)) (le-trans (textOf-length form l s (sound→ l s fits .few) sized) room))
 
   -- once the length was asked
   module _ {page page′ : List ℕ} {n : ℕ} (asked : Prints page 0 (textOf l s form) page′ n) where

@@ -9,7 +9,7 @@ use Rattle.rules.specs.declared.Form.{Form}
 use Rattle.rules.specs.Report.{longest}
 use Rattle.ledger_state.specs.State.{Book, placeAt}
 use Rattle.ledger_state.specs.Row1Laws.{sound→}
-use Rattle.report_text.specs.TextLength.{text-length}
+use Rattle.report_text.specs.TextLength.{textOf-length}
 use Rattle.ledger_refusals.specs.Numbers.{row1Number, row11Number, Output, refusedBy}
 use Rattle.ledger.specs.Report.{ReportRow, unfit, short, written}
 
@@ -18,5 +18,5 @@ pub room-suffices : {form : Form} {l : Book} {s o o′ : List ℕ} {v : Output} 
     → ReportRow form l s o v o′ → longest form ≤ length o → v ≡ refusedBy row11Number → ⊥
 room-suffices sized (unfit e) k q = let z : _≡_ {A = ℕ} row1Number row11Number = cc in omega arith
 room-suffices {form} {l} {s} sized (short text e t j) k q =
-    omega (arith, text-length form l s (sound→ l s e .few) sized, ap length (t .determined), j, k)
+    omega (arith, textOf-length form l s (sound→ l s e .few) sized, ap length (t .determined), j, k)
 room-suffices sized (written text e t j) k q = let z : _≡_ {A = ℕ} 0 1 = cc in omega arith

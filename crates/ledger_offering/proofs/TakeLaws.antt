@@ -29,7 +29,7 @@ use Rattle.ledger_state.specs.FindLaws.{find-none}
 use Rattle.ledger_state.specs.TakeLaws.{taken-new, taken-old, take-holds, take-truthful}
 use Rattle.ledger_settling.specs.WaitLaws.{taken-others}
 use Rattle.ledger_settling.specs.SettleLaws.{settled-kept, settled-sound, settled-stands}
-use Rattle.ledger_settling.specs.CountLaws.{reached-counts}
+use Rattle.ledger_settling.specs.CountLaws.{steps-counted}
 use Rattle.ledger_offering.specs.Offer.{Took}
 
 -- the place that is taken is the newest, and waits
@@ -135,7 +135,7 @@ module _ (l : Book) (s b : List ℕ) (u : Update) (fits : sound l s ≡ true) (d
     pub took-with : TookWith l s b u held void r s′
     unfolding isHeld isVoid
     took-with =
-        let counts = reached-counts (settled .reached) in
+        let counts = steps-counted (settled .reached) in
         record {
           took = place-taken;
           held-right = omega (arith, counts .held-more, count-taken isHeld refl);

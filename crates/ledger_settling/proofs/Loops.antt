@@ -15,7 +15,7 @@ use Rattle.ledger_state.specs.View.{bookOf}
 use Rattle.ledger_state.specs.BookLaws.{replaced-other}
 use Rattle.ledger_settling.specs.declared.Settling.{Settling}
 use Rattle.ledger_settling.specs.Settle.{follows, followsAt}
-use Rattle.ledger_settling.specs.Worklist.{Progress, progressOf, Judged, waits, holds, fails, Underway, UnderwayAt, Roomy, ListedAt, Judges, JudgesSuccessors, Empties}
+use Rattle.ledger_settling.specs.Worklist.{Progress, progressOf, Judged, waits, holds, fails, WorklistAt, SuccessorsAt, Roomy, ListedAt, Judges, JudgesSuccessors, Empties}
 use Rattle.ledger_settling.specs.SettleLaws.{settled-place}
 use Rattle.ledger_settling.specs.WorklistLaws.{successors-begin, place-passed, place-judged, successors-end, worklist-end}
 use Rattle.ledger_settling.proofs.Judging.{isWaiting→}
@@ -41,7 +41,7 @@ pub record SuccessorsLoop (s : List ℕ) (i : ℕ) (l : Book) (id : Id) (used k 
   pub roomy : Roomy y
   pub used-is : y .ledger .used ≡ used
   pub below : k ≤ used
-  pub underway : (m : Book) → Underway m s i (progressOf x) → UnderwayAt m s i id k (progressOf y)
+  pub underway : (m : Book) → WorklistAt m s i (progressOf x) → SuccessorsAt m s i id k (progressOf y)
   -- the places from k on are as they were
   pub later : (j : ℕ) → k ≤ j → placeAt (bookOf (y .ledger)) j ≡ placeAt l j
 
@@ -54,7 +54,7 @@ module _ (s : List ℕ) (i : ℕ) (l : Book) (id : Id) (used : ℕ) (x : Settlin
         used-is = u;
         below = zero-le;
         underway = λ m h.
-            subst (λ (d : Id). UnderwayAt m s i d 0 (progressOf x))
+            subst (λ (d : Id). SuccessorsAt m s i d 0 (progressOf x))
             (ap (λ (n : ℕ). placeAt (bookOf (x .ledger)) n .id) (getD-take (x .held + x .void) (x .worklist) i 0 (asked .listed)) ∙ is)
             (successors-begin m s (omega (arith, worklist-length x (asked .roomy), asked .listed)) h);
         later = λ j g. ap (λ (b : Book). placeAt b j) same;
@@ -101,7 +101,7 @@ module _ (s : List ℕ) (i : ℕ) (l : Book) (id : Id) (used : ℕ) (x : Settlin
 -- the loop over the worklist, of whose first i places the successors were judged
 pub record WorklistLoop (s : List ℕ) (x : Settling) (i : ℕ) (y : Settling) : Type 0 where
   pub roomy : Roomy y
-  pub underway : (l : Book) → Underway l s 0 (progressOf x) → Underway l s i (progressOf y)
+  pub underway : (l : Book) → WorklistAt l s 0 (progressOf x) → WorklistAt l s i (progressOf y)
 
 module _ (s : List ℕ) (x : Settling) where
   pub worklist-begin : Roomy x → WorklistLoop s x 0 x

@@ -9,7 +9,7 @@ use Rattle.ledger_state.specs.declared.Standing.{Standing}
 use Rattle.ledger_state.specs.declared.Standing.the-variants.{Held as IsHeld, Void as IsVoid}
 use Rattle.ledger_state.specs.State.{Place, Book, placeAt, withStanding, isHeld, isVoid, standingCount}
 use Rattle.ledger_state.specs.BookLaws.{replaced-same, replaced-other}
-use Rattle.ledger_settling.specs.Settle.{Reached, start, held, void}
+use Rattle.ledger_settling.specs.Settle.{SettleSteps, start, held, void}
 use Rattle.ledger_settling.specs.SettleLaws.{settled-place, place-cases}
 
 -- the place k is settled
@@ -44,21 +44,21 @@ module _ (t : Standing → Bool) (l : Book) (k : ℕ) (v : Standing) (w : ℕ) w
       (λ g. sym (ap (λ (i : ℕ). t (placeAt l i .standing)) g ∙ e)))
 
 -- the counts are the differences of how many stand so
-pub record Counted (l : Book) (h v : ℕ) (r : Book) : Type 0 where
+pub record StepsCounted (l : Book) (h v : ℕ) (r : Book) : Type 0 where
   pub held-more : standingCount isHeld r ≡ standingCount isHeld l + h
   pub void-more : standingCount isVoid r ≡ standingCount isVoid l + v
 
-pub reached-counts : {s : List ℕ} {l r : Book} {h v : ℕ} → Reached s l h v r → Counted l h v r
+pub steps-counted : {s : List ℕ} {l r : Book} {h v : ℕ} → SettleSteps s l h v r → StepsCounted l h v r
 unfolding isHeld isVoid
-reached-counts start = record { held-more = omega arith; void-more = omega arith }
-reached-counts (held {m = m} {k = k} {w = w} p g q e) =
-    let c = reached-counts p in
+steps-counted start = record { held-more = omega arith; void-more = omega arith }
+steps-counted (held {m = m} {k = k} {w = w} p g q e) =
+    let c = steps-counted p in
     record {
       held-more = omega (arith, c .held-more, one-more isHeld m k IsHeld w g (ap isHeld q) refl);
       void-more = as-many isVoid m k IsHeld w (ap isVoid q) ∙ c .void-more;
     }
-reached-counts (void {m = m} {k = k} p g q e) =
-    let c = reached-counts p in
+steps-counted (void {m = m} {k = k} p g q e) =
+    let c = steps-counted p in
     record {
       held-more = as-many isHeld m k IsVoid 0 (ap isHeld q) ∙ c .held-more;
       void-more = omega (arith, c .void-more, one-more isVoid m k IsVoid 0 g (ap isVoid q) refl);

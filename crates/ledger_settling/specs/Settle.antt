@@ -20,12 +20,12 @@ pub data Settles (l : Book) (s : List ℕ) (k : ℕ) : Standing → ℕ → Type
   to-void : judgeAt l s k ≡ Fails → Settles l s k Void 0
 
 -- from l, waiting places were settled one after the other, each as it was judged then: h became held and v void, and r is what this came to
-pub data Reached (s : List ℕ) (l : Book) : ℕ → ℕ → Book → Type 0 where
-  start : Reached s l 0 0 l
-  held : {h v : ℕ} {m : Book} {k w : ℕ} → Reached s l h v m → k < m .used → placeAt m k .standing ≡ Waiting → judgeAt m s k ≡ Holds w
-      → Reached s l (h + 1) v (withStanding m k Held w)
-  void : {h v : ℕ} {m : Book} {k : ℕ} → Reached s l h v m → k < m .used → placeAt m k .standing ≡ Waiting → judgeAt m s k ≡ Fails
-      → Reached s l h (v + 1) (withStanding m k Void 0)
+pub data SettleSteps (s : List ℕ) (l : Book) : ℕ → ℕ → Book → Type 0 where
+  start : SettleSteps s l 0 0 l
+  held : {h v : ℕ} {m : Book} {k w : ℕ} → SettleSteps s l h v m → k < m .used → placeAt m k .standing ≡ Waiting → judgeAt m s k ≡ Holds w
+      → SettleSteps s l (h + 1) v (withStanding m k Held w)
+  void : {h v : ℕ} {m : Book} {k : ℕ} → SettleSteps s l h v m → k < m .used → placeAt m k .standing ≡ Waiting → judgeAt m s k ≡ Fails
+      → SettleSteps s l h (v + 1) (withStanding m k Void 0)
 
 -- every place that waits, but the newest, is judged to go on waiting: so it is where the ledger was settled before the newest place was taken
 abbrev pub OthersWait : Book → List ℕ → Type 0
@@ -37,7 +37,7 @@ AllWait l s = (k : ℕ) → k < l .used → placeAt l k .standing ≡ Waiting �
 
 -- r is what settling l comes to, with h places that became held and v that became void; and where the others waited in l, nothing is left to settle
 pub record SettledFrom (l : Book) (s : List ℕ) (h v : ℕ) (r : Book) : Type 0 where
-  pub reached : Reached s l h v r
+  pub reached : SettleSteps s l h v r
   pub done : OthersWait l s → AllWait r s
 
 -- the judgement is to go on waiting

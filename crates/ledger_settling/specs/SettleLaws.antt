@@ -27,7 +27,7 @@ use Rattle.ledger_state.specs.Stands.{ident, noUpdate, updateAt, Holds, Truthfu
 use Rattle.ledger_state.specs.BookLaws.{replaced-cases}
 use Rattle.ledger_judging.specs.JudgeWithin.{judge-within}
 use Rattle.ledger_judging.specs.JudgeLaws.{judged-held, judged-above, judged-above-all, judged-void, judged-no-void, judged-not-ready}
-use Rattle.ledger_settling.specs.Settle.{Settles, to-held, to-void, Reached, start, held, void, OthersWait, SettledFrom}
+use Rattle.ledger_settling.specs.Settle.{Settles, to-held, to-void, SettleSteps, start, held, void, OthersWait, SettledFrom}
 
 module _ {l : Book} {s : List ℕ} {k : ℕ} where
   settles-held : {v : Standing} {w : ℕ} → Settles l s k v w → v ≡ IsHeld → judgeAt l s k ≡ Judged-holds w
@@ -47,10 +47,10 @@ module _ {l : Book} {s : List ℕ} {k : ℕ} where
 module _ (I : Book → Type 0) (s : List ℕ)
     (step : (m : Book) (k : ℕ) (v : Standing) (w : ℕ) → k < m .used → placeAt m k .standing ≡ IsWaiting → Settles m s k v w → I m
     → I (withStanding m k v w)) where
-  reached-keeps : {l r : Book} {h v : ℕ} → Reached s l h v r → I l → I r
-  reached-keeps start i = i
-  reached-keeps (held {m = m} {k = k} {w = w} p g q e) i = step m k IsHeld w g q (to-held e) (reached-keeps p i)
-  reached-keeps (void {m = m} {k = k} p g q e) i = step m k IsVoid 0 g q (to-void e) (reached-keeps p i)
+  steps-keep : {l r : Book} {h v : ℕ} → SettleSteps s l h v r → I l → I r
+  steps-keep start i = i
+  steps-keep (held {m = m} {k = k} {w = w} p g q e) i = step m k IsHeld w g q (to-held e) (steps-keep p i)
+  steps-keep (void {m = m} {k = k} p g q e) i = step m k IsVoid 0 g q (to-void e) (steps-keep p i)
 
 -- a place of a ledger in which the place k was settled: what it was, or the new one
 module _ (l : Book) (k : ℕ) (v : Standing) (w : ℕ) where
@@ -220,17 +220,17 @@ module _ (l : Book) (s : List ℕ) (us : List Update) (h : Holds l s us) (t : Tr
 
 -- of any ledger
 pub settled-kept : (l : Book) (s : List ℕ) (r : Book) {h v : ℕ} → SettledFrom l s h v r → Kept l r
-settled-kept l s r f = reached-keeps (Kept l) s (λ m k v w g q _ i. kept-trans i (kept-step m k v w g q)) (f .reached) (kept-refl l)
+settled-kept l s r f = steps-keep (Kept l) s (λ m k v w g q _ i. kept-trans i (kept-step m k v w g q)) (f .reached) (kept-refl l)
 
 -- row 1 does not come up by settling
 pub settled-sound : (l : Book) (s : List ℕ) (r : Book) {h v : ℕ} → SettledFrom l s h v r → sound l s ≡ true → sound r s ≡ true
-settled-sound l s r f = reached-keeps (λ m. sound m s ≡ true) s (λ m k v w _ _ j. sound-step s m k v w j) (f .reached)
+settled-sound l s r f = steps-keep (λ m. sound m s ≡ true) s (λ m k v w _ _ j. sound-step s m k v w j) (f .reached)
 
 -- settling ends with a ledger that stands
 pub settled-stands : (l : Book) (s : List ℕ) (us : List Update) (r : Book) {h v : ℕ} → Holds l s us → Truthful l us → OthersWait l s → SettledFrom l s h v r
     → Stands r s us
 settled-stands l s us r h t others f =
-    let i = reached-keeps (λ m. Holds m s us × Truthful m us) s
+    let i = steps-keep (λ m. Holds m s us × Truthful m us) s
     (λ m k v w g _ j i. (
       holds-step s us m k v w (settles-within m (λ x y. holds-sound m s us (i .0) .each x y .inside) j) (i .0),
       truthful-step s us m k v w (subst (λ (n : ℕ). k < n) (i .0 .number) g) j (i .0) (i .1),

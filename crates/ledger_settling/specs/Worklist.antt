@@ -1,4 +1,4 @@
--- The worklist: the places settled so far, in order. One fact is kept of it (`Underway`): a place that is due, which is one that waits and is not judged to go on waiting, is a
+-- The worklist: the places settled so far, in order. One fact is kept of it (`WorklistAt`): a place that is due, which is one that waits and is not judged to go on waiting, is a
 -- successor of a settled place whose successors were not judged yet. A place that is judged to wait is due no more; of one that is settled, the successors become due, and it
 -- goes on the worklist. At the end of the worklist nothing is due.
 use mathlib.Core.Path.{_≡_}
@@ -15,7 +15,7 @@ use Rattle.ledger_state.specs.State.{places, Book, placeAt, withStanding, isWai
 use Rattle.ledger_state.specs.View.{bookOf}
 use Rattle.ledger_judging.specs.Judge.{judgeAt}
 use Rattle.ledger_settling.specs.declared.Settling.{Settling}
-use Rattle.ledger_settling.specs.Settle.{Reached, OthersWait, SettledFrom, followsAt}
+use Rattle.ledger_settling.specs.Settle.{SettleSteps, OthersWait, SettledFrom, followsAt}
 
 -- each place that is due is one of these: every other that waits is judged to go on waiting
 abbrev pub Due : Book → List ℕ → (ℕ → Type 0) → Type 0
@@ -51,13 +51,13 @@ pub data Judged (s : List ℕ) (k : ℕ) (p : Progress) : Progress → Type 0 wh
       → Judged s k p (record { book = withStanding (p .book) k Void 0; worklist = p .worklist ++ (k ∷ []); held = p .held; void = p .void + 1 })
 
 -- settling, from l, with the successors of the first i places of the worklist judged
-pub record Underway (l : Book) (s : List ℕ) (i : ℕ) (p : Progress) : Type 0 where
-  pub reached : Reached s l (p .held) (p .void) (p .book)
+pub record WorklistAt (l : Book) (s : List ℕ) (i : ℕ) (p : Progress) : Type 0 where
+  pub reached : SettleSteps s l (p .held) (p .void) (p .book)
   pub due : OthersWait l s → Due (p .book) s (Successor (p .book) s (drop i (p .worklist)))
 
 -- .. and of the successors of the next one, whose id is x, those below place k
-pub record UnderwayAt (l : Book) (s : List ℕ) (i : ℕ) (x : Id) (k : ℕ) (p : Progress) : Type 0 where
-  pub reached : Reached s l (p .held) (p .void) (p .book)
+pub record SuccessorsAt (l : Book) (s : List ℕ) (i : ℕ) (x : Id) (k : ℕ) (p : Progress) : Type 0 where
+  pub reached : SettleSteps s l (p .held) (p .void) (p .book)
   pub listed : i < length (p .worklist)
   pub due : OthersWait l s
       → Due (p .book) s (λ (j : ℕ). Successor (p .book) s (drop (i + 1) (p .worklist)) j ⊎ ((k ≤ j) × (followsAt (p .book) s x j ≡ true)))
@@ -95,8 +95,8 @@ pub record Judges (s : List ℕ) (k : ℕ) (x r : Settling) : Type 0 where
 -- the successors of the place at index i of the worklist were judged
 pub record JudgesSuccessors (s : List ℕ) (i : ℕ) (x r : Settling) : Type 0 where
   pub roomy : Roomy r
-  pub onward : (l : Book) → Underway l s i (progressOf x) → Underway l s (i + 1) (progressOf r)
+  pub onward : (l : Book) → WorklistAt l s i (progressOf x) → WorklistAt l s (i + 1) (progressOf r)
 
 -- the worklist is at its end
 pub record Empties (s : List ℕ) (x r : Settling) : Type 0 where
-  pub settles : (l : Book) → Underway l s 0 (progressOf x) → SettledFrom l s (r .held) (r .void) (bookOf (r .ledger))
+  pub settles : (l : Book) → WorklistAt l s 0 (progressOf x) → SettledFrom l s (r .held) (r .void) (bookOf (r .ledger))

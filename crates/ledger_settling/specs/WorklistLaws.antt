@@ -19,7 +19,7 @@ use Rattle.ledger_judging.specs.declared.Judgement.the-variants.{Waits}
 use Rattle.ledger_state.specs.State.{Book, placeAt, withStanding, isWaiting}
 use Rattle.ledger_judging.specs.Judge.{judgeAt}
 use Rattle.ledger_settling.specs.Settle.{start, held, void, OthersWait, SettledFrom, followsAt}
-use Rattle.ledger_settling.specs.Worklist.{Due, Successor, Progress, unsettled, Judged, waits, holds, fails, Underway, UnderwayAt}
+use Rattle.ledger_settling.specs.Worklist.{Due, Successor, Progress, unsettled, Judged, waits, holds, fails, WorklistAt, SuccessorsAt}
 use Rattle.ledger_settling.specs.DueLaws.{follows-kept, successor-kept, due-settled, due-more}
 
 -- the worklist with one place more
@@ -56,7 +56,7 @@ module _ (l : Book) (s : List ℕ) where
         (due-settled l n v w s (λ (k : ℕ). k ≡ n) settled (newest-due n last others))
 
     -- the newest place was judged
-    pub first-judged : {p : Progress} → placeAt l n .standing ≡ IsWaiting → Judged s n (unsettled l) p → Underway l s 0 p
+    pub first-judged : {p : Progress} → placeAt l n .standing ≡ IsWaiting → Judged s n (unsettled l) p → WorklistAt l s 0 p
     unfolding isWaiting
     first-judged waiting (waits e) =
         record {
@@ -70,14 +70,14 @@ module _ (l : Book) (s : List ℕ) where
         record { reached = void {k = n} start (omega arith) waiting e; due = first-settled IsVoid 0 refl }
 
   -- the successors of the place at index i come next
-  module _ {i : ℕ} {p : Progress} (listed : i < length (p .worklist)) (u : Underway l s i p) where
+  module _ {i : ℕ} {p : Progress} (listed : i < length (p .worklist)) (u : WorklistAt l s i p) where
     abbrev n : ℕ
     n = getD (p .worklist) i 0
 
     next-first : drop i (p .worklist) ≡ n ∷ drop (i + 1) (p .worklist)
     next-first = drop-cons (p .worklist) i 0 listed ∙ ap (λ (m : ℕ). n ∷ drop m (p .worklist)) (sym (add-one i))
 
-    pub successors-begin : UnderwayAt l s i (placeAt (p .book) (getD (p .worklist) i 0) .id) 0 p
+    pub successors-begin : SuccessorsAt l s i (placeAt (p .book) (getD (p .worklist) i 0) .id) 0 p
     successors-begin =
         record {
           reached = u .reached;
@@ -95,12 +95,12 @@ module _ (l : Book) (s : List ℕ) where
         by k x (inr y) = inl (record { predecessor = x .predecessor; among = y; named = x .named })
 
   -- the place k is looked at
-  module _ {i k : ℕ} {x : Id} {p : Progress} (u : UnderwayAt l s i x k p) where
+  module _ {i k : ℕ} {x : Id} {p : Progress} (u : SuccessorsAt l s i x k p) where
     abbrev Left : Book → List ℕ → ℕ → ℕ → Type 0
     Left m ws least j = Successor m s (drop (i + 1) ws) j ⊎ ((least ≤ j) × (followsAt m s x j ≡ true))
 
     -- it goes on waiting, or is not one that waits for x
-    not-settled : (placeAt (p .book) k .standing ≡ IsWaiting → followsAt (p .book) s x k ≡ true → judgeAt (p .book) s k ≡ Waits) → UnderwayAt l s i x (k + 1) p
+    not-settled : (placeAt (p .book) k .standing ≡ IsWaiting → followsAt (p .book) s x k ≡ true → judgeAt (p .book) s k ≡ Waits) → SuccessorsAt l s i x (k + 1) p
     not-settled here =
         record {
           reached = u .reached;
@@ -120,7 +120,7 @@ module _ (l : Book) (s : List ℕ) where
             (λ (g : k < j). inr (inr (omega arith, y .1)))
             (eq-or-lt-of-le (y .0))
 
-    pub place-passed : (isWaiting (placeAt (p .book) k .standing) && followsAt (p .book) s x k) ≡ false → UnderwayAt l s i x (k + 1) p
+    pub place-passed : (isWaiting (placeAt (p .book) k .standing) && followsAt (p .book) s x k) ≡ false → SuccessorsAt l s i x (k + 1) p
     unfolding isWaiting
     place-passed e =
         not-settled (λ q f. absurd (true-false (ap (λ (v : Standing). isWaiting v && followsAt (p .book) s x k) q ∙ f) e))
@@ -151,7 +151,7 @@ module _ (l : Book) (s : List ℕ) where
             (successor-kept (p .book) k v w
             (record { predecessor = k; among = on-rest (∈-append-right (drop (i + 1) (p .worklist)) (List·Memᴰ·head refl)); named = y }))
 
-    pub place-judged : {q : Progress} → k < p .book .used → placeAt (p .book) k .standing ≡ IsWaiting → Judged s k p q → UnderwayAt l s i x (k + 1) q
+    pub place-judged : {q : Progress} → k < p .book .used → placeAt (p .book) k .standing ≡ IsWaiting → Judged s k p q → SuccessorsAt l s i x (k + 1) q
     unfolding isWaiting
     place-judged inside waiting (waits e) = not-settled (λ _ _. e)
     place-judged inside waiting (holds {w = w} e) =
@@ -168,7 +168,7 @@ module _ (l : Book) (s : List ℕ) where
         }
 
     -- all places were looked at
-    pub successors-end : p .book .used ≤ k → Underway l s (i + 1) p
+    pub successors-end : p .book .used ≤ k → WorklistAt l s (i + 1) p
     successors-end all =
         record {
           reached = u .reached;
@@ -183,7 +183,7 @@ module _ (l : Book) (s : List ℕ) where
         }
 
   -- the worklist is at its end
-  pub worklist-end : {i : ℕ} {p : Progress} → length (p .worklist) ≤ i → Underway l s i p → SettledFrom l s (p .held) (p .void) (p .book)
+  pub worklist-end : {i : ℕ} {p : Progress} → length (p .worklist) ≤ i → WorklistAt l s i p → SettledFrom l s (p .held) (p .void) (p .book)
   worklist-end {i} {p} all u =
       record {
         reached = u .reached;

@@ -99,8 +99,8 @@ module _ (l : Book) (s : List ℕ) where
         )
 
 -- of every ledger with at most 64 places taken, whose ids have 32 bytes
-pub text-length : (form : Form) (l : Book) (s : List ℕ) → l .used ≤ places → ((k : ℕ) → k < l .used → length (placeAt l k .id) ≡ idLength)
+pub textOf-length : (form : Form) (l : Book) (s : List ℕ) → l .used ≤ places → ((k : ℕ) → k < l .used → length (placeAt l k .id) ≡ idLength)
     → length (textOf l s form) ≤ longest form
 unfolding textOf ascii codes
-text-length Full l s few sized = omega (arith, length-append (standings l s) (readOffs l s), standings-length l s sized, read-offs-length l s)
-text-length Short l s few sized = omega (arith, read-offs-length l s)
+textOf-length Full l s few sized = omega (arith, length-append (standings l s) (readOffs l s), standings-length l s sized, read-offs-length l s)
+textOf-length Short l s few sized = omega (arith, read-offs-length l s)

@@ -90,8 +90,8 @@ module _ (ident : Update → Id) (S : List Update) (distinct : Distinct ident S)
             let less : length js < length is = distinct-length-lt (ascending-distinct (d .ascending)) is within m (λ j k e. out (∈-cast (sym e) k)) in
             lt-irrefl maxPredecessors (subst₂ (λ (x y : ℕ). x < y) (most .number) (few .number) less)
 
-    pub chosen-unique : {is js : List Id} → Chosen ident S a is → Chosen ident S a js → is ≡ js
-    chosen-unique {is} {js} c d = ascending-unique (c .ascending) (d .ascending) (step (leb (length (c .heads)) maxPredecessors) refl)
+    pub choice-unique : {is js : List Id} → Chosen ident S a is → Chosen ident S a js → is ≡ js
+    choice-unique {is} {js} c d = ascending-unique (c .ascending) (d .ascending) (step (leb (length (c .heads)) maxPredecessors) refl)
       where
         same-number : length (c .heads) ≡ length (d .heads)
         same-number = ap length (exactly-unique (c .heads-exactly) (d .heads-exactly))
@@ -206,9 +206,9 @@ module _ (ident : Update → Id) (S : List Update) (distinct : Distinct ident S)
       }
 
   -- the predecessors of the update that the author writes, with any operation
-  pub chosen-right : (o : Operation) → Chosen ident S a (writtenOf ident S a o .preds)
+  pub choice-right : (o : Operation) → Chosen ident S a (writtenOf ident S a o .preds)
   unfolding writtenOf writtenIn partsIn
-  chosen-right o =
+  choice-right o =
       let n : length (updatesIn (heads table)) ≡ length (heads table) = length-map (heads table) (λ (r : Row). r .update) in
       record {
         heads = updatesIn (heads table);

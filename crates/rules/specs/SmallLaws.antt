@@ -24,7 +24,7 @@ use Rattle.rules.specs.Small.{#a, Small, by, a, c, identOf, smallSet, sm
 use Rattle.rules.specs.Cases.{computed, ids-apart, forms-computed, choices-computed, choice-ids-apart, longest-computed}
 use Rattle.rules.specs.TableLaws.{not-true→}
 use Rattle.rules.specs.PartsLaws.{read-right}
-use Rattle.rules.specs.ChosenLaws.{chosen-right}
+use Rattle.rules.specs.ChosenLaws.{choice-right}
 
 -- the test of the ids
 apart-distinct : {A : Type 0} (key : A → List ℕ) (xs : List A) → apart (map key xs) ≡ true → Distinct key xs
@@ -51,7 +51,7 @@ pub small-choices : (c : SmallChoice) → c ∈ smallChoices → Chosen (choiceI
 small-choices c m =
     subst (Chosen (choiceIdent c) (choiceSet c) (c .writer))
     (agree (λ (c : SmallChoice). writtenOf (choiceIdent c) (choiceSet c) (c .writer) (Add []) .preds) (λ (c : SmallChoice). c .names) smallChoices (choices-computed .0) m)
-    (chosen-right (choiceIdent c) (choiceSet c)
+    (choice-right (choiceIdent c) (choiceSet c)
     (apart-distinct (choiceIdent c) (choiceSet c) (all→∈ (λ (c : SmallChoice). apart (map (choiceIdent c) (choiceSet c))) smallChoices choice-ids-apart c m))
     (c .writer) (Add []))
 
