@@ -1,6 +1,6 @@
 #!/usr/bin/env bash
 # Runs the commands of README.md's blocks marked `sh`, in order and in one POSIX shell, in a folder of their own, and compares what each writes with the block marked `text` after it. The block that
-# begins with `# update.sh:` is put into that file. The last line is 'N passed, M failed'. The command must have been built: rt check silkcliff.
+# begins with `# update.sh:` is put into that file. The block marked `rust` must be the main function of crates/example_board, which is proved. The last line is 'N passed, M failed'. The command must have been built: rt check silkcliff.
 set -euo pipefail
 cd "$(dirname "${BASH_SOURCE[0]}")/../.."
 root=$PWD
@@ -16,6 +16,7 @@ awk '
     inside && kind == "file" { print > "update.sh" }
     inside && kind == "sh" { print > ("block" n) }
     inside && kind == "text" { print > ("expected" n) }
+    inside && kind == "rust" { print > "sample" }
     END { print n + 0 > "blocks" }' "$root/README.md"
 
 blocks=$(cat blocks) passed=0 failed=0
@@ -32,6 +33,7 @@ for ((i = 1; i <= blocks; i++)); do
         failed=$((failed + 1))
     fi
 done
+if sed -n '/^fn main() {$/,/^}$/p' "$root/crates/example_board/src/main.rt" | cmp - sample; then passed=$((passed + 1)); else failed=$((failed + 1)); fi
 [ "$status" -eq 0 ] || { echo "the blocks ended with status $status"; failed=$((failed + 1)); }
 echo "$passed passed, $failed failed"
 [ "$failed" -eq 0 ] && [ "$passed" -gt 0 ]

@@ -19,15 +19,12 @@ use Rattle.ledger_state.specs.FindLaws.{ident-length}
 use Rattle.ledger_state.specs.TakeLaws.{stands-sound}
 use Rattle.ledger_refusals.specs.Numbers.{Output, putBytes}
 use Rattle.ledger.specs.Report.{ReportRow, unfit, short, written}
+use Rattle.ledger.specs.BufferLaws.{buffer-length, report-within}
 use Rattle.command_session.specs.Session.{Machine, lastLine, finish}
 use Rattle.command_session.specs.AnsweringLaws.{last-answers}
 use Rattle.command_session.specs.Feeding.{maxEnd, EndValues, withReport, putOut, ReportsAt, reported, unreported, LastLine, FinishRow, ended}
 use Rattle.command_session.specs.Feeding as feeding
 use Rattle.command_session.specs.FeedLaws.{Follows}
-
--- a report that is written lies within its buffer
-pub report-within : {l : Book} {s out o : List ℕ} {n : ℕ} → ReportRow Full l s out (putBytes n) o → n ≤ length out
-report-within (written text e t j) = j
 
 -- a report of a ledger that stands has at most 12,000 bytes
 report-few : {l : Book} {s : List ℕ} (us : List Update) → Stands l s us → length (reportOf Full ident us) ≤ maxReport
@@ -113,7 +110,7 @@ finish-output {out = out} {n = n} m f (ended v l′ s′ put out′ e h last p) 
 
 -- what is put out lies within the output buffer
 reports-within : {l : Book} {s out out′ : List ℕ} {at : ℕ} {v : EndValues} → at ≤ length out → ReportsAt l s at out v out′ → putOut v ≤ length out
-reports-within {out = out} {at = at} h (reported n o p) = omega (arith, report-within p, length-drop at out)
+reports-within {out = out} {at = at} h (reported n o p) = omega (arith, report-within p n refl, buffer-length p, length-drop at out)
 reports-within h (unreported e o p) = h
 
 pub finishes-within : {l : Ledger} {s buffer out s′ out′ : List ℕ} {fill : ℕ} {v : EndValues} → FinishRow l s buffer fill out v s′ out′ → putOut v ≤ length out

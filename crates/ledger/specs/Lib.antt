@@ -1,6 +1,7 @@
 pub mod Ask
 pub mod Calls
 pub mod Report
+pub mod BufferLaws
 pub mod ValueLaws
 pub mod FormLaws
 pub mod RoomLaws

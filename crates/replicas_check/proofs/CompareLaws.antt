@@ -12,7 +12,7 @@ use Rattle.ledger.specs.declared.Reported.{Reported}
 use Rattle.ledger.specs.declared.Reported.the-variants.{Written, Refused as NotReported}
 use Rattle.ledger_state.specs.View.{bookOf}
 use Rattle.ledger.specs.Report.{reportValues, ReportRow}
-use Rattle.replicas_check.specs.LengthLaws.{report-within, written-length, refused-leaves}
+use Rattle.ledger.specs.BufferLaws.{report-within, written-length, refused-leaves}
 use Rattle.replicas_check.specs.Check.{OneCopy, CheckValues, sameOf, differentOf, firstRefused, secondRefused, comparedOf, SecondRow, unreported, compared, CheckRow, first-unreported, checking}
 
 module _ {s s′ o o′ : List ℕ} {bs : List (List ℕ)} {r : Reported} (c : OneCopy bs s o r s′ o′) where

@@ -1,16 +1,15 @@
--- Offers keep the store's length; a report is only written where the store has the stated length; one that is refused leaves the buffer.
+-- Offers keep the store's length; a report is only written where the store has the stated length.
 use mathlib.Core.Path.{_≡_, refl, sym, _∙_}
-use Prim.Native.Nat.{ℕ, _≤_}
+use Prim.Native.Nat.{ℕ}
 use native.Mathlib.Omega.{arith}
 use mathlib.Core.List.{List}
-use lib.ListN.{length, take, drop, length-append}
-use lib.Seq.{length-take-le}
+use lib.ListN.{length}
 use Rattle.rules.specs.declared.Form.{Form}
 use Rattle.ledger_state.specs.declared.Ledger.{Ledger}
 use Rattle.ledger_state.specs.State.{storeLength, Book}
 use Rattle.ledger_state.specs.View.{bookOf}
 use Rattle.ledger_state.specs.Row1Laws.{sound→}
-use Rattle.ledger_refusals.specs.Numbers.{Output, putBytes, refusedBy}
+use Rattle.ledger_refusals.specs.Numbers.{Output, putBytes}
 use Rattle.ledger.specs.declared.Reported.the-variants.{Written}
 use Rattle.ledger_offering.specs.Values.{OfferValues}
 use Rattle.ledger_offering.specs.Offer.{OfferRow, unfit, malformed, known, full, taken}
@@ -37,18 +36,3 @@ report-store {l = l} {s = s} (written text e t k) n q = sound→ l s e .store
 pub reported-store : {form : Form} {l l′ : Ledger} {s s′ o o′ : List ℕ} {bs : List (List ℕ)} {n : ℕ} → Calls l s bs l′ s′ → Reporting form (bookOf l′) s′ o (Written n) o′
     → length s ≡ storeLength
 reported-store {n = n} c r = sym (calls-length c) ∙ report-store r n refl
-
--- a report that is written lies within the buffer
-pub report-within : {form : Form} {l : Book} {s o o′ : List ℕ} {v : Output} → ReportRow form l s o v o′ → (n : ℕ) → v ≡ putBytes n → n ≤ length o′
-report-within (not-fit e) n q = let z : _≡_ {A = ℕ} 0 1 = cc in absurd (omega arith)
-report-within (short text e t k) n q = let z : _≡_ {A = ℕ} 0 1 = cc in absurd (omega arith)
-report-within {o = o} (written text e t k) n q = let p : length text ≡ n = cc in omega (arith, p, length-append text (drop (length text) o))
-
-pub written-length : {form : Form} {l : Book} {s o o′ : List ℕ} {v : Output} → ReportRow form l s o v o′ → (n : ℕ) → v ≡ putBytes n → length (take n o′) ≡ n
-written-length {o′ = o′} h n q = length-take-le n o′ (report-within h n q)
-
--- a report that is refused leaves the buffer as it was
-pub refused-leaves : {form : Form} {l : Book} {s o o′ : List ℕ} {v : Output} → ReportRow form l s o v o′ → (n : ℕ) → v ≡ refusedBy n → o′ ≡ o
-refused-leaves (not-fit e) n q = refl
-refused-leaves (short text e t k) n q = refl
-refused-leaves (written text e t k) n q = let z : _≡_ {A = ℕ} 0 1 = cc in absurd (omega arith)

@@ -15,9 +15,10 @@ use Rattle.ledger_refusals.specs.Numbers.{putBytes}
 use Rattle.rules.specs.Report.{maxReport}
 use Rattle.ledger.specs.Calls.{Calls, stored, offers-stand}
 use Rattle.ledger.specs.Report.{ReportRow}
+use Rattle.ledger.specs.BufferLaws.{written-length}
 use Rattle.replicas_theorem.specs.Sets.{setOf, reportFor, Fits, NoCollision}
 use Rattle.replicas_theorem.specs.Copies.{Copy, SideBySide, side-by-side}
-use Rattle.replicas_check.specs.LengthLaws.{reported-store, written-length}
+use Rattle.replicas_check.specs.LengthLaws.{reported-store}
 use Rattle.replicas_theorem.specs.FitLaws.{report-answers}
 use Rattle.replicas_check.specs.Check.{CheckValues, sameOf, differentOf, firstRefused, secondRefused, comparedOf, CheckRow, first-unreported, second-unreported, compared}
 
