@@ -1,4 +1,5 @@
--- The laws of the tests, counts and lists over the numbers below n.
+-- The laws of the tests, counts and lists over the numbers below n. In order: the step of each at `n + 1`, as a loop makes it; `allBelow`, `anyBelow`, `upTo`, `countBelow`,
+-- `firstBelow`, each by what it says of a number, in both directions; counts of two tests (`countBelow-mono`, `countBelow-one`, `countBelow-lt`); a count as the length of a list.
 use Prim.Native.Nat.{ℕ, zero, suc, _+_, _≤_, _<_, zero-le}
 use native.Mathlib.Omega.{arith}
 use native.Mathlib.Nat.{le-of-suc-le-suc, eq-or-lt-of-le, lt-of-not-le, not-suc-le-zero}

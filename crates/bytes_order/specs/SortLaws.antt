@@ -1,4 +1,6 @@
--- The laws of the sort, and of ascending lists.
+-- The laws of the sort, and of ascending lists. In order: ascending lists, with the test of them and that a set has one (`ascending-unique`); inserting; sorting: the members
+-- (`sort-∈`, `∈-sort`), the order (`sort-ascending`), that it depends on the set alone (`same-sort`, `sort-unique`), its length, and that no key stands twice; other keys;
+-- under a map; the greatest member; lists under a map and one after the other.
 use Prim.Native.Nat.{ℕ, suc, _≤_, zero-le, suc-le-suc}
 use native.Mathlib.Nat.{le-refl}
 use native.Mathlib.Omega.{arith}

@@ -1,5 +1,7 @@
 -- What is gathered from a list of ids, with places that hold the updates `us`: whether one of them is that of a void place; whether each is that
--- of a place that does not wait; whether each is that of a held one; the held places among them; and the ancestors of these.
+-- of a place that does not wait; whether each is that of a held one; the held places among them; and the ancestors of these. In order: what each id adds and keeps, of any
+-- ledger; how many places at most (`gather-few`); that both words are of taken places (`gather-inside`). Main laws, of places that hold updates, each in both directions:
+-- `gathered-void`, `gathered-ready`, `all-held`, `gathered-direct`, `gathered-above`.
 use mathlib.Core.Path.{_≡_, refl, sym, _∙_, ap, ap₂, subst}
 use Prim.Native.Nat.{ℕ, zero, suc, _+_, _≤_, _<_}
 use native.Mathlib.Omega.{arith}

@@ -1,6 +1,8 @@
 -- The judgement of a place is that of the rules: with places that hold the updates `us` and say only what is so, a place judged to hold is Held, with
 -- exactly its ancestors in the word; one judged to fail is Void; and one that goes on waiting is not decided by what its predecessors say. At the start when the
--- predecessors of a place are all held.
+-- predecessors of a place are all held. In order: that (`ready-at→`, `→ready-at`); validity by a word that has exactly the ancestors' places; the places of the predecessors and
+-- of their ancestors; the antichain rule. Main laws, at the end: `judged-held`, `judged-above`, `judged-above-all`, `judged-void`, and of one that goes on waiting
+-- `judged-no-void` and `judged-not-ready`.
 use mathlib.Core.Path.{_≡_, refl, sym, _∙_, ap, subst, subst₂}
 use mathlib.Core.Logic.{inl, inr, ⊎-elim}
 use Prim.Native.Nat.{ℕ, _<_}

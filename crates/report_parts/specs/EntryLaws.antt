@@ -1,5 +1,7 @@
 -- Entries put one after the other, each at the beginning or right after its anchor, make the walk of their tree: where parents come before their
--- children, and of two siblings the one that is walked later.
+-- children, and of two siblings the one that is walked later. In order: the walk of siblings (`Walked`); one entry more with nothing under it; an entry put under its anchor; what
+-- is put is there once (`Put`); entries in the order of a key, each anchored at the beginning or at one with a smaller key (`Descending`, `Rooted`). Main law, at the end:
+-- `put-all`, that all of them put are the walk (`IsWalk`).
 use Prim.Native.Nat.{ℕ}
 use mathlib.Core.Path.{_≡_, refl, sym, _∙_, ap, subst}
 use mathlib.Core.Logic.{_⊎_, inl, inr, ⊎-elim}

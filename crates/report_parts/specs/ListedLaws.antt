@@ -1,4 +1,6 @@
--- The list: the entries put in the order of their ranks and ids show the values that the rules list.
+-- The list: the entries put in the order of their ranks and ids show the values that the rules list. Of a ledger that stands, in order: ranks; the places of the held Inserts;
+-- their order; their anchors; siblings; the walk; what is shown. The one law that others cite is the last, `values-agree`. That entries so put make the walk of their tree is in
+-- `EntryLaws`.
 use Prim.Native.Nat.{ℕ, zero, suc, _<_}
 use native.Mathlib.Omega.{arith}
 use native.Mathlib.Nat.{le-of-suc-le-suc, eq-or-lt-of-le}

@@ -1,5 +1,7 @@
 -- The choice of predecessors from a settled table: at most eight heads, ascending, one of which is at or above each held update of an author
--- without a fork; above eight heads the author's own head and the lowest others.
+-- without a fork; above eight heads the author's own head and the lowest others. In order: fronts of lists; the candidates and what is chosen of them, of any lists; the same of
+-- the heads of a table (`chosen-all` to `chosen-lowest`); the author's own rows (`OwnRows`). Main laws, of a table that decides its set: `some-head`, `own-rows`, `chosen-own`,
+-- `named`. What they come to by the rules' definitions is in `ChosenLaws`.
 use mathlib.Core.Path.{_≡_, refl, sym, _∙_, ap, subst}
 use mathlib.Core.Logic.{_⊎_, inl, inr, ⊎-elim}
 use Prim.Native.Nat.{ℕ, zero, suc, _+_, _≤_, _<_}

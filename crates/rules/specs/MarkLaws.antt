@@ -1,5 +1,7 @@
 -- Document 02, E7: a fault is exactly a void update by the second clause of Void; an author has one mark at most, and one where it has a fork or a fault; more updates
--- keep it, but for a second kind. And what is computed of marks from a settled table is what `ReadOff` defines.
+-- keep it, but for a second kind. And what is computed of marks from a settled table is what `ReadOff` defines. In order: faults by the rules (`fault→broken`, `broken→fault`,
+-- and who has none); an author's mark (`marked-unique`, `marked→`); from a settled table the forks, the faults, the kinds by two tests and the marks (`mark-right`, `mark-all`); of
+-- every set `→marked`; growth (`grow-marked`); how many marks an author has, and their order.
 use Prim.Native.Nat.{ℕ, _≤_}
 use native.Mathlib.Omega.{arith}
 use mathlib.Core.Path.{_≡_, refl, sym, _∙_, ap, subst, subst₂}

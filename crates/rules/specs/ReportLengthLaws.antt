@@ -1,4 +1,6 @@
--- How long a report is, in each form: the lines of each part are bounded, and each row of a table shows in few of them.
+-- How long a report is, in each form: the lines of each part are bounded, and each row of a table shows in few of them. In order: lines; parts; how often a row shows: by its
+-- one verdict, as a head, as an Add or an Insert; a table of bounded updates (`SizedTable`). Main laws, at the end: `text-length` and `short-text-length`, by the number of rows.
+-- That no report of a set passes its bound is `report-length` of `ReportLaws`.
 use Prim.Native.Nat.{ℕ, zero, suc, _+_, _*_, _≤_, _<_, zero-le, suc-le-suc}
 use Prim.Native.String.{String}
 use native.Mathlib.Nat.{not-suc-le-zero, le-of-suc-le-suc, le-trans, eq-or-lt-of-le}

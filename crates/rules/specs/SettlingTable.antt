@@ -1,5 +1,7 @@
 -- What holds of a table while it settles: there is one row for each update of the set, and every verdict given so far is right. The tests
--- of such a table then mean what `Standing` says, so a row judged by it is right too.
+-- of such a table then mean what `Standing` says, so a row judged by it is right too. In order: what is sound (`SoundRow`, `SoundTable`); the tests of a row and of an
+-- operation, both ways; what judging makes of a row (`RowOutcome`, `judge-outcome`); by a sound table the rows of held updates, how two stand to each other (`order-exactly`), the
+-- antichain rule and validity (`valid→`, `→valid`). Main laws: `judge-sound`, and at the end `round-sound`, that a round keeps the table sound.
 use mathlib.Core.Path.{_≡_, refl, sym, _∙_, ap, ap₂, subst, subst₂}
 use mathlib.Core.Logic.{_⊎_, inl, inr, ⊎-elim}
 use mathlib.Core.List.{List, [], map}

@@ -1,4 +1,6 @@
--- The held rows of a table that decides its set, and the tests and lists that the read-offs are computed with.
+-- The held rows of a table that decides its set, and the tests and lists that the read-offs are computed with. In order: tests of an operation, both ways; the anchor and the
+-- value of an Insert; held rows (`HeldRow`), found and kept by a test; that a table which decides its set is sound (`decides-sound`). Main laws, of such a table: `row-held`,
+-- `held-row`, `ancestor→above`, `above→ancestor`, `row-order`, `row-rank`, `rank-less`, `anchor-above`.
 use Prim.Native.Nat.{ℕ, _<_}
 use mathlib.Core.Path.{_≡_, refl, sym, _∙_, ap, subst, subst₂}
 use mathlib.Core.Logic.{_⊎_}

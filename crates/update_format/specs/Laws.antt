@@ -1,4 +1,7 @@
--- The layout and the rows agree: what is accepted is a bounded update laid out, and every bounded update laid out is accepted.
+-- The layout and the rows agree: what is accepted is a bounded update laid out, and every bounded update laid out is accepted. In order: what the bytes satisfy that no row
+-- applies to (`Layout`); the operation and the length by the kind byte; from such bytes to a bounded update and back (`bounded-back`, `encode-back`); from an update to its bytes,
+-- their length, the rows and back (`encode-length`, `encode-within`, `encoded-back`). Main laws, at the end: `decode-sound`, `decode-complete`, `encode-injective`,
+-- `well-formed-decoded`.
 use Prim.Native.Nat.{ℕ, zero, suc, _+_, _*_, _≤_, _<_}
 use mathlib.Core.Path.{_≡_, refl, sym, ap, ap₂, _∙_}
 use mathlib.Core.Logic.{_↔_, _⊎_, inl, inr, ⊎-elim}
