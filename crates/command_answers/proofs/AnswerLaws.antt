@@ -7,12 +7,12 @@ use Rattle.update_format.specs.declared.Malformed.{Malformed}
 use Rattle.update_format.specs.declared.Malformed.the-variants.{Length, Version, Author, Predecessors, Truncated, Kind, Layout, Unordered}
 use Rattle.update_format.specs.ParseResult.{malformedNumber}
 use Rattle.bytes_ascii.specs.Ascii.{codes, ascii, decimal, twoDigits}
-use Rattle.ledger_state.specs.declared.Standing.{Standing}
-use Rattle.ledger_state.specs.declared.Standing.the-variants.{Held, Waiting, Void}
+use Rattle.rules.specs.declared.Standing.{Standing}
+use Rattle.rules.specs.declared.Standing.the-variants.{Held, Waiting, Void}
 use Rattle.ledger_refusals.specs.declared.Refusal.{Refusal}
 use Rattle.ledger_refusals.specs.declared.Refusal.the-variants.{Unfit, Malformed as Bad, Full, Short, Invalid}
 use Rattle.ledger_offering.specs.declared.Answer.the-variants.{Taken, Known, Refused}
-use Rattle.ledger_offering.specs.Words.{verdictWord, standingWord, valuesText, answerText}
+use Rattle.ledger_offering.specs.Words.{standingWord, valuesText, answerText}
 use Rattle.ledger_refusals.specs.Numbers.{refusalNumber}
 
 -- a standing's word in bytes
@@ -22,7 +22,7 @@ bytesOf Waiting = 119 ∷ 97 ∷ 105 ∷ 116 ∷ 105 ∷ 110 ∷ 103 ∷ []
 bytesOf Void = 118 ∷ 111 ∷ 105 ∷ 100 ∷ []
 
 word-bytes : (v : Standing) → bytesOf v ≡ standingWord v
-unfolding verdictWord ascii codes
+unfolding standingWord ascii codes
 word-bytes Held = refl
 word-bytes Waiting = refl
 word-bytes Void = refl

@@ -9,7 +9,7 @@ use lib.ListN.{length, take}
 use Rattle.bitset.specs.BelowLaws.{countBelow-le}
 use Rattle.bytes_ascii.specs.Ascii.{ascii}
 use Rattle.ledger_state.specs.declared.Ledger.{Ledger}
-use Rattle.ledger_state.specs.declared.Standing.{Standing}
+use Rattle.rules.specs.declared.Standing.{Standing}
 use Rattle.ledger_state.specs.State.{Book, placeAt, isHeld, isVoid, standingCount}
 use Rattle.ledger_state.specs.View.{bookOf}
 use Rattle.ledger_offering.specs.declared.Offered.{Offered}

@@ -7,7 +7,6 @@ use mathlib.Core.Bool.{true, false}
 use Rattle.update_format.specs.Update.{Id}
 use Rattle.ledger_state.specs.State.{Book, placeAt, findIn}
 use Rattle.ledger_state.specs.Row1.{sound}
-use Rattle.ledger_state.specs.Verdicts.{verdictOf}
 use Rattle.ledger_refusals.specs.Numbers.{row1Number}
 use Rattle.ledger.specs.Ask.{standsAs, unknownId, refusedAs, askedOf}
 
@@ -17,7 +16,7 @@ module _ (l : Book) (s : List ℕ) (i : Id) where
   unfolding askedOf
   asked-unfit h = rw h
 
-  pub asked-at : sound l s ≡ true → (k : ℕ) → findIn l i ≡ some k → standsAs (verdictOf (placeAt l k .standing)) ≡ askedOf l s i
+  pub asked-at : sound l s ≡ true → (k : ℕ) → findIn l i ≡ some k → standsAs (placeAt l k .standing) ≡ askedOf l s i
   unfolding askedOf
   asked-at h k f = rw (h, f)
 

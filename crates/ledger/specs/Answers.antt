@@ -20,8 +20,10 @@ use Rattle.sha256_fips180.specs.Fips180.{SHA-256}
 use Rattle.update_format.specs.Update.{Id, Update}
 use Rattle.update_format.specs.Decode.{Decoded, refused, update, decode}
 use Rattle.bytes_order.specs.Distinct.{Distinct}
+use Rattle.rules.specs.declared.Standing.{Standing}
+use Rattle.rules.specs.declared.Standing.the-variants.{Held as IsHeld, Waiting as IsWaiting, Void as IsVoid}
 use Rattle.rules.specs.Standing.{Held, Void, Waiting}
-use Rattle.rules.specs.Settle.{Row, Table, Verdict, held, waiting, void, isHeld, isVoid, heldIn, voidIn, settledTable}
+use Rattle.rules.specs.Settle.{Row, Table, isHeld, isVoid, heldIn, voidIn, settledTable}
 use Rattle.rules.specs.SettlingTable.{held-in, void-in}
 use Rattle.rules.specs.Settling.{settled-decides}
 use Rattle.rules.specs.Decides.{Decides}
@@ -32,7 +34,6 @@ use Rattle.ledger_state.specs.Stands.{ident, noUpdate, updateAt, Stands}
 use Rattle.ledger_state.specs.FindLaws.{stored-at, find-right}
 use Rattle.ledger_state.specs.TakeLaws.{stands-sound}
 use Rattle.ledger_state.specs.CountLaws.{held-count, void-count}
-use Rattle.ledger_state.specs.Verdicts.{verdictOf}
 use Rattle.ledger_refusals.specs.Numbers.{row10Number}
 use Rattle.ledger_offering.specs.Values.{OfferValues, takenAs, knownAs, refusedAs}
 use Rattle.ledger_offering.specs.Words.{valuesText}
@@ -40,8 +41,8 @@ use Rattle.ledger_offering.specs.Offer.{OfferRow, unfit, malformed, known, full
 use Rattle.ledger.specs.Calls.{says, only-held, only-waiting, only-void, decoded-id, found-known, none-new}
 
 -- the standing of an id in a settled table
-unfoldable pub standingIn : Table → Id → Verdict
-standingIn T i = cond (heldIn T i) held (cond (voidIn T i) void waiting)
+unfoldable pub standingIn : Table → Id → Standing
+standingIn T i = cond (heldIn T i) IsHeld (cond (voidIn T i) IsVoid IsWaiting)
 
 unfoldable pub heldNumber : Table → ℕ
 heldNumber T = length (keep (λ (r : Row). isHeld (r .verdict)) T)
@@ -65,7 +66,7 @@ abbrev pub offerText : List Update → Decoded → List ℕ
 offerText us d = valuesText (answerFor us d)
 
 -- a test of the row with an id, in a table with distinct ids
-row-test : (T : Table) (p : Verdict → Bool) (i : Id) {r : Row} → Distinct (λ (q : Row). q .id) T → r ∈ T → r .id ≡ i
+row-test : (T : Table) (p : Standing → Bool) (i : Id) {r : Row} → Distinct (λ (q : Row). q .id) T → r ∈ T → r .id ≡ i
     → any (λ (q : Row). same (q .id) i && p (q .verdict)) T ≡ true → p (r .verdict) ≡ true
 row-test T p i {r} once m e h =
     let q = any→∈ (λ (q : Row). same (q .id) i && p (q .verdict)) T h in
@@ -78,20 +79,20 @@ module _ (l : Book) (s : List ℕ) (us : List Update) (stands : Stands l s us) w
   D = settled-decides ident us (stands .holds .distinct)
 
   -- a place's standing is its update's verdict
-  standing-by : (k : ℕ) → k < length us → (r : Row) → r ∈ settledTable ident us → r .update ≡ updateAt us k → (v : Verdict) → r .verdict ≡ v
-      → verdictOf (placeAt l k .standing) ≡ standingIn (settledTable ident us) (ident (updateAt us k))
+  standing-by : (k : ℕ) → k < length us → (r : Row) → r ∈ settledTable ident us → r .update ≡ updateAt us k → (v : Standing) → r .verdict ≡ v
+      → (placeAt l k .standing) ≡ standingIn (settledTable ident us) (ident (updateAt us k))
   unfolding standingIn isHeld isVoid heldIn voidIn
-  standing-by k h r m e held q =
+  standing-by k h r m e IsHeld q =
       let i : r .id ≡ ident (updateAt us k) = D .has-id r m ∙ ap ident e in
       let w = only-held us (placeAt l k .standing) (updateAt us k) (says l s us stands (placeAt l k .standing) k h refl) (subst (λ (u : Update). Held ident us u) e (D .held-right r m q)) in
       rw (w, held-in m i q)
-  standing-by k h r m e void q =
+  standing-by k h r m e IsVoid q =
       let i : r .id ≡ ident (updateAt us k) = D .has-id r m ∙ ap ident e in
       let w = only-void us (placeAt l k .standing) (updateAt us k) (says l s us stands (placeAt l k .standing) k h refl) (subst (λ (u : Update). Void ident us u) e (D .void-right r m q)) in
       let n : heldIn (settledTable ident us) (ident (updateAt us k)) ≡ false =
       not-true→false (heldIn (settledTable ident us) (ident (updateAt us k))) (λ t. true-false (row-test (settledTable ident us) isHeld (ident (updateAt us k)) (D .once) m i t) (ap isHeld q)) in
       rw (w, n, void-in m i q)
-  standing-by k h r m e waiting q =
+  standing-by k h r m e IsWaiting q =
       let i : r .id ≡ ident (updateAt us k) = D .has-id r m ∙ ap ident e in
       let w = only-waiting us (placeAt l k .standing) (updateAt us k) (says l s us stands (placeAt l k .standing) k h refl) (subst (λ (u : Update). Waiting ident us u) e (D .waiting-right r m q)) in
       let n : heldIn (settledTable ident us) (ident (updateAt us k)) ≡ false =
@@ -100,22 +101,22 @@ module _ (l : Book) (s : List ℕ) (us : List Update) (stands : Stands l s us) w
       not-true→false (voidIn (settledTable ident us) (ident (updateAt us k))) (λ t. true-false (row-test (settledTable ident us) isVoid (ident (updateAt us k)) (D .once) m i t) (ap isVoid q)) in
       rw (w, n, o)
 
-  pub standing-right : (k : ℕ) → k < length us → verdictOf (placeAt l k .standing) ≡ standingIn (settledTable ident us) (ident (updateAt us k))
+  pub standing-right : (k : ℕ) → k < length us → (placeAt l k .standing) ≡ standingIn (settledTable ident us) (ident (updateAt us k))
   standing-right k h =
       let r = D .row-for (updateAt us k) (stored-at us k h) in
       standing-by k h (r .0) (r .1) (r .2) (r .0 .verdict) refl
 
 -- the place that an offer takes says how the update stands, and the counts say what changed
 taken-right : (l : Book) (s : List ℕ) (us : List Update) → Stands l s us → (u : Update) (r : Book) (s′ : List ℕ) → Stands r s′ (us ++ (u ∷ []))
-    → takenAs (verdictOf (placeAt r (l .used) .standing)) (standingCount stateHeld r - standingCount stateHeld l) (standingCount stateVoid r - standingCount stateVoid l)
+    → takenAs (placeAt r (l .used) .standing) (standingCount stateHeld r - standingCount stateHeld l) (standingCount stateVoid r - standingCount stateVoid l)
     ≡ takenFor (settledTable ident us) (settledTable ident (us ++ (u ∷ []))) (ident u)
 unfolding takenFor heldNumber voidNumber
 taken-right l s us stands u r s′ after =
     let k : l .used ≡ length us = stands .holds .number in
     let last : updateAt (us ++ (u ∷ [])) (length us) ≡ u = getD-append-seam us u [] noUpdate in
     let here : length us < length (us ++ (u ∷ [])) = omega (arith, length-append us (u ∷ [])) in
-    let is : verdictOf (placeAt r (l .used) .standing) ≡ standingIn (settledTable ident (us ++ (u ∷ []))) (ident u) =
-    ap (λ (n : ℕ). verdictOf (placeAt r n .standing)) k ∙ standing-right r s′ (us ++ (u ∷ [])) after (length us) here
+    let is : (placeAt r (l .used) .standing) ≡ standingIn (settledTable ident (us ++ (u ∷ []))) (ident u) =
+    ap (λ (n : ℕ). (placeAt r n .standing)) k ∙ standing-right r s′ (us ++ (u ∷ [])) after (length us) here
     ∙ ap (λ (v : Update). standingIn (settledTable ident (us ++ (u ∷ []))) (ident v)) last in
     let h = ap₂ _-_ (held-count r s′ (us ++ (u ∷ [])) after) (held-count l s us stands) in
     let v = ap₂ _-_ (void-count r s′ (us ++ (u ∷ [])) after) (void-count l s us stands) in

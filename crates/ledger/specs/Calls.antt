@@ -16,14 +16,12 @@ use Rattle.update_format.specs.Update.{Id, Update}
 use Rattle.update_format.specs.Decode.{Decoded, refused, update, decode}
 use Rattle.update_format.specs.Laws.{decode-sound}
 use Rattle.rules.specs.Standing.{Held, Void, Waiting}
-use Rattle.rules.specs.Settle.{held, waiting, void}
 use Rattle.rules.specs.LeastSets.{held-stored, void-stored, held-not-void}
 use Rattle.ledger_state.specs.declared.Ledger.{Ledger}
-use Rattle.ledger_state.specs.declared.Standing.the-variants.{Held as IsHeld, Waiting as IsWaiting, Void as IsVoid}
-use Rattle.ledger_state.specs.declared.Standing.{Standing}
+use Rattle.rules.specs.declared.Standing.{Standing}
+use Rattle.rules.specs.declared.Standing.the-variants.{Held as IsHeld, Waiting as IsWaiting, Void as IsVoid}
 use Rattle.ledger_state.specs.State.{places, storeLength, Book, placeAt, findIn}
 use Rattle.ledger_state.specs.View.{bookOf, freshLedger}
-use Rattle.ledger_state.specs.Verdicts.{verdictOf}
 use Rattle.ledger_state.specs.Stands.{ident, updateAt, Stands}
 use Rattle.ledger_state.specs.FindLaws.{stored-at, place-of, find-right, find-all, find-none}
 use Rattle.ledger_state.specs.TakeLaws.{stands-sound, fresh-stands}
@@ -126,9 +124,9 @@ offers-stand {s = s} h c = calls-stand [] (fresh-stands (bookOf freshLedger) s r
 
 -- and `standing` answers so for every id
 pub record AnswersFor (l : Book) (s : List ℕ) (us : List Update) : Type 0 where
-  pub held-asked : (u : Update) → Held ident us u → askedOf l s (ident u) ≡ standsAs held
-  pub waiting-asked : (u : Update) → Waiting ident us u → askedOf l s (ident u) ≡ standsAs waiting
-  pub void-asked : (u : Update) → Void ident us u → askedOf l s (ident u) ≡ standsAs void
+  pub held-asked : (u : Update) → Held ident us u → askedOf l s (ident u) ≡ standsAs IsHeld
+  pub waiting-asked : (u : Update) → Waiting ident us u → askedOf l s (ident u) ≡ standsAs IsWaiting
+  pub void-asked : (u : Update) → Void ident us u → askedOf l s (ident u) ≡ standsAs IsVoid
   pub unknown-asked : (i : Id) → ((u : Update) → u ∈ us → ident u ≡ i → ⊥) → askedOf l s i ≡ unknownId
 
 module _ (l : Book) (s : List ℕ) (us : List Update) (stands : Stands l s us) where
@@ -142,7 +140,7 @@ module _ (l : Book) (s : List ℕ) (us : List Update) (stands : Stands l s us) w
   says IsWaiting k h e = stands .settled .waiting-right k h e
   says IsVoid k h e = stands .truthful .void-right k h e
 
-  asked-says : (u : Update) → u ∈ us → (v : Standing) × StandingSays us v u × (askedOf l s (ident u) ≡ standsAs (verdictOf v))
+  asked-says : (u : Update) → u ∈ us → (v : Standing) × StandingSays us v u × (askedOf l s (ident u) ≡ standsAs v)
   asked-says u m =
       let r = place-of us m in
       let v = placeAt l (r .0) .standing in
@@ -152,9 +150,9 @@ module _ (l : Book) (s : List ℕ) (us : List Update) (stands : Stands l s us) w
   pub stands-answers : AnswersFor l s us
   stands-answers =
       record {
-        held-asked = λ u h. let r = asked-says u (held-stored ident us h) in r .2 ∙ ap (λ (v : Standing). standsAs (verdictOf v)) (only-held us (r .0) u (r .1) h);
-        waiting-asked = λ u h. let r = asked-says u (h .stored) in r .2 ∙ ap (λ (v : Standing). standsAs (verdictOf v)) (only-waiting us (r .0) u (r .1) h);
-        void-asked = λ u h. let r = asked-says u (void-stored ident us h) in r .2 ∙ ap (λ (v : Standing). standsAs (verdictOf v)) (only-void us (r .0) u (r .1) h);
+        held-asked = λ u h. let r = asked-says u (held-stored ident us h) in r .2 ∙ ap (λ (v : Standing). standsAs v) (only-held us (r .0) u (r .1) h);
+        waiting-asked = λ u h. let r = asked-says u (h .stored) in r .2 ∙ ap (λ (v : Standing). standsAs v) (only-waiting us (r .0) u (r .1) h);
+        void-asked = λ u h. let r = asked-says u (void-stored ident us h) in r .2 ∙ ap (λ (v : Standing). standsAs v) (only-void us (r .0) u (r .1) h);
         unknown-asked = λ i new. asked-found i none (unfound i new (findIn l i) refl);
       }
     where

@@ -2,7 +2,6 @@
 use mathlib.Core.Path.{_≡_, refl, ap}
 use Prim.Native.Nat.{ℕ}
 use native.Mathlib.Omega.{arith}
-use Rattle.ledger_state.specs.Verdicts.{verdictOf, verdict-one}
 use Rattle.ledger_refusals.specs.Numbers.{refusalNumber}
 use Rattle.ledger_refusals.specs.NumberLaws.{refusal-one}
 use Rattle.ledger.specs.declared.Asked.{Asked}
@@ -13,7 +12,7 @@ use Rattle.ledger.specs.Ask.{askedValues}
 use Rattle.ledger.specs.Report.{reportValues}
 
 pub asked-one : (a b : Asked) → askedValues a ≡ askedValues b → a ≡ b
-asked-one (Is v) (Is w) e = let p : verdictOf v ≡ verdictOf w = cc in ap Is (verdict-one v w p)
+asked-one (Is v) (Is w) e = let p : v ≡ w = cc in ap Is (p)
 asked-one (Is v) Unknown e = let z : _≡_ {A = ℕ} 0 1 = cc in absurd (omega arith)
 asked-one (Is v) (NotAsked r) e = let z : _≡_ {A = ℕ} 0 1 = cc in absurd (omega arith)
 asked-one Unknown (Is w) e = let z : _≡_ {A = ℕ} 0 1 = cc in absurd (omega arith)

@@ -15,19 +15,17 @@ use Rattle.update_format.specs.Update.{Id, maxAuthor, maxLength, Operation, Upd
 use Rattle.update_format.specs.Decode.{refused, decode, update}
 use Rattle.update_format.specs.Laws.{decode-complete}
 use Rattle.rules.specs.Standing.{Ancestor, Held}
-use Rattle.rules.specs.Settle.{held}
 use Rattle.rules.specs.ReadOff.{Forked, Fault}
 use Rattle.rules.specs.Growth.{Reached}
 use Rattle.rules.specs.Writing.{writtenOf, writableOf}
 use Rattle.rules.specs.WritingLaws.{written-held, written-no-fault, written-no-fork, written-no-fork-next, add-writable}
 use Rattle.bitset.specs.Below.{countBelow}
 use Rattle.bitset.specs.BelowLaws.{countBelow-more, countBelow-mono}
-use Rattle.ledger_state.specs.declared.Standing.{Standing}
-use Rattle.ledger_state.specs.declared.Standing.the-variants.{Held as IsHeld, Waiting as IsWaiting}
+use Rattle.rules.specs.declared.Standing.{Standing}
+use Rattle.rules.specs.declared.Standing.the-variants.{Held as IsHeld, Waiting as IsWaiting}
 use Rattle.ledger_state.specs.declared.Ledger.{Ledger}
 use Rattle.ledger_state.specs.View.{bookOf}
 use Rattle.ledger_state.specs.State.{places, Place, Book, placeAt, standingCount, isHeld, isVoid}
-use Rattle.ledger_state.specs.Verdicts.{verdictOf}
 use Rattle.ledger_state.specs.Stands.{ident, noUpdate, updateAt, Stands}
 use Rattle.ledger_state.specs.FindLaws.{stored-at, find-right}
 use Rattle.ledger_state.specs.TakeLaws.{stands-sound}
@@ -202,7 +200,7 @@ module _ (l : Ledger) (s : List ℕ) (us : List Update) (stands : Stands (bookOf
   before = bookOf l
 
   pub written-taken : {x : OfferValues} {r : Ledger} {s′ : List ℕ} → OfferRow l s (take n o′) x r s′
-      → (h v : ℕ) × (x ≡ takenAs held h v) × (1 ≤ h)
+      → (h v : ℕ) × (x ≡ takenAs IsHeld h v) × (1 ≤ h)
   written-taken (not-fit e) = absurd (true-false (stands-sound before s us stands) e)
   written-taken (malformed m e d) =
       absurd (refused-update (sym d ∙ written-decodes before s us stands a k t i named o wrote))
@@ -216,6 +214,6 @@ module _ (l : Ledger) (s : List ℕ) (us : List Update) (stands : Stands (bookOf
       (same-update before s us stands a k t i named o wrote d) (took .settles us stands) in (
         standingCount isHeld after - standingCount isHeld before,
         standingCount isVoid after - standingCount isVoid before,
-        ap (λ (w : Standing). takenAs (verdictOf w) (standingCount isHeld after - standingCount isHeld before) (standingCount isVoid after - standingCount isVoid before)) v,
+        ap (λ (w : Standing). takenAs w (standingCount isHeld after - standingCount isHeld before) (standingCount isVoid after - standingCount isVoid before)) v,
         omega (arith, more-held before after (took .used-next) (took .old-settled) v),
       )

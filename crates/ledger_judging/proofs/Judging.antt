@@ -21,8 +21,8 @@ use Rattle.rules.specs.Settle.{isAdd, isInsert}
 use Rattle.update_fields.specs.Fields.{testOf}
 use Rattle.bitset.specs.Bits.{has, including, join}
 use Rattle.ledger_judging.specs.declared.Gathered.{Gathered}
-use Rattle.ledger_state.specs.declared.Standing.{Standing}
-use Rattle.ledger_state.specs.declared.Standing.the-variants.{Held, Waiting, Void}
+use Rattle.rules.specs.declared.Standing.{Standing}
+use Rattle.rules.specs.declared.Standing.the-variants.{Held, Waiting, Void}
 use Rattle.ledger_judging.specs.declared.Judgement.the-variants.{Holds, Fails, Waits}
 use Rattle.ledger_state.specs.State.{Place, Book, placeAt, storedAt, findIn}
 use Rattle.ledger_judging.specs.Antichain.{antichainAt}

@@ -20,7 +20,7 @@ use Rattle.rules.specs.CausalLaws.{beforeOrAfter→}
 use Rattle.bitset.specs.Below.{countBelow}
 use Rattle.bitset.specs.BelowLaws.{allBelow→, allBelow←}
 use Rattle.bitset.specs.Bits.{has}
-use Rattle.ledger_state.specs.declared.Standing.the-variants.{Held as IsHeld}
+use Rattle.rules.specs.declared.Standing.the-variants.{Held as IsHeld}
 use Rattle.ledger_state.specs.State.{Book, placeAt}
 use Rattle.ledger_state.specs.PlaceOrder.{orderAt}
 use Rattle.ledger_state.specs.PlaceOrderLaws.{order-at-exactly}

@@ -21,8 +21,8 @@ use Rattle.bitset.specs.Below.{countBelow}
 use Rattle.bitset.specs.BelowLaws.{countBelow-cong, countBelow-with}
 use Rattle.bitset.specs.Bits.{has, including, within}
 use Rattle.bitset.specs.BitsLaws.{has-none, has-including, has-join, within-none, within-including, within-join}
-use Rattle.ledger_state.specs.declared.Standing.{Standing}
-use Rattle.ledger_state.specs.declared.Standing.the-variants.{Held, Waiting, Void}
+use Rattle.rules.specs.declared.Standing.{Standing}
+use Rattle.rules.specs.declared.Standing.the-variants.{Held, Waiting, Void}
 use Rattle.ledger_judging.specs.declared.Gathered.{Gathered}
 use Rattle.ledger_state.specs.State.{Book, placeAt, findIn, isHeld, isWaiting, isVoid}
 use Rattle.ledger_judging.specs.Judge.{nothingGathered, gatherBy, gatherAt, gather, allHeld}

@@ -26,7 +26,7 @@ use Rattle.rules.specs.LeastSets.{ancestor-stored, ancestor-cases}
 use Rattle.rules.specs.SettlingTable.{isAdd→, →isAdd, isInsert→, →isInsert}
 use Rattle.bitset.specs.Bits.{has, join}
 use Rattle.bitset.specs.BitsLaws.{has-join}
-use Rattle.ledger_state.specs.declared.Standing.the-variants.{Held as IsHeld, Void as IsVoid}
+use Rattle.rules.specs.declared.Standing.the-variants.{Held as IsHeld, Void as IsVoid}
 use Rattle.ledger_judging.specs.declared.Gathered.{Gathered}
 use Rattle.ledger_judging.specs.declared.Judgement.{Judgement}
 use Rattle.ledger_judging.specs.declared.Judgement.the-variants.{Holds as Judged-holds, Fails, Waits}

@@ -16,8 +16,8 @@ use Rattle.update_format.specs.Laws.{decode-sound, accepted}
 use Rattle.bitset.specs.Below.{countBelow}
 use Rattle.bitset.specs.BelowLaws.{countBelow-cong, countBelow-more}
 use Rattle.bitset.specs.BitsLaws.{within-more, within-none}
-use Rattle.ledger_state.specs.declared.Standing.{Standing}
-use Rattle.ledger_state.specs.declared.Standing.the-variants.{Waiting}
+use Rattle.rules.specs.declared.Standing.{Standing}
+use Rattle.rules.specs.declared.Standing.the-variants.{Waiting}
 use Rattle.bytes_copy.specs.Overwritten.{overwritten}
 use Rattle.ledger_state.specs.State.{places, Place, Book, placeAt, withTaken, findIn, isHeld, isVoid, standingCount}
 use Rattle.ledger_state.specs.Row1.{sound}

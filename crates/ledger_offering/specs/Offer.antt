@@ -9,13 +9,12 @@ use Rattle.sha256_fips180.specs.Fips180.{SHA-256}
 use Rattle.update_format.specs.Update.{Id, Update, maxLength}
 use Rattle.update_format.specs.Decode.{refused, update, decode}
 use Rattle.ledger_state.specs.declared.Ledger.{Ledger}
-use Rattle.ledger_state.specs.declared.Standing.the-variants.{Waiting}
+use Rattle.rules.specs.declared.Standing.the-variants.{Waiting}
 use Rattle.bytes_copy.specs.Overwritten.{overwritten}
 use Rattle.ledger_state.specs.State.{places, Book, placeAt, findIn, isHeld, isVoid, standingCount}
 use Rattle.ledger_state.specs.View.{bookOf}
 use Rattle.ledger_state.specs.Row1.{sound}
 use Rattle.ledger_state.specs.Stands.{Stands}
-use Rattle.ledger_state.specs.Verdicts.{verdictOf}
 use Rattle.ledger_refusals.specs.Numbers.{row1Number, row10Number}
 use Rattle.ledger_offering.specs.declared.Answer.{Answer}
 use Rattle.ledger_offering.specs.declared.Offered.{Offered}
@@ -64,7 +63,7 @@ pub data OfferRow (l : Ledger) (s b : List ℕ) : OfferValues → Ledger → Lis
   malformed : (n : ℕ) → sound (bookOf l) s ≡ true → decode b ≡ refused n → OfferRow l s b (refusedAs n) l s
   -- "a known id gets its standing before 10"; "a known update changes nothing"
   known : (u : Update) (k : ℕ) → sound (bookOf l) s ≡ true → decode b ≡ update u → findIn (bookOf l) (SHA-256 b) ≡ some k
-      → OfferRow l s b (knownAs (verdictOf (placeAt (bookOf l) k .standing))) l s
+      → OfferRow l s b (knownAs (placeAt (bookOf l) k .standing)) l s
   -- row 10
   full : (u : Update) → sound (bookOf l) s ≡ true → decode b ≡ update u → findIn (bookOf l) (SHA-256 b) ≡ none → bookOf l .used ≡ places
       → OfferRow l s b (refusedAs row10Number) l s
@@ -73,7 +72,7 @@ pub data OfferRow (l : Ledger) (s b : List ℕ) : OfferValues → Ledger → Lis
   taken : (u : Update) (r : Ledger) → sound (bookOf l) s ≡ true → decode b ≡ update u → findIn (bookOf l) (SHA-256 b) ≡ none → bookOf l .used < places
       → Took (bookOf l) s b u (bookOf r) (overwritten s (maxLength * bookOf l .used) b)
       → OfferRow l s b
-      (takenAs (verdictOf (placeAt (bookOf r) (bookOf l .used) .standing)) (standingCount isHeld (bookOf r) - standingCount isHeld (bookOf l))
+      (takenAs (placeAt (bookOf r) (bookOf l .used) .standing) (standingCount isHeld (bookOf r) - standingCount isHeld (bookOf l))
       (standingCount isVoid (bookOf r) - standingCount isVoid (bookOf l)))
       r
       (overwritten s (maxLength * bookOf l .used) b)

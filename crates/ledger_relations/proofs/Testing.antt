@@ -12,7 +12,7 @@ use Rattle.rules.specs.Settle.{isInsert}
 use Rattle.bitset.specs.Below.{anyBelow}
 use Rattle.bitset.specs.BelowLaws.{anyBelow←}
 use Rattle.bitset.specs.Bits.{count}
-use Rattle.ledger_state.specs.declared.Standing.the-variants.{Held, Waiting, Void}
+use Rattle.rules.specs.declared.Standing.the-variants.{Held, Waiting, Void}
 use Rattle.ledger_state.specs.State.{Place, Book, placeAt, isHeld}
 use Rattle.ledger_state.specs.PlaceOrder.{placeOrder}
 use Rattle.ledger_state.specs.Number.{hasStanding}

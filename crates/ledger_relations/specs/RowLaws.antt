@@ -18,7 +18,7 @@ use Rattle.bytes_order.specs.SortLaws.{Ascending→ascending, ascending→Ascen
 use Rattle.update_format.specs.Update.{Id, Operation, Update}
 use Rattle.rules.specs.Standing.{Ancestor, Held, Void}
 use Rattle.rules.specs.CausalOrder.{isBefore, isApart}
-use Rattle.rules.specs.Settle.{Verdict, held, waiting, void, Row, Table, isHeld, isWaiting, isVoid, heldIn, heldRow, orderIn, settledTable, covered, forkedBy, forkedRow, faultRow}
+use Rattle.rules.specs.Settle.{Row, Table, isHeld, isWaiting, isVoid, heldIn, heldRow, orderIn, settledTable, covered, forkedBy, forkedRow, faultRow}
 use Rattle.rules.specs.Decides.{Decides}
 use Rattle.rules.specs.LeastSets.{ancestor-stored, held-not-void}
 use Rattle.rules.specs.SettlingTable.{isHeld→, held-in, all-held}
@@ -27,13 +27,12 @@ use Rattle.rules.specs.Settling.{settled-ascending, settled-decides}
 use Rattle.bitset.specs.Below.{anyBelow, upTo}
 use Rattle.bitset.specs.BelowLaws.{anyBelow→, anyBelow←, upTo-∈, ∈-upTo}
 use Rattle.bitset.specs.Bits.{has}
-use Rattle.ledger_state.specs.declared.Standing.{Standing}
-use Rattle.ledger_state.specs.declared.Standing.the-variants.{Held as IsHeld, Waiting as IsWaiting, Void as IsVoid}
-use Rattle.ledger_state.specs.State.{Book, placeAt, isHeld as placeHeld, isWaiting as placeWaiting, isVoid as placeVoid}
+use Rattle.rules.specs.declared.Standing.{Standing}
+use Rattle.rules.specs.declared.Standing.the-variants.{Held as IsHeld, Waiting as IsWaiting, Void as IsVoid}
+use Rattle.ledger_state.specs.State.{Book, placeAt}
 use Rattle.update_fields.specs.Fields.{testOf}
 use Rattle.ledger_state.specs.PlaceOrder.{orderAt}
 use Rattle.ledger_state.specs.Stands.{ident, noUpdate, updateAt, Stands}
-use Rattle.ledger_state.specs.Verdicts.{verdictOf}
 use Rattle.ledger_state.specs.StandingLaws.{isHeld→ as isHeld→at}
 use Rattle.ledger_judging.specs.Judge.{readyAt}
 use Rattle.ledger_judging.specs.JudgeLaws.{ready-at→, →ready-at}
@@ -42,7 +41,7 @@ use Rattle.ledger_relations.specs.PlaceLaws.{from-used, to-used, place-i
 
 -- the row of an id
 noRow : Row
-noRow = record { id = []; update = noUpdate; verdict = waiting; above = [] }
+noRow = record { id = []; update = noUpdate; verdict = IsWaiting; above = [] }
 
 rowIn : Table → Id → Row
 rowIn [] i = noRow
@@ -134,7 +133,7 @@ module _ {l : Book} {s : List ℕ} {us : List Update} (stands : Stands l s us) w
       (λ e. let f = anyBelow→ (l .used) p′ e in let k = from-used stands (f .1) in ∈→any p (found k .0) (h (f .0) k ∙ f .2))
 
   -- the verdict of a row is the standing of its place
-  verdict-agrees : {k : ℕ} → k < length us → rowAt us k .verdict ≡ verdictOf (placeAt l k .standing)
+  verdict-agrees : {k : ℕ} → k < length us → rowAt us k .verdict ≡ placeAt l k .standing
   verdict-agrees {k} h = step (rowAt us k .verdict) refl (placeAt l k .standing) refl
     where
       r : Row
@@ -146,38 +145,28 @@ module _ {l : Book} {s : List ℕ} {us : List Update} (stands : Stands l s us) w
       e : r .update ≡ updateAt us k
       e = found h .1
 
-      step : (v : Verdict) → r .verdict ≡ v → (t : Standing) → placeAt l k .standing ≡ t → v ≡ verdictOf t
-      step held p IsHeld q = refl
-      step held p IsWaiting q = absurd (stands .settled .waiting-right k h q .not-held (subst (Held ident us) e (decides .held-right r m p)))
-      step held p IsVoid q = absurd (held-not-void ident us (decides .held-right r m p) (subst (Void ident us) (sym e) (stands .truthful .void-right k h q)))
-      step waiting p IsHeld q = absurd (decides .waiting-right r m p .not-held (subst (Held ident us) (sym e) (stands .truthful .held-right k h q)))
-      step waiting p IsWaiting q = refl
-      step waiting p IsVoid q = absurd (decides .waiting-right r m p .not-void (subst (Void ident us) (sym e) (stands .truthful .void-right k h q)))
-      step void p IsHeld q = absurd (held-not-void ident us (stands .truthful .held-right k h q) (subst (Void ident us) e (decides .void-right r m p)))
-      step void p IsWaiting q = absurd (stands .settled .waiting-right k h q .not-void (subst (Void ident us) e (decides .void-right r m p)))
-      step void p IsVoid q = refl
-
-  -- so are tests of the two that agree
-  test-agrees : (p : Verdict → Bool) (q : Standing → Bool) → p held ≡ q IsHeld → p waiting ≡ q IsWaiting → p void ≡ q IsVoid
-      → (k : ℕ) → k < length us → p (rowAt us k .verdict) ≡ q (placeAt l k .standing)
-  test-agrees p q e f g k h = ap p (verdict-agrees h) ∙ step (placeAt l k .standing)
-    where
-      step : (t : Standing) → p (verdictOf t) ≡ q t
-      step IsHeld = e
-      step IsWaiting = f
-      step IsVoid = g
+      step : (v : Standing) → r .verdict ≡ v → (t : Standing) → placeAt l k .standing ≡ t → v ≡ t
+      step IsHeld p IsHeld q = refl
+      step IsHeld p IsWaiting q = absurd (stands .settled .waiting-right k h q .not-held (subst (Held ident us) e (decides .held-right r m p)))
+      step IsHeld p IsVoid q = absurd (held-not-void ident us (decides .held-right r m p) (subst (Void ident us) (sym e) (stands .truthful .void-right k h q)))
+      step IsWaiting p IsHeld q = absurd (decides .waiting-right r m p .not-held (subst (Held ident us) (sym e) (stands .truthful .held-right k h q)))
+      step IsWaiting p IsWaiting q = refl
+      step IsWaiting p IsVoid q = absurd (decides .waiting-right r m p .not-void (subst (Void ident us) (sym e) (stands .truthful .void-right k h q)))
+      step IsVoid p IsHeld q = absurd (held-not-void ident us (stands .truthful .held-right k h q) (subst (Void ident us) e (decides .void-right r m p)))
+      step IsVoid p IsWaiting q = absurd (stands .settled .waiting-right k h q .not-void (subst (Void ident us) e (decides .void-right r m p)))
+      step IsVoid p IsVoid q = refl
 
   pub held-agrees : (k : ℕ) → k < length us → heldRow (rowAt us k) ≡ heldAt l s k
-  unfolding heldRow heldAt isHeld placeHeld
-  held-agrees = test-agrees isHeld placeHeld refl refl refl
+  unfolding heldRow heldAt
+  held-agrees k h = ap isHeld (verdict-agrees h)
 
   pub waiting-agrees : (k : ℕ) → k < length us → isWaiting (rowAt us k .verdict) ≡ waitingAt l s k
-  unfolding waitingAt isWaiting placeWaiting
-  waiting-agrees = test-agrees isWaiting placeWaiting refl refl refl
+  unfolding waitingAt
+  waiting-agrees k h = ap isWaiting (verdict-agrees h)
 
   pub void-agrees : (k : ℕ) → k < length us → isVoid (rowAt us k .verdict) ≡ voidAt l s k
-  unfolding voidAt isVoid placeVoid
-  void-agrees = test-agrees isVoid placeVoid refl refl refl
+  unfolding voidAt
+  void-agrees k h = ap isVoid (verdict-agrees h)
 
   -- the ids above a held row are those of the places in its word
   pub above-agrees : {j k : ℕ} → j < length us → k < length us → heldAt l s k ≡ true → member (rowAt us j .id) (rowAt us k .above) ≡ has (placeAt l k .ancestors) j
@@ -199,7 +188,7 @@ module _ {l : Book} {s : List ℕ} {us : List Update} (stands : Stands l s us) w
       m : q ∈ T
       m = found h .0
 
-      v : q .verdict ≡ held
+      v : q .verdict ≡ IsHeld
       v = isHeld→ (q .verdict) (held-agrees k h ∙ e)
 
   pub author-agrees : {k : ℕ} → k < length us → rowAt us k .update .author ≡ authorAt l s k
@@ -251,7 +240,7 @@ module _ {l : Book} {s : List ℕ} {us : List Update} (stands : Stands l s us) w
       (f .0, f .1, sym (row-id (f .1) ∙ place-id stands (f .1)) ∙ ap (λ (q : Row). q .id) (f .2) ∙ r .2, isHeld→at (placeAt l (f .0) .standing) v)))
       (λ e. ∈→all (heldIn T) (rowAt us k .update .preds) (λ i m.
       let r = ready-at→ l s us (stands .holds) k h e i (subst (λ (u : Update). i ∈ u .preds) (row-update h) m) in
-      held-in (found (r .1) .0) (row-id (r .1) ∙ place-id stands (r .1) ∙ r .2) (verdict-agrees (r .1) ∙ ap verdictOf (r .3))))
+      held-in (found (r .1) .0) (row-id (r .1) ∙ place-id stands (r .1) ∙ r .2) (verdict-agrees (r .1) ∙ (r .3))))
 
   pub fault-agrees : (k : ℕ) → k < length us → faultRow (settledTable ident us) (rowAt us k) ≡ faultAt l s k
   unfolding faultRow faultAt

@@ -12,8 +12,8 @@ use lib.ListN.{length, getD, take, set, length-set, replicate, length-replicate}
 use lib.Seq.{take-suc-set, getD-set-same, getD-set-other}
 use Rattle.bytes_order.specs.BoolLaws.{bool-cases, true-false}
 use Rattle.bitset.specs.BelowLaws.{countBelow-le}
-use Rattle.ledger_state.specs.declared.Standing.{Standing}
-use Rattle.ledger_state.specs.declared.Standing.the-variants.{Held as IsHeld, Waiting as IsWaiting, Void as IsVoid}
+use Rattle.rules.specs.declared.Standing.{Standing}
+use Rattle.rules.specs.declared.Standing.the-variants.{Held as IsHeld, Waiting as IsWaiting, Void as IsVoid}
 use Rattle.ledger_judging.specs.declared.Judgement.the-variants.{Holds as Judged-holds, Fails, Waits}
 use Rattle.ledger_state.specs.State.{places, Book, placeAt, withStanding, isWaiting, standingCount}
 use Rattle.ledger_state.specs.View.{bookOf}

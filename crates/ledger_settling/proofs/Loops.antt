@@ -9,7 +9,7 @@ use lib.ListN.{length, getD, take}
 use lib.Seq.{length-take-le, getD-take}
 use Rattle.update_format.specs.Update.{Id, maxLength}
 use Rattle.update_format.specs.Decode.{slice, decode}
-use Rattle.ledger_state.specs.declared.Standing.the-variants.{Held as IsHeld, Waiting as IsWaiting, Void as IsVoid}
+use Rattle.rules.specs.declared.Standing.the-variants.{Held as IsHeld, Waiting as IsWaiting, Void as IsVoid}
 use Rattle.ledger_state.specs.State.{Place, Book, placeAt, isWaiting}
 use Rattle.ledger_state.specs.View.{bookOf}
 use Rattle.ledger_state.specs.BookLaws.{replaced-other}

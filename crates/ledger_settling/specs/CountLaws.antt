@@ -5,8 +5,8 @@ use native.Mathlib.Omega.{arith}
 use mathlib.Core.List.{List}
 use mathlib.Core.Bool.{Bool, true, false}
 use Rattle.bitset.specs.BelowLaws.{countBelow-one, countBelow-cong}
-use Rattle.ledger_state.specs.declared.Standing.{Standing}
-use Rattle.ledger_state.specs.declared.Standing.the-variants.{Held as IsHeld, Void as IsVoid}
+use Rattle.rules.specs.declared.Standing.{Standing}
+use Rattle.rules.specs.declared.Standing.the-variants.{Held as IsHeld, Void as IsVoid}
 use Rattle.ledger_state.specs.State.{Place, Book, placeAt, withStanding, isHeld, isVoid, standingCount}
 use Rattle.ledger_state.specs.BookLaws.{replaced-same, replaced-other}
 use Rattle.ledger_settling.specs.Settle.{SettleSteps, start, held, void}

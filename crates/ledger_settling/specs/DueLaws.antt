@@ -12,8 +12,8 @@ use Rattle.update_format.specs.Update.{Id, maxLength}
 use Rattle.update_format.specs.Decode.{decode, slice}
 use Rattle.bitset.specs.Below.{firstBelow}
 use Rattle.bitset.specs.BelowLaws.{firstBelow-some→}
-use Rattle.ledger_state.specs.declared.Standing.{Standing}
-use Rattle.ledger_state.specs.declared.Standing.the-variants.{Waiting}
+use Rattle.rules.specs.declared.Standing.{Standing}
+use Rattle.rules.specs.declared.Standing.the-variants.{Waiting}
 use Rattle.ledger_judging.specs.declared.Gathered.{Gathered}
 use Rattle.ledger_judging.specs.declared.Judgement.the-variants.{Waits}
 use Rattle.ledger_state.specs.State.{Place, Book, placeAt, storedAt, withStanding, isWaiting, findIn}

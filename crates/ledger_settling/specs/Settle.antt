@@ -7,8 +7,8 @@ use mathlib.Core.Bool.{Bool, true, false}
 use Rattle.bytes_order.specs.Member.{member}
 use Rattle.update_format.specs.Update.{Id}
 use Rattle.update_format.specs.Decode.{Decoded, refused, update, decode}
-use Rattle.ledger_state.specs.declared.Standing.{Standing}
-use Rattle.ledger_state.specs.declared.Standing.the-variants.{Held, Waiting, Void}
+use Rattle.rules.specs.declared.Standing.{Standing}
+use Rattle.rules.specs.declared.Standing.the-variants.{Held, Waiting, Void}
 use Rattle.ledger_judging.specs.declared.Judgement.{Judgement}
 use Rattle.ledger_judging.specs.declared.Judgement.the-variants.{Holds, Fails, Waits}
 use Rattle.ledger_state.specs.State.{Book, placeAt, storedAt, withStanding}

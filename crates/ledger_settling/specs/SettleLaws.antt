@@ -10,18 +10,17 @@ use Rattle.bytes_order.specs.MemberLaws.{getD-∈}
 use Rattle.update_format.specs.Update.{Update, maxLength}
 use Rattle.update_format.specs.Decode.{slice}
 use Rattle.rules.specs.Standing.{Ancestor, Known, Held, Void}
-use Rattle.rules.specs.Settle.{waiting}
 use Rattle.rules.specs.LeastSets.{SoundVerdicts, Stable, settled-waiting}
 use Rattle.bitset.specs.Bits.{has, within}
 use Rattle.bitset.specs.BitsLaws.{within-none}
-use Rattle.ledger_state.specs.declared.Standing.{Standing}
-use Rattle.ledger_state.specs.declared.Standing.the-variants.{Held as IsHeld, Waiting as IsWaiting, Void as IsVoid}
+use Rattle.rules.specs.declared.Standing.{Standing}
+use Rattle.rules.specs.declared.Standing.the-variants.{Held as IsHeld, Waiting as IsWaiting, Void as IsVoid}
 use Rattle.ledger_judging.specs.declared.Judgement.the-variants.{Holds as Judged-holds, Fails, Waits}
 use Rattle.ledger_state.specs.State.{Place, Book, placeAt, withStanding}
 use Rattle.ledger_state.specs.StandingLaws.{held≢void}
 use Rattle.ledger_state.specs.Row1.{sound}
 use Rattle.ledger_state.specs.Row1Laws.{SoundPlace, sound→, sound←, holds-sound}
-use Rattle.ledger_state.specs.Verdicts.{verdictOf, verdict-held, verdict-waiting, verdict-void, verdict, verdict-at, Placed, placed}
+use Rattle.ledger_state.specs.Verdicts.{verdict, verdict-at, Placed, placed}
 use Rattle.ledger_judging.specs.Judge.{judgeAt}
 use Rattle.ledger_state.specs.Stands.{ident, noUpdate, updateAt, Holds, Truthful, Settled, Stands}
 use Rattle.ledger_state.specs.BookLaws.{replaced-cases}
@@ -183,14 +182,14 @@ module _ (l : Book) (s : List ℕ) (us : List Update) (h : Holds l s us) (t : Tr
       record {
         held-sound = λ u m e.
             let p = placed l s us h m in
-            subst (Held ident us) (p .is) (t .held-right (p .place) (p .inside) (verdict-held (placeAt l (p .place) .standing) (p .says ∙ e)));
+            subst (Held ident us) (p .is) (t .held-right (p .place) (p .inside) ((p .says ∙ e)));
         void-sound = λ u m e.
             let p = placed l s us h m in
-            subst (Void ident us) (p .is) (t .void-right (p .place) (p .inside) (verdict-void (placeAt l (p .place) .standing) (p .says ∙ e)));
+            subst (Void ident us) (p .is) (t .void-right (p .place) (p .inside) ((p .says ∙ e)));
       }
 
-  judged-waits : {u : Update} (p : Placed l s us h u) → verdict l u ≡ waiting → judgeAt l s (p .place) ≡ Waits
-  judged-waits p e = still (p .place) (p .inside) (verdict-waiting (placeAt l (p .place) .standing) (p .says ∙ e))
+  judged-waits : {u : Update} (p : Placed l s us h u) → verdict l u ≡ IsWaiting → judgeAt l s (p .place) ≡ Waits
+  judged-waits p e = still (p .place) (p .inside) ((p .says ∙ e))
 
   ledger-stable : Stable ident us (verdict l)
   ledger-stable =
@@ -200,12 +199,11 @@ module _ (l : Book) (s : List ℕ) (us : List Update) (h : Holds l s us) (t : Tr
             let q = placed l s us h n in
             judged-no-void l s us h t (p .place) (q .place) (p .inside) (q .inside) (judged-waits p e)
             (subst₂ (λ (x y : Update). ident x ∈ y .preds) (sym (q .is)) (sym (p .is)) i)
-            (verdict-void (placeAt l (q .place) .standing) (q .says ∙ f));
+            ((q .says ∙ f));
         not-ready = λ u m e k all.
             let p = placed l s us h m in
             judged-not-ready l s us h t (p .place) (p .inside) (judged-waits p e) (subst (Known ident us) (sym (p .is)) k)
             (λ j g i.
-            verdict-held (placeAt l j .standing)
             (sym (verdict-at l s us h j g)
             ∙ all (updateAt us j) (getD-∈ us j noUpdate g) (subst (λ (y : Update). ident (updateAt us j) ∈ y .preds) (p .is) i)));
       }
@@ -215,7 +213,7 @@ module _ (l : Book) (s : List ℕ) (us : List Update) (h : Holds l s us) (t : Tr
       record {
         waiting-right = λ k g q.
             settled-waiting ident us (verdict l) ledger-sound ledger-stable (updateAt us k) (getD-∈ us k noUpdate g)
-            (verdict-at l s us h k g ∙ ap verdictOf q);
+            (verdict-at l s us h k g ∙ q);
       }
 
 -- of any ledger

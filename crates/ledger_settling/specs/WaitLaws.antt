@@ -14,8 +14,8 @@ use Rattle.update_format.specs.Update.{Id, Operation, Update, maxLength}
 use Rattle.update_format.specs.Decode.{Decoded, refused, update, decode, slice}
 use Rattle.bitset.specs.Bits.{including, join}
 use Rattle.bitset.specs.BelowLaws.{firstBelow-some→, firstBelow-some←, firstBelow-none→}
-use Rattle.ledger_state.specs.declared.Standing.{Standing}
-use Rattle.ledger_state.specs.declared.Standing.the-variants.{Held, Waiting, Void}
+use Rattle.rules.specs.declared.Standing.{Standing}
+use Rattle.rules.specs.declared.Standing.the-variants.{Held, Waiting, Void}
 use Rattle.ledger_judging.specs.declared.Gathered.{Gathered}
 use Rattle.ledger_judging.specs.declared.Judgement.{Judgement}
 use Rattle.ledger_judging.specs.declared.Judgement.the-variants.{Holds as Judged-holds, Fails, Waits}

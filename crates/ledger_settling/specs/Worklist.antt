@@ -9,7 +9,7 @@ use mathlib.Core.Bool.{true}
 use lib.ListN.{length, getD, take, drop}
 use Rattle.bytes_order.specs.Member.{_∈_}
 use Rattle.update_format.specs.Update.{Id}
-use Rattle.ledger_state.specs.declared.Standing.the-variants.{Held, Waiting, Void}
+use Rattle.rules.specs.declared.Standing.the-variants.{Held, Waiting, Void}
 use Rattle.ledger_judging.specs.declared.Judgement.the-variants.{Holds, Fails, Waits}
 use Rattle.ledger_state.specs.State.{places, Book, placeAt, withStanding, isWaiting, standingCount}
 use Rattle.ledger_state.specs.View.{bookOf}

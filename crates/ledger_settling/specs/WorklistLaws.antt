@@ -13,8 +13,8 @@ use Rattle.bytes_order.specs.BoolLaws.{true-false}
 use Rattle.bytes_order.specs.Member.{_∈_}
 use Rattle.bytes_order.specs.MemberLaws.{∈-append-left, ∈-append-right, ∈-cases}
 use Rattle.update_format.specs.Update.{Id}
-use Rattle.ledger_state.specs.declared.Standing.{Standing}
-use Rattle.ledger_state.specs.declared.Standing.the-variants.{Held as IsHeld, Waiting as IsWaiting, Void as IsVoid}
+use Rattle.rules.specs.declared.Standing.{Standing}
+use Rattle.rules.specs.declared.Standing.the-variants.{Held as IsHeld, Waiting as IsWaiting, Void as IsVoid}
 use Rattle.ledger_judging.specs.declared.Judgement.the-variants.{Waits}
 use Rattle.ledger_state.specs.State.{Book, placeAt, withStanding, isWaiting}
 use Rattle.ledger_judging.specs.Judge.{judgeAt}

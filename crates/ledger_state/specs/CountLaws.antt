@@ -10,34 +10,34 @@ use Rattle.bytes_order.specs.Distinct.{Distinct}
 use Rattle.bytes_order.specs.DistinctLaws.{distinct-keep, distinct-map, distinct-same-length}
 use Rattle.update_format.specs.Update.{Update}
 use Rattle.rules.specs.Standing.{Held, Void, Waiting}
-use Rattle.rules.specs.Settle.{Verdict, held, waiting, void, Row, Table, isHeld as saysHeld, isVoid as saysVoid, settledTable}
+use Rattle.rules.specs.Settle.{Row, Table, settledTable}
 use Rattle.rules.specs.Decides.{Decides}
 use Rattle.rules.specs.LeastSets.{held-not-void}
 use Rattle.rules.specs.Settling.{settled-decides}
 use Rattle.bitset.specs.Below.{countBelow}
 use Rattle.bitset.specs.BelowLaws.{countBelow-cong, count-keep}
-use Rattle.ledger_state.specs.declared.Standing.{Standing}
-use Rattle.ledger_state.specs.declared.Standing.the-variants.{Held as IsHeld, Waiting as IsWaiting, Void as IsVoid}
+use Rattle.rules.specs.declared.Standing.{Standing}
+use Rattle.rules.specs.declared.Standing.the-variants.{Held as IsHeld, Waiting as IsWaiting, Void as IsVoid}
 use Rattle.ledger_state.specs.State.{Book, placeAt, isHeld, isVoid, standingCount}
 use Rattle.ledger_state.specs.Stands.{ident, noUpdate, updateAt, Stands}
-use Rattle.ledger_state.specs.Verdicts.{verdictOf, verdict, verdict-at, placed}
+use Rattle.ledger_state.specs.Verdicts.{verdict, verdict-at, placed}
 
 -- what a verdict on an update of the set means
-abbrev Means : List Update → Verdict → Update → Type 0
-Means us held u = Held ident us u
-Means us waiting u = Waiting ident us u
-Means us void u = Void ident us u
+abbrev Means : List Update → Standing → Update → Type 0
+Means us IsHeld u = Held ident us u
+Means us IsWaiting u = Waiting ident us u
+Means us IsVoid u = Void ident us u
 
-means-one : (us : List Update) (u : Update) (x y : Verdict) → Means us x u → Means us y u → x ≡ y
-means-one us u held held a b = refl
-means-one us u held waiting a b = absurd (b .not-held a)
-means-one us u held void a b = absurd (held-not-void ident us a b)
-means-one us u waiting held a b = absurd (a .not-held b)
-means-one us u waiting waiting a b = refl
-means-one us u waiting void a b = absurd (a .not-void b)
-means-one us u void held a b = absurd (held-not-void ident us b a)
-means-one us u void waiting a b = absurd (b .not-void a)
-means-one us u void void a b = refl
+means-one : (us : List Update) (u : Update) (x y : Standing) → Means us x u → Means us y u → x ≡ y
+means-one us u IsHeld IsHeld a b = refl
+means-one us u IsHeld IsWaiting a b = absurd (b .not-held a)
+means-one us u IsHeld IsVoid a b = absurd (held-not-void ident us a b)
+means-one us u IsWaiting IsHeld a b = absurd (a .not-held b)
+means-one us u IsWaiting IsWaiting a b = refl
+means-one us u IsWaiting IsVoid a b = absurd (a .not-void b)
+means-one us u IsVoid IsHeld a b = absurd (held-not-void ident us b a)
+means-one us u IsVoid IsWaiting a b = absurd (b .not-void a)
+means-one us u IsVoid IsVoid a b = refl
 
 module _ (l : Book) (s : List ℕ) (us : List Update) (stands : Stands l s us) where
   table : Table
@@ -48,27 +48,27 @@ module _ (l : Book) (s : List ℕ) (us : List Update) (stands : Stands l s us) w
   decides = settled-decides ident us (stands .holds .distinct)
 
   -- what a place and what a row says
-  place-means : (k : ℕ) → k < length us → (v : Standing) → placeAt l k .standing ≡ v → Means us (verdictOf v) (updateAt us k)
+  place-means : (k : ℕ) → k < length us → (v : Standing) → placeAt l k .standing ≡ v → Means us v (updateAt us k)
   place-means k g IsHeld e = stands .truthful .held-right k g e
   place-means k g IsWaiting e = stands .settled .waiting-right k g e
   place-means k g IsVoid e = stands .truthful .void-right k g e
 
-  row-means : (r : Row) → r ∈ table → (x : Verdict) → r .verdict ≡ x → Means us x (r .update)
-  row-means r m held e = decides .held-right r m e
-  row-means r m waiting e = decides .waiting-right r m e
-  row-means r m void e = decides .void-right r m e
+  row-means : (r : Row) → r ∈ table → (x : Standing) → r .verdict ≡ x → Means us x (r .update)
+  row-means r m IsHeld e = decides .held-right r m e
+  row-means r m IsWaiting e = decides .waiting-right r m e
+  row-means r m IsVoid e = decides .void-right r m e
 
   -- they say the same
   row-verdict : (r : Row) → r ∈ table → verdict l (r .update) ≡ r .verdict
   row-verdict r m =
       let p = placed l s us (stands .holds) (decides .of-set r m) in
       sym (p .says)
-      ∙ means-one us (r .update) (verdictOf (placeAt l (p .place) .standing)) (r .verdict)
-      (subst (Means us (verdictOf (placeAt l (p .place) .standing))) (p .is)
+      ∙ means-one us (r .update) (placeAt l (p .place) .standing) (r .verdict)
+      (subst (Means us (placeAt l (p .place) .standing)) (p .is)
       (place-means (p .place) (p .inside) (placeAt l (p .place) .standing) refl))
       (row-means r m (r .verdict) refl)
 
-  module _ (p : Verdict → Bool) where
+  module _ (p : Standing → Bool) where
     abbrev passes : Row → Bool
     passes r = p (r .verdict)
 
@@ -99,28 +99,20 @@ module _ (l : Book) (s : List ℕ) (us : List Update) (stands : Stands l s us) w
         }
 
     -- the places with a verdict, and the rows
-    verdict-count : countBelow (length us) (λ (k : ℕ). p (verdictOf (placeAt l k .standing))) ≡ length (keep passes table)
+    verdict-count : countBelow (length us) (λ (k : ℕ). p (placeAt l k .standing)) ≡ length (keep passes table)
     verdict-count =
-        countBelow-cong (length us) (λ (k : ℕ). p (verdictOf (placeAt l k .standing))) (λ (k : ℕ). passing (updateAt us k))
+        countBelow-cong (length us) (λ (k : ℕ). p (placeAt l k .standing)) (λ (k : ℕ). passing (updateAt us k))
         (λ k g. ap p (sym (verdict-at l s us (stands .holds) k g)))
         ∙ count-keep passing us noUpdate
         ∙ distinct-same-length (distinct-keep passing (stands .holds .distinct)) updates-distinct same-updates
         ∙ length-map (keep passes table) (λ (r : Row). r .update)
 
-    -- .. for a test of standings that agrees
-    standing-count : (q : Standing → Bool) → ((v : Standing) → q v ≡ p (verdictOf v))
-        → standingCount q l ≡ length (keep (λ (r : Row). p (r .verdict)) (settledTable ident us))
+    standing-count : standingCount p l ≡ length (keep (λ (r : Row). p (r .verdict)) (settledTable ident us))
     unfolding standingCount table
-    standing-count q agree =
-        ap (λ (n : ℕ). countBelow n (λ (k : ℕ). q (placeAt l k .standing))) (stands .holds .number)
-        ∙ countBelow-cong (length us) (λ (k : ℕ). q (placeAt l k .standing)) (λ (k : ℕ). p (verdictOf (placeAt l k .standing)))
-        (λ k _. agree (placeAt l k .standing))
-        ∙ verdict-count
+    standing-count = ap (λ (n : ℕ). countBelow n (λ (k : ℕ). p (placeAt l k .standing))) (stands .holds .number) ∙ verdict-count
 
-  pub held-count : standingCount isHeld l ≡ length (keep (λ (r : Row). saysHeld (r .verdict)) (settledTable ident us))
-  unfolding isHeld saysHeld
-  held-count = standing-count saysHeld isHeld (elim [ IsHeld ↦ refl | IsWaiting ↦ refl | IsVoid ↦ refl ])
+  pub held-count : standingCount isHeld l ≡ length (keep (λ (r : Row). isHeld (r .verdict)) (settledTable ident us))
+  held-count = standing-count isHeld
 
-  pub void-count : standingCount isVoid l ≡ length (keep (λ (r : Row). saysVoid (r .verdict)) (settledTable ident us))
-  unfolding isVoid saysVoid
-  void-count = standing-count saysVoid isVoid (elim [ IsHeld ↦ refl | IsWaiting ↦ refl | IsVoid ↦ refl ])
+  pub void-count : standingCount isVoid l ≡ length (keep (λ (r : Row). isVoid (r .verdict)) (settledTable ident us))
+  void-count = standing-count isVoid

@@ -4,7 +4,7 @@ use mathlib.Core.Path.{_≡_}
 use Prim.Native.Nat.{ℕ, _≤_, _<_}
 use Rattle.update_format.specs.Update.{Id}
 use Rattle.ledger_state.specs.declared.Ledger.{Ledger}
-use Rattle.ledger_state.specs.declared.Standing.{Standing}
+use Rattle.rules.specs.declared.Standing.{Standing}
 use Rattle.ledger_state.specs.State.{places, withTaken, withStanding}
 use Rattle.ledger_state.specs.View.{bookOf}
 

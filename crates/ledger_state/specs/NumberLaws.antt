@@ -1,7 +1,7 @@
 -- The comparison of standings by their numbers is the test of each.
 use mathlib.Core.Path.{_≡_, refl}
-use Rattle.ledger_state.specs.declared.Standing.{Standing}
-use Rattle.ledger_state.specs.declared.Standing.the-variants.{Held, Waiting, Void}
+use Rattle.rules.specs.declared.Standing.{Standing}
+use Rattle.rules.specs.declared.Standing.the-variants.{Held, Waiting, Void}
 use Rattle.ledger_state.specs.State.{isHeld, isWaiting, isVoid}
 use Rattle.ledger_state.specs.Number.{hasStanding}
 

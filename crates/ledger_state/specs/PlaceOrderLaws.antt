@@ -14,7 +14,7 @@ use Rattle.rules.specs.declared.CausalOrder.the-variants.{Same, Apart}
 use Rattle.rules.specs.CausalOrder.{OrderExactly, turned, orderBy}
 use Rattle.rules.specs.CausalLaws.{orderBy-turned, tells-exactly}
 use Rattle.bitset.specs.Bits.{has}
-use Rattle.ledger_state.specs.declared.Standing.the-variants.{Held as IsHeld}
+use Rattle.rules.specs.declared.Standing.the-variants.{Held as IsHeld}
 use Rattle.ledger_state.specs.State.{Place, Book, placeAt}
 use Rattle.ledger_state.specs.PlaceOrder.{placeOrder, orderAt}
 use Rattle.ledger_state.specs.Stands.{ident, noUpdate, updateAt, Holds, Truthful}

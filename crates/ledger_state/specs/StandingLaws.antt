@@ -4,8 +4,8 @@ use native.Mathlib.Omega.{arith}
 use mathlib.Core.Path.{_≡_, refl, ap}
 use mathlib.Core.Bool.{true, false, true≢false, false≢true}
 use Rattle.bytes_order.specs.CountLaws.{oneIf}
-use Rattle.ledger_state.specs.declared.Standing.{Standing}
-use Rattle.ledger_state.specs.declared.Standing.the-variants.{Held, Waiting, Void}
+use Rattle.rules.specs.declared.Standing.{Standing}
+use Rattle.rules.specs.declared.Standing.the-variants.{Held, Waiting, Void}
 use Rattle.ledger_state.specs.State.{isHeld, isWaiting, isVoid}
 
 pub held≢waiting : Held ≡ Waiting → ⊥

@@ -10,7 +10,7 @@ use Rattle.bytes_order.specs.Distinct.{Distinct}
 use Rattle.update_format.specs.Update.{Id, Add, Update, encode, Bounded}
 use Rattle.rules.specs.Standing.{Ancestor, Held, Void, Waiting}
 use Rattle.bitset.specs.Bits.{has, within}
-use Rattle.ledger_state.specs.declared.Standing.the-variants.{Held as IsHeld, Waiting as IsWaiting, Void as IsVoid}
+use Rattle.rules.specs.declared.Standing.the-variants.{Held as IsHeld, Waiting as IsWaiting, Void as IsVoid}
 use Rattle.ledger_state.specs.State.{places, storeLength, Book, placeAt, storedAt}
 
 -- "An update's id is its SHA-256."

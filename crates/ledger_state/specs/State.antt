@@ -12,10 +12,12 @@ use Rattle.update_format.specs.Decode.{slice}
 use Rattle.bitset.specs.Below.{countBelow, firstBelow}
 use Rattle.ledger_state.specs.declared.Found.{Found}
 use Rattle.ledger_state.specs.declared.Found.the-variants.{At, Nowhere}
-use Rattle.ledger_state.specs.declared.Standing.{Standing}
-use Rattle.ledger_state.specs.declared.Standing.the-variants.{Held, Waiting, Void}
+use Rattle.rules.specs.declared.Standing.{Standing}
+use Rattle.rules.specs.declared.Standing.the-variants.{Held, Waiting, Void}
 -- "There are 64 places."
 pub use Rattle.rules.specs.Report.{places}
+-- a standing is held, waiting or void
+unfoldable pub use Rattle.rules.specs.Settle.{isHeld, isWaiting, isVoid}
 
 -- "the lent store, which has 34,112 bytes"
 abbrev pub storeLength : ℕ
@@ -70,20 +72,5 @@ foundOf none = Nowhere
 foundOf (some k) = At k
 
 -- how many taken places have a standing
-unfoldable pub isHeld : Standing → Bool
-isHeld Held = true
-isHeld Waiting = false
-isHeld Void = false
-
-unfoldable pub isWaiting : Standing → Bool
-isWaiting Held = false
-isWaiting Waiting = true
-isWaiting Void = false
-
-unfoldable pub isVoid : Standing → Bool
-isVoid Held = false
-isVoid Waiting = false
-isVoid Void = true
-
 unfoldable pub standingCount : (Standing → Bool) → Book → ℕ
 standingCount p l = countBelow (l .used) (λ (k : ℕ). p (placeAt l k .standing))

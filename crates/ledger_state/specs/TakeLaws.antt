@@ -23,7 +23,7 @@ use Rattle.rules.specs.LeastSets.{ancestor-stored}
 use Rattle.rules.specs.Growth.{grow-ancestor, grow-held, grow-void, held-ancestors-stay, added-more, added-cases}
 use Rattle.bitset.specs.Bits.{has, within}
 use Rattle.bitset.specs.BitsLaws.{within→, within-more, within-none}
-use Rattle.ledger_state.specs.declared.Standing.the-variants.{Held as IsHeld, Waiting as IsWaiting, Void as IsVoid}
+use Rattle.rules.specs.declared.Standing.the-variants.{Held as IsHeld, Waiting as IsWaiting, Void as IsVoid}
 use Rattle.ledger_state.specs.State.{places, storeLength, Place, Book, placeAt, withTaken}
 use Rattle.ledger_state.specs.BookLaws.{replaced-same, replaced-other}
 use Rattle.ledger_state.specs.Row1.{sound}

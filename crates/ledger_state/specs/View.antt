@@ -6,7 +6,7 @@ use lib.ListN.{getD, replicate}
 use Rattle.update_format.specs.Update.{idLength}
 use Rattle.ledger_state.specs.declared.Ledger.{Ledger}
 use Rattle.ledger_state.specs.declared.Place.{Place as DeclaredPlace}
-use Rattle.ledger_state.specs.declared.Standing.the-variants.{Held}
+use Rattle.rules.specs.declared.Standing.the-variants.{Held}
 use Rattle.ledger_state.specs.State.{places, Place, Book}
 
 abbrev pub placeOf : DeclaredPlace → Place

@@ -7,6 +7,7 @@ ghost use mathlib.Core.Path.{_≡_};
 ghost use Rattle.ledger_state.specs.View.{freshLedger};
 ghost use Rattle.ledger_state.specs.Methods.{TakesPlace, ChangesStanding};
 use bitset::Set;
+pub use rules::Standing;
 use update_format::Id;
 use update_format::bounds::ID_LENGTH;
 use update_format::bounds::MAX_LENGTH;
@@ -16,13 +17,6 @@ pub const PLACES: usize = 64;
 
 // How many bytes a store has.
 pub const STORE_LENGTH: usize = PLACES * MAX_LENGTH;
-
-// How a stored update stands.
-pub enum Standing {
-    Held,
-    Waiting,
-    Void,
-}
 
 // One place: its update's id, length, ancestors (bit k for place k) and standing. The update's bytes are in the store.
 pub struct Place {

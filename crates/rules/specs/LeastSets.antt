@@ -7,7 +7,7 @@ use mathlib.Core.List.{List}
 use Rattle.bytes_order.specs.Member.{_∈_}
 use Rattle.update_format.specs.Update.{Id, Update}
 use Rattle.rules.specs.Standing.{Ancestor, Known, Held, Void, Waiting}
-use Rattle.rules.specs.Settle.{Verdict, held, waiting, void, isWaiting}
+use Rattle.rules.specs.Settle.{Standing, held, waiting, void, isWaiting}
 
 -- the verdicts differ
 held≢waiting : held ≡ waiting → ⊥
@@ -60,17 +60,17 @@ module _ (ident : Update → Id) (S : List Update) where
   held-not-void (Held.held m k hs f) (Void.broken _ _ _ bad) = bad f
 
   -- what a verdict says of an update, and that an update has only one
-  abbrev pub VerdictSays : Verdict → Update → Type 0
+  abbrev pub VerdictSays : Standing → Update → Type 0
   VerdictSays held u = Held ident S u
   VerdictSays waiting u = Waiting ident S u
   VerdictSays void u = Void ident S u
 
-  pub says-stored : (v : Verdict) (u : Update) → VerdictSays v u → u ∈ S
+  pub says-stored : (v : Standing) (u : Update) → VerdictSays v u → u ∈ S
   says-stored held u h = held-stored h
   says-stored waiting u h = h .stored
   says-stored void u h = void-stored h
 
-  pub one-verdict : (v w : Verdict) (u : Update) → VerdictSays v u → VerdictSays w u → v ≡ w
+  pub one-verdict : (v w : Standing) (u : Update) → VerdictSays v u → VerdictSays w u → v ≡ w
   one-verdict held held u h k = refl
   one-verdict held waiting u h k = absurd (k .not-held h)
   one-verdict held void u h k = absurd (held-not-void h k)
@@ -83,39 +83,39 @@ module _ (ident : Update → Id) (S : List Update) where
 
   -- Any assignment of verdicts to the updates of S that is sound, and that leaves waiting only what the rules do not yet decide from the
   -- verdicts of its predecessors, is right. It says nothing of the order in which verdicts were found.
-  pub record SoundVerdicts (verdict : Update → Verdict) : Type 0 where
+  pub record SoundVerdicts (verdict : Update → Standing) : Type 0 where
     pub held-sound : (u : Update) → u ∈ S → verdict u ≡ held → Held ident S u
     pub void-sound : (u : Update) → u ∈ S → verdict u ≡ void → Void ident S u
 
-  pub record Stable (verdict : Update → Verdict) : Type 0 where
+  pub record Stable (verdict : Update → Standing) : Type 0 where
     pub no-void : (u v : Update) → u ∈ S → v ∈ S → verdict u ≡ waiting → ident v ∈ u .preds → verdict v ≡ void → ⊥
     pub not-ready : (u : Update) → u ∈ S → verdict u ≡ waiting → Known ident S u
         → ((v : Update) → v ∈ S → ident v ∈ u .preds → verdict v ≡ held) → ⊥
 
-  pub settled-held : (verdict : Update → Verdict) → SoundVerdicts verdict → Stable verdict → {u : Update} → Held ident S u → verdict u ≡ held
+  pub settled-held : (verdict : Update → Standing) → SoundVerdicts verdict → Stable verdict → {u : Update} → Held ident S u → verdict u ≡ held
   settled-held verdict sound stable {u} (Held.held m k hs f) =
       step (verdict u) refl (λ v n p. settled-held verdict sound stable (hs v n p))
     where
-      step : (x : Verdict) → verdict u ≡ x → ((v : Update) → v ∈ S → ident v ∈ u .preds → verdict v ≡ held) → verdict u ≡ held
+      step : (x : Standing) → verdict u ≡ x → ((v : Update) → v ∈ S → ident v ∈ u .preds → verdict v ≡ held) → verdict u ≡ held
       step held e below = e
       step waiting e below = absurd (stable .not-ready u m e k below)
       step void e below = absurd (held-not-void (Held.held m k hs f) (sound .void-sound u m e))
 
-  pub settled-void : (verdict : Update → Verdict) → SoundVerdicts verdict → Stable verdict → {u : Update} → Void ident S u → verdict u ≡ void
+  pub settled-void : (verdict : Update → Standing) → SoundVerdicts verdict → Stable verdict → {u : Update} → Void ident S u → verdict u ≡ void
   settled-void verdict sound stable (Void.after {u = u} {v = v} m n p w) = step (verdict u) refl (settled-void verdict sound stable w)
     where
-      step : (x : Verdict) → verdict u ≡ x → verdict v ≡ void → verdict u ≡ void
+      step : (x : Standing) → verdict u ≡ x → verdict v ≡ void → verdict u ≡ void
       step held e below = absurd (held-not-void (sound .held-sound u m e) (Void.after m n p w))
       step waiting e below = absurd (stable .no-void u v m n e p below)
       step void e below = e
   settled-void verdict sound stable (Void.broken {u = u} m k hs bad) = step (verdict u) refl
     where
-      step : (x : Verdict) → verdict u ≡ x → verdict u ≡ void
+      step : (x : Standing) → verdict u ≡ x → verdict u ≡ void
       step held e = absurd (held-not-void (sound .held-sound u m e) (Void.broken m k hs bad))
       step waiting e = absurd (stable .not-ready u m e k (λ v n p. settled-held verdict sound stable (hs v n p)))
       step void e = e
 
-  pub settled-waiting : (verdict : Update → Verdict) → SoundVerdicts verdict → Stable verdict → (u : Update) → u ∈ S → verdict u ≡ waiting → Waiting ident S u
+  pub settled-waiting : (verdict : Update → Standing) → SoundVerdicts verdict → Stable verdict → (u : Update) → u ∈ S → verdict u ≡ waiting → Waiting ident S u
   settled-waiting verdict sound stable u m e =
       record {
         stored = m;

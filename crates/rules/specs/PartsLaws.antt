@@ -17,7 +17,7 @@ use Rattle.rules.specs.Mark.{Mark, markKey}
 use Rattle.rules.specs.ReadOff.{Head, MarkedFor, Present}
 use Rattle.rules.specs.CausalOrder.{OrderExactly, turned}
 use Rattle.rules.specs.Parts.{Parts, Exactly, ReadFrom}
-use Rattle.rules.specs.Settle.{Verdict, held, waiting, void, Row, Table, isHeld, isWaiting, isVoid, heldRow, covered, heads, marks, setEntries, updatesIn, partsIn, partsOf, settledTable, causalOrder}
+use Rattle.rules.specs.Settle.{Standing, held, waiting, void, Row, Table, isHeld, isWaiting, isVoid, heldRow, covered, heads, marks, setEntries, updatesIn, partsIn, partsOf, settledTable, causalOrder}
 use Rattle.rules.specs.Decides.{Decides}
 use Rattle.rules.specs.LeastSets.{VerdictSays}
 use Rattle.rules.specs.CausalLaws.{order-turned}
@@ -56,13 +56,13 @@ module _ {ident : Update → Id} {S : List Update} {T : Table} (distinct : Disti
       }
 
   -- those of a verdict, by its test
-  verdict-exactly : (v : Verdict) (p : Verdict → Bool) → ((w : Verdict) → p w ≡ true → w ≡ v) → p v ≡ true
+  verdict-exactly : (v : Standing) (p : Standing → Bool) → ((w : Standing) → p w ≡ true → w ≡ v) → p v ≡ true
       → Exactly ident (VerdictSays ident S v) (updatesIn (keep (λ (r : Row). p (r .verdict)) T))
   verdict-exactly v p only passes =
       kept-exactly (λ (r : Row). p (r .verdict)) (VerdictSays ident S v)
       (λ r m. let k = keep-∈ (λ (r : Row). p (r .verdict)) T m in row-says distinct decides v r (k .0) (only (r .verdict) (k .1)))
       (λ u h. let f = says-row distinct decides v u h in
-      (f .0, ∈-keep (λ (r : Row). p (r .verdict)) (f .1) (subst (λ (w : Verdict). p w ≡ true) (sym (f .2)) passes), f .3))
+      (f .0, ∈-keep (λ (r : Row). p (r .verdict)) (f .1) (subst (λ (w : Standing). p w ≡ true) (sym (f .2)) passes), f .3))
 
   held-exactly : Exactly ident (Held ident S) (updatesIn (keep (λ (r : Row). isHeld (r .verdict)) T))
   unfolding isHeld

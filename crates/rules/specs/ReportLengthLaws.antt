@@ -21,7 +21,7 @@ use Rattle.rules.specs.declared.MarkKind.{MarkKind}
 use Rattle.rules.specs.declared.MarkKind.the-variants.{Fork, Fault, Both}
 use Rattle.rules.specs.SetEntry.{SetEntry, entryKey}
 use Rattle.rules.specs.Mark.{Mark, markKey}
-use Rattle.rules.specs.Settle.{Row, Table, Verdict, held, waiting, void, isHeld, isWaiting, isVoid, isInsert, heads, marksIn, marks, tagsOf, setEntriesFrom, setEntries, entries, valuesOf, list, updatesIn, partsIn}
+use Rattle.rules.specs.Settle.{Row, Table, Standing, held, waiting, void, isHeld, isWaiting, isVoid, isInsert, heads, marksIn, marks, tagsOf, setEntriesFrom, setEntries, entries, valuesOf, list, updatesIn, partsIn}
 use Rattle.bytes_ascii.specs.Ascii.{codes, ascii, hex, decimal}
 use Rattle.bytes_ascii.specs.AsciiLaws.{hex-length, decimal-length}
 use Rattle.rules.specs.TableLaws.{add-sized, setEntriesFrom-∈}
@@ -104,7 +104,7 @@ unfolding below
 ∈-below a (suc n) h = ⊎-elim (λ (e : a ≡ n). List·Memᴰ·head (ap (λ (k : ℕ). k ∷ []) e)) (λ (k : a < n). List·Memᴰ·tail (∈-below a n k)) (eq-or-lt-of-le (le-of-suc-le-suc h))
 
 -- a row has one verdict
-one-verdict : (v : Verdict) → oneIf (isHeld v) + oneIf (isWaiting v) + oneIf (isVoid v) ≤ 1
+one-verdict : (v : Standing) → oneIf (isHeld v) + oneIf (isWaiting v) + oneIf (isVoid v) ≤ 1
 unfolding isHeld isWaiting isVoid
 one-verdict held = omega arith
 one-verdict waiting = omega arith

@@ -15,17 +15,15 @@ use Rattle.rules.specs.CausalOrder.{orderBy, isBefore, isApart, beforeOr
 use Rattle.rules.specs.SetEntry.{SetEntry, entryKey}
 use Rattle.rules.specs.Mark.{Mark, markKey, marksBy}
 use Rattle.rules.specs.Parts.{Parts}
-
-pub data Verdict : Type 0 where
-  held : Verdict
-  waiting : Verdict
-  void : Verdict
+-- the verdict on an update is a standing
+pub use Rattle.rules.specs.declared.Standing.{Standing}
+pub use Rattle.rules.specs.declared.Standing.the-variants.{Held as held, Waiting as waiting, Void as void}
 
 -- an update with its id, its verdict so far and, once it is held, the ids of its ancestors
 pub record Row : Type 0 where
   pub id : Id
   pub update : Update
-  pub verdict : Verdict
+  pub verdict : Standing
   pub above : List Id
 
 abbrev pub Table : Type 0
@@ -33,17 +31,17 @@ Table = List Row
 
 -- tests of a row
 
-unfoldable pub isHeld : Verdict → Bool
+unfoldable pub isHeld : Standing → Bool
 isHeld held = true
 isHeld waiting = false
 isHeld void = false
 
-unfoldable pub isWaiting : Verdict → Bool
+unfoldable pub isWaiting : Standing → Bool
 isWaiting held = false
 isWaiting waiting = true
 isWaiting void = false
 
-unfoldable pub isVoid : Verdict → Bool
+unfoldable pub isVoid : Standing → Bool
 isVoid held = false
 isVoid waiting = false
 isVoid void = true
@@ -105,7 +103,7 @@ fineBy T up u = antichain T (u .preds) && validOp T up (u .op)
 
 -- a row that waits is judged by the table; a settled one stays
 
-unfoldable pub ruled : Verdict → List Id → Row → Row
+unfoldable pub ruled : Standing → List Id → Row → Row
 ruled v up r = record { id = r .id; update = r .update; verdict = v; above = up }
 
 unfoldable pub judgeFine : Bool → List Id → Row → Row
@@ -121,7 +119,7 @@ judgeBy true h T r = ruled void [] r
 judgeBy false true T r = judgeKnown T r (ancestorsOf T (r .update))
 judgeBy false false T r = r
 
-unfoldable pub judgeFrom : Verdict → Table → Row → Row
+unfoldable pub judgeFrom : Standing → Table → Row → Row
 judgeFrom held T r = r
 judgeFrom void T r = r
 judgeFrom waiting T r = judgeBy (any (voidIn T) (r .update .preds)) (all (heldIn T) (r .update .preds)) T r

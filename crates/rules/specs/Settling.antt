@@ -18,14 +18,14 @@ use Rattle.bytes_order.specs.DistinctLaws.{distinct-eq, distinct-identifies, di
 use Rattle.bytes_order.specs.SortLaws.{sort-∈, ∈-sort, sort-ascending, sort-distinct, sort-length, ascending-map}
 use Rattle.update_format.specs.Update.{Id, Update}
 use Rattle.rules.specs.Standing.{Held, Void, Waiting}
-use Rattle.rules.specs.Settle.{Verdict, held, waiting, void, Row, Table, isWaiting, heldIn, voidIn, ruled, judge, round, rounds, start, startAll, settledTable}
+use Rattle.rules.specs.Settle.{Standing, held, waiting, void, Row, Table, isWaiting, heldIn, voidIn, ruled, judge, round, rounds, start, startAll, settledTable}
 use Rattle.rules.specs.Decides.{Decides}
 use Rattle.rules.specs.LeastSets.{SoundVerdicts, Stable, settled-waiting}
 use Rattle.rules.specs.SettlingTable.{SoundRow, SoundTable, Undecided, RowOutcome, stays, rules, judge-outcome, judge-id, round-sound, held-in, void-in, row-of, right-as}
 use Rattle.bytes_order.specs.CountLaws.{countMembers, map-lowers}
 
 -- the verdict of the row with an id
-verdictIn : Table → Id → Verdict
+verdictIn : Table → Id → Standing
 verdictIn [] i = waiting
 verdictIn (r ∷ T) i = cond (same (r .id) i) (r .verdict) (verdictIn T i)
 
@@ -34,7 +34,7 @@ unfolding verdictIn
 verdict-in distinct-nil m = absurd (elim m [ ])
 verdict-in {r = r} (distinct-cons {x = q} {xs = T} n d) m = step (∈-cases m) (verdict-in d)
   where
-    here : Bool → Verdict
+    here : Bool → Standing
     here b = cond b (q .verdict) (verdictIn T (r .id))
 
     step : (r ≡ q) ⊎ (r ∈ T) → (r ∈ T → verdictIn T (r .id) ≡ r .verdict) → here (same (q .id) (r .id)) ≡ r .verdict
@@ -43,7 +43,7 @@ verdict-in {r = r} (distinct-cons {x = q} {xs = T} n d) m = step (∈-cases m) (
 
 -- a sound table, as an assignment of verdicts
 module _ {ident : Update → Id} {S : List Update} {T : Table} (sound : SoundTable ident S T) where
-  verdict : Update → Verdict
+  verdict : Update → Standing
   verdict u = verdictIn T (ident u)
 
   verdict-of : {r : Row} {u : Update} → r ∈ T → r .id ≡ ident u → r .verdict ≡ verdict u
@@ -184,7 +184,7 @@ covers ident S distinct u m =
     d : Decides ident S (settledTable ident S)
     d = settled-decides ident S distinct
 
-    by : (r : Row) → r ∈ settledTable ident S → (v : Verdict) → r .verdict ≡ v
+    by : (r : Row) → r ∈ settledTable ident S → (v : Standing) → r .verdict ≡ v
         → Held ident S (r .update) ⊎ (Waiting ident S (r .update) ⊎ Void ident S (r .update))
     by r k held e = inl (d .held-right r k e)
     by r k waiting e = inr (inl (d .waiting-right r k e))

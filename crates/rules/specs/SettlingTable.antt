@@ -19,7 +19,7 @@ use Rattle.rules.specs.declared.CausalOrder.{CausalOrder}
 use Rattle.rules.specs.declared.CausalOrder.the-variants.{Before, After}
 use Rattle.rules.specs.Standing.{beginning, Ancestor, InsertAncestor, Valid, Known, Antichain, Fine, Held, PredsHeld, Void}
 use Rattle.rules.specs.CausalOrder.{OrderExactly, beforeOrAfter}
-use Rattle.rules.specs.Settle.{Verdict, held, waiting, void, Row, Table, isHeld, isWaiting, isVoid, isAdd, isInsert, heldIn, voidIn}
+use Rattle.rules.specs.Settle.{Standing, held, waiting, void, Row, Table, isHeld, isWaiting, isVoid, isAdd, isInsert, heldIn, voidIn}
 use Rattle.rules.specs.Settle.{addIn, insertIn, aboveIn, orderIn, ancestorsOf, antichain, validOp, fineBy, ruled, judgeFine, judgeKnown, judgeBy, judgeFrom, judge, round}
 use Rattle.rules.specs.LeastSets.{ancestor-stored, ancestor-cases, held-stored}
 use Rattle.rules.specs.CausalLaws.{beforeOrAfter→, tells-exactly}
@@ -32,7 +32,7 @@ module _ (ident : Update → Id) (S : List Update) where
     pub once : Distinct (λ (i : Id). i) up
 
   -- a verdict on u is right and, if u is held, so are the ids of its ancestors; waiting says nothing so far
-  abbrev pub Right : Verdict → Update → List Id → Type 0
+  abbrev pub Right : Standing → Update → List Id → Type 0
   Right held u up = Held ident S u × AncestorIds u up
   Right waiting u up = Unit {0}
   Right void u up = Void ident S u
@@ -53,19 +53,19 @@ pub record PredecessorsHeld (T : Table) (u : Update) : Type 0 where
 
 -- the tests of a row
 
-pub isHeld→ : (v : Verdict) → isHeld v ≡ true → v ≡ held
+pub isHeld→ : (v : Standing) → isHeld v ≡ true → v ≡ held
 unfolding isHeld
 isHeld→ held e = refl
 isHeld→ waiting e = absurd (false≢true e)
 isHeld→ void e = absurd (false≢true e)
 
-pub isWaiting→ : (v : Verdict) → isWaiting v ≡ true → v ≡ waiting
+pub isWaiting→ : (v : Standing) → isWaiting v ≡ true → v ≡ waiting
 unfolding isWaiting
 isWaiting→ held e = absurd (false≢true e)
 isWaiting→ waiting e = refl
 isWaiting→ void e = absurd (false≢true e)
 
-pub isVoid→ : (v : Verdict) → isVoid v ≡ true → v ≡ void
+pub isVoid→ : (v : Standing) → isVoid v ≡ true → v ≡ void
 unfolding isVoid
 isVoid→ held e = absurd (false≢true e)
 isVoid→ waiting e = absurd (false≢true e)
@@ -134,7 +134,7 @@ Undecided T u = (any (voidIn T) (u .preds) ≡ false) × (all (heldIn T) (u .pre
 -- what judging by T makes of a row r: it stays, and if it waits it is undecided yet; or it waited and is ruled
 pub data RowOutcome (T : Table) (r q : Row) : Type 0 where
   stays : q ≡ r → (r .verdict ≡ waiting → Undecided T (r .update)) → RowOutcome T r q
-  rules : r .verdict ≡ waiting → (v : Verdict) (up : List Id) → isWaiting v ≡ false → q ≡ ruled v up r → RowOutcome T r q
+  rules : r .verdict ≡ waiting → (v : Standing) (up : List Id) → isWaiting v ≡ false → q ≡ ruled v up r → RowOutcome T r q
 
 pub judge-outcome : (T : Table) (r : Row) → RowOutcome T r (judge T r)
 unfolding judge judgeFrom judgeBy judgeKnown judgeFine isHeld isVoid isWaiting
@@ -151,7 +151,7 @@ judge-outcome T r = from (r .verdict) refl
         fine (fineBy T (ancestorsOf T (r .update)) (r .update)) (ancestorsOf T (r .update)) e
     by false false p q e = stays refl (λ w. (p, q))
 
-    from : (v : Verdict) → r .verdict ≡ v → RowOutcome T r (judgeFrom v T r)
+    from : (v : Standing) → r .verdict ≡ v → RowOutcome T r (judgeFrom v T r)
     from held e = stays refl (λ w. absurd (true≢false (ap isHeld (sym e ∙ w))))
     from void e = stays refl (λ w. absurd (true≢false (ap isVoid (sym e ∙ w))))
     from waiting e = by (any (voidIn T) (r .update .preds)) (all (heldIn T) (r .update .preds)) refl refl e
@@ -178,8 +178,8 @@ module _ {ident : Update → Id} {S : List Update} {T : Table} (sound : SoundTab
   update-of m k e = let q = row-of k in ap (λ (r : Row). r .update) (one-row m (q .1) (e ∙ sym (q .2))) ∙ q .3
 
   -- what the row of u says
-  pub right-as : {r : Row} {u : Update} (v : Verdict) → r ∈ T → r .update ≡ u → r .verdict ≡ v → Right ident S v u (r .above)
-  right-as {r} v m e d = subst₂ (λ (w : Verdict) (x : Update). Right ident S w x (r .above)) d e (sound .rows r m .right)
+  pub right-as : {r : Row} {u : Update} (v : Standing) → r ∈ T → r .update ≡ u → r .verdict ≡ v → Right ident S v u (r .above)
+  right-as {r} v m e d = subst₂ (λ (w : Standing) (x : Update). Right ident S w x (r .above)) d e (sound .rows r m .right)
 
   -- the row of a held update
   pub record HeldRowOf (v : Update) : Type 0 where
@@ -382,7 +382,7 @@ module _ {ident : Update → Id} {S : List Update} {T : Table} (sound : SoundTab
         and-true (antichain T (u .preds)) (validOp T (ancestorsOf T u) (u .op)) (→antichain (f .antichain)) (→valid (u .op) (f .valid))
 
   -- judge
-  ruled-sound : {r : Row} → SoundRow ident S r → (v : Verdict) (up : List Id) → Right ident S v (r .update) up → SoundRow ident S (ruled v up r)
+  ruled-sound : {r : Row} → SoundRow ident S r → (v : Standing) (up : List Id) → Right ident S v (r .update) up → SoundRow ident S (ruled v up r)
   unfolding ruled
   ruled-sound s v up h = record { of-set = s .of-set; has-id = s .has-id; right = h }
 
@@ -415,7 +415,7 @@ module _ {ident : Update → Id} {S : List Update} {T : Table} (sound : SoundTab
       by false true e f = known-sound (sound .rows r m) (all-held T (r .update) f)
       by false false e f = sound .rows r m
 
-      from : (v : Verdict) → SoundRow ident S (judgeFrom v T r)
+      from : (v : Standing) → SoundRow ident S (judgeFrom v T r)
       from held = sound .rows r m
       from void = sound .rows r m
       from waiting = by (any (voidIn T) (r .update .preds)) (all (heldIn T) (r .update .preds)) refl refl

@@ -18,7 +18,7 @@ use Rattle.rules.specs.Standing.{beginning, Ancestor, Fine, Held, Valid,
 use Rattle.rules.specs.SetEntry.{SetEntry}
 use Rattle.rules.specs.ReadOff.{Rank}
 use Rattle.rules.specs.CausalOrder.{OrderExactly}
-use Rattle.rules.specs.Settle.{Verdict, held, waiting, void, Row, Table, isHeld, orderIn, heldRow, rank, tagsOf, setEntriesFrom, names, deletes, anchored, valuesOf}
+use Rattle.rules.specs.Settle.{Standing, held, waiting, void, Row, Table, isHeld, orderIn, heldRow, rank, tagsOf, setEntriesFrom, names, deletes, anchored, valuesOf}
 use Rattle.rules.specs.Decides.{Decides}
 use Rattle.rules.specs.LeastSets.{ancestor-stored, ancestor-trans, held-acyclic, held-ancestors, VerdictSays, says-stored, one-verdict}
 use Rattle.rules.specs.SettlingTable.{Right, SoundTable, HeldRowOf, held-row-of, order-exactly}
@@ -136,7 +136,7 @@ heldRow→ : (r : Row) → heldRow r ≡ true → r .verdict ≡ held
 unfolding heldRow isHeld
 heldRow→ r e = step (r .verdict) e
   where
-    step : (v : Verdict) → isHeld v ≡ true → v ≡ held
+    step : (v : Standing) → isHeld v ≡ true → v ≡ held
     step held e = refl
     step waiting e = absurd (false≢true e)
     step void e = absurd (false≢true e)
@@ -176,7 +176,7 @@ decides-sound {ident} {S} {T} d =
       once = d .once;
     }
   where
-    right : (r : Row) → r ∈ T → (v : Verdict) → r .verdict ≡ v → Right ident S v (r .update) (r .above)
+    right : (r : Row) → r ∈ T → (v : Standing) → r .verdict ≡ v → Right ident S v (r .update) (r .above)
     right r m held e = (d .held-right r m e, record { only = d .above-right r m e; each = d .above-all r m e; once = d .above-once r m e })
     right r m waiting e = tt
     right r m void e = d .void-right r m e
@@ -191,13 +191,13 @@ module _ {ident : Update → Id} {S : List Update} {T : Table} (distinct : Disti
   pub row-id : {r : Row} → HeldRow T r → r .id ≡ ident (r .update)
   row-id {r} h = decides .has-id r (h .row-in)
 
-  pub row-says : (v : Verdict) (r : Row) → r ∈ T → r .verdict ≡ v → VerdictSays ident S v (r .update)
+  pub row-says : (v : Standing) (r : Row) → r ∈ T → r .verdict ≡ v → VerdictSays ident S v (r .update)
   row-says held r m e = decides .held-right r m e
   row-says waiting r m e = decides .waiting-right r m e
   row-says void r m e = decides .void-right r m e
 
   -- each update has a row of its verdict
-  pub says-row : (v : Verdict) (u : Update) → VerdictSays ident S v u → (r : Row) × (r ∈ T) × (r .verdict ≡ v) × (r .update ≡ u)
+  pub says-row : (v : Standing) (u : Update) → VerdictSays ident S v u → (r : Row) × (r ∈ T) × (r .verdict ≡ v) × (r .update ≡ u)
   says-row v u h =
       let f = decides .row-for u (says-stored ident S v u h) in
       let w = row-says (f .0 .verdict) (f .0) (f .1) refl in

@@ -21,8 +21,8 @@ use Rattle.rules.specs.TableLaws.{row-eq}
 use Rattle.rules.specs.ChoiceLaws.{rowId}
 use Rattle.bitset.specs.Bits.{has, join}
 use Rattle.bitset.specs.BitsLaws.{has-join}
-use Rattle.ledger_state.specs.declared.Standing.{Standing}
-use Rattle.ledger_state.specs.declared.Standing.the-variants.{Held as IsHeld, Waiting as IsWaiting, Void as IsVoid}
+use Rattle.rules.specs.declared.Standing.{Standing}
+use Rattle.rules.specs.declared.Standing.the-variants.{Held as IsHeld, Waiting as IsWaiting, Void as IsVoid}
 use Rattle.ledger_judging.specs.declared.Gathered.{Gathered}
 use Rattle.ledger_judging.specs.declared.Judgement.the-variants.{Holds, Fails, Waits}
 use Rattle.ledger_state.specs.State.{Book, placeAt, findIn, isHeld}

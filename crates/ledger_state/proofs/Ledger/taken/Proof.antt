@@ -3,7 +3,7 @@ use Prim.Native.Nat.{_+_}
 use mathlib.Core.Path.{refl}
 use native.Mathlib.Omega.{arith}
 use borrow.Author.Needs.{needs}
-use Rattle.ledger_state.specs.declared.Standing.the-variants.{Waiting}
+use Rattle.rules.specs.declared.Standing.the-variants.{Waiting}
 use Rattle.ledger_state.specs.ViewLaws.{stored-view}
 use Rattle.ledger_state.proofs.Owning.{places-length}
 use Rattle.ledger_state.proofs.Ledger.taken.Statement.{statement}
