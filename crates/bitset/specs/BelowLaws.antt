@@ -1,5 +1,6 @@
 -- The laws of the tests, counts and lists over the numbers below n. In order: the step of each at `n + 1`, as a loop makes it; `allBelow`, `anyBelow`, `upTo`, `countBelow`,
--- `firstBelow`, each by what it says of a number, in both directions; counts of two tests (`countBelow-mono`, `countBelow-one`, `countBelow-lt`); a count as the length of a list.
+-- `firstBelow`, each by what it says of a number, in both directions; after `allBelow` and `anyBelow` the loop that tests the numbers one after the other (`-none` before the first,
+-- `-next` one more, `-stop` where one decides, `-end` after the last); counts of two tests (`countBelow-mono`, `countBelow-one`, `countBelow-lt`); a count as the length of a list.
 use Prim.Native.Nat.{ℕ, zero, suc, _+_, _≤_, _<_, zero-le}
 use native.Mathlib.Omega.{arith}
 use native.Mathlib.Nat.{le-of-suc-le-suc, eq-or-lt-of-le, lt-of-not-le, not-suc-le-zero}
@@ -29,6 +30,10 @@ pub allBelow-more : (n : ℕ) (p : ℕ → Bool) → allBelow (n + 1) p ≡ (all
 unfolding allBelow
 allBelow-more n p = ap (λ (m : ℕ). allBelow m p) (add-one n)
 
+pub anyBelow-more : (n : ℕ) (p : ℕ → Bool) → anyBelow (n + 1) p ≡ (anyBelow n p || p n)
+unfolding anyBelow
+anyBelow-more n p = ap (λ (m : ℕ). anyBelow m p) (add-one n)
+
 pub countBelow-more : (n : ℕ) (p : ℕ → Bool) → countBelow (n + 1) p ≡ cond (p n) (countBelow n p + 1) (countBelow n p)
 unfolding countBelow
 countBelow-more n p = ap (λ (m : ℕ). countBelow m p) (add-one n)
@@ -49,8 +54,19 @@ unfolding allBelow
 allBelow← zero p f = refl
 allBelow← (suc n) p f = and-true (allBelow n p) (p n) (allBelow← n p (λ k h. f k (omega arith))) (f n (omega arith))
 
-pub allBelow-false← : (n : ℕ) (p : ℕ → Bool) (k : ℕ) → k < n → p k ≡ false → allBelow n p ≡ false
-allBelow-false← n p k h e = not-true→false (allBelow n p) (λ a. true-false (allBelow→ n p a k h) e)
+-- a loop that goes on while each passes
+pub allBelow-none : (p : ℕ → Bool) → allBelow 0 p ≡ true
+unfolding allBelow
+allBelow-none p = refl
+
+pub allBelow-next : (p : ℕ → Bool) (k : ℕ) → allBelow k p ≡ true → p k ≡ true → allBelow (k + 1) p ≡ true
+allBelow-next p k i e = allBelow-more k p ∙ and-true (allBelow k p) (p k) i e
+
+pub allBelow-stop : (n : ℕ) (p : ℕ → Bool) (k : ℕ) → k < n → p k ≡ false → false ≡ allBelow n p
+allBelow-stop n p k h e = sym (not-true→false (allBelow n p) (λ a. true-false (allBelow→ n p a k h) e))
+
+pub allBelow-end : (n : ℕ) (p : ℕ → Bool) (k : ℕ) → k ≤ n → n ≤ k → allBelow k p ≡ true → true ≡ allBelow n p
+allBelow-end n p k h g i = let e : k ≡ n = omega arith in sym i ∙ ap (λ (m : ℕ). allBelow m p) e
 
 -- anyBelow
 pub anyBelow→ : (n : ℕ) (p : ℕ → Bool) → anyBelow n p ≡ true → (k : ℕ) × (k < n) × (p k ≡ true)
@@ -70,6 +86,20 @@ anyBelow← (suc n) p k h e =
     (λ (q : k ≡ n). or-right (anyBelow n p) (p n) (ap p (sym q) ∙ e))
     (λ (l : k < n). or-left (anyBelow n p) (p n) (anyBelow← n p k l e))
     (below-suc h)
+
+-- a loop that goes on while none passes; the end is by any answer, so that a loop may gather a set of answers
+pub anyBelow-none : (p : ℕ → Bool) → anyBelow 0 p ≡ false
+unfolding anyBelow
+anyBelow-none p = refl
+
+pub anyBelow-next : (p : ℕ → Bool) (k : ℕ) → anyBelow k p ≡ false → p k ≡ false → anyBelow (k + 1) p ≡ false
+anyBelow-next p k i e = anyBelow-more k p ∙ ap₂ _||_ i e
+
+pub anyBelow-stop : (n : ℕ) (p : ℕ → Bool) (k : ℕ) → k < n → p k ≡ true → true ≡ anyBelow n p
+anyBelow-stop n p k h e = sym (anyBelow← n p k h e)
+
+pub anyBelow-end : (n : ℕ) (p : ℕ → Bool) (k : ℕ) → k ≤ n → n ≤ k → {b : Bool} → anyBelow k p ≡ b → b ≡ anyBelow n p
+anyBelow-end n p k h g i = let e : k ≡ n = omega arith in sym i ∙ ap (λ (m : ℕ). anyBelow m p) e
 
 -- upTo
 pub upTo-∈ : (n : ℕ) {k : ℕ} → k ∈ upTo n → k < n

@@ -7,14 +7,14 @@ use mathlib.Core.Bool.{Bool, true, false, cond, not, _&&_, _||_}
 use Rattle.bytes_order.specs.Order.{same}
 use Rattle.bytes_order.specs.Member.{all}
 use Rattle.update_format.specs.Update.{Id, Operation, Add, Remove, Insert, Delete}
-use Rattle.update_format.specs.Decode.{Decoded, refused, update, decode}
+use Rattle.update_format.specs.Decode.{Decoded, refused, update}
 use Rattle.rules.specs.Standing.{beginning}
 use Rattle.rules.specs.Settle.{isAdd, isInsert}
 use Rattle.update_fields.specs.Fields.{testOf}
 use Rattle.bitset.specs.Bits.{has, including, join}
 use Rattle.rules.specs.declared.Standing.{Standing}
 use Rattle.rules.specs.declared.Standing.the-variants.{Held, Waiting, Void}
-use Rattle.ledger_state.specs.State.{Book, placeAt, storedAt, findIn}
+use Rattle.ledger_state.specs.State.{Book, placeAt, decodedAt, findIn}
 use Rattle.ledger_judging.specs.Antichain.{antichainAt}
 use Rattle.ledger_judging.specs.declared.Gathered.{Gathered}
 use Rattle.ledger_judging.specs.declared.Judgement.{Judgement}
@@ -45,7 +45,7 @@ allHeld g = not (g .void) && g .ready
 -- the place j is in the set `up`, and the operation of its update passes a test
 unfoldable pub namesAt : Book → List ℕ → (Operation → Bool) → ℕ → Option ℕ → Bool
 namesAt l s p up none = false
-namesAt l s p up (some j) = has up j && testOf p (decode (storedAt l s j))
+namesAt l s p up (some j) = has up j && testOf p (decodedAt l s j)
 
 -- the id i is that of a place in the set `up` whose operation passes a test
 unfoldable pub namesAncestor : Book → List ℕ → (Operation → Bool) → ℕ → Id → Bool
@@ -70,7 +70,7 @@ judgeDecoded l s (refused n) = Waits
 judgeDecoded l s (update u) = judgeGathered l s (u .op) (gather l nothingGathered (u .preds))
 
 unfoldable pub judgeAt : Book → List ℕ → ℕ → Judgement
-judgeAt l s k = judgeDecoded l s (decode (storedAt l s k))
+judgeAt l s k = judgeDecoded l s (decodedAt l s k)
 
 -- the predecessors of the update at place k are all held; not so where its bytes are no update
 unfoldable pub readyDecoded : Book → Decoded → Bool
@@ -78,4 +78,4 @@ readyDecoded l (refused n) = false
 readyDecoded l (update u) = allHeld (gather l nothingGathered (u .preds))
 
 unfoldable pub readyAt : Book → List ℕ → ℕ → Bool
-readyAt l s k = readyDecoded l (decode (storedAt l s k))
+readyAt l s k = readyDecoded l (decodedAt l s k)

@@ -30,7 +30,7 @@ use Rattle.rules.specs.declared.Standing.the-variants.{Held as IsHeld, Void as 
 use Rattle.ledger_judging.specs.declared.Gathered.{Gathered}
 use Rattle.ledger_judging.specs.declared.Judgement.{Judgement}
 use Rattle.ledger_judging.specs.declared.Judgement.the-variants.{Holds as Judged-holds, Fails, Waits}
-use Rattle.ledger_state.specs.State.{Book, placeAt, storedAt, findIn}
+use Rattle.ledger_state.specs.State.{Book, placeAt, decodedAt, findIn}
 use Rattle.ledger_judging.specs.Antichain.{antichainAt}
 use Rattle.ledger_judging.specs.AntichainLaws.{antichain-at→, →antichain-at}
 use Rattle.ledger_judging.specs.Judge.{nothingGathered, gather, namesAt, namesAncestor, valid, judgeReady, judgeGathered, judgeDecoded, judgeAt, allHeld, readyDecoded, readyAt}
@@ -40,7 +40,7 @@ use Rattle.ledger_judging.specs.GatherLaws.{AllHeld, gathered-void→, g
 
 -- what is read from a place is its update
 stored-update : (l : Book) (s : List ℕ) (us : List Update) → Holds l s us → (k : ℕ) → k < length us
-    → decode (storedAt l s k) ≡ update (updateAt us k)
+    → decodedAt l s k ≡ update (updateAt us k)
 stored-update l s us holds k h =
     ap decode (holds .bytes k h) ∙ decode-complete (updateAt us k) (holds .bounded (updateAt us k) (stored-at us k h))
 
@@ -73,7 +73,7 @@ module _ {l : Book} {s : List ℕ} {us : List Update} (holds : Holds l s us) {u 
       step none f e = absurd (false≢true e)
       step (some j) f e =
           let r = find-right l s us holds i j f in
-          let q = and-true→ (has w j) (testOf p (decode (storedAt l s j))) e in
+          let q = and-true→ (has w j) (testOf p (decodedAt l s j)) e in
           (updateAt us j, word .only j (r .0) (q .0), r .1, ap (testOf p) (sym (stored-update l s us holds j (r .0))) ∙ q .1)
 
   →names : (p : Operation → Bool) {i : Id} {x : Update} → Ancestor ident us x u → ident x ≡ i → p (x .op) ≡ true → namesAncestor l s p w i ≡ true
@@ -82,7 +82,7 @@ module _ {l : Book} {s : List ℕ} {us : List Update} (holds : Holds l s us) {u 
       let r = place-of us (ancestor-stored ident us a) in
       let f : findIn l i ≡ some (r .0) = ap (findIn l) (sym e ∙ ap ident (sym (r .2))) ∙ find-all l s us holds (r .0) (r .1) in
       ap (namesAt l s p w) f
-      ∙ and-true (has w (r .0)) (testOf p (decode (storedAt l s (r .0))))
+      ∙ and-true (has w (r .0)) (testOf p (decodedAt l s (r .0)))
       (word .each (r .0) (r .1) (subst (λ (y : Update). Ancestor ident us y u) (sym (r .2)) a))
       (ap (testOf p) (stored-update l s us holds (r .0) (r .1)) ∙ ap (λ (y : Update). p (y .op)) (r .2) ∙ q)
 

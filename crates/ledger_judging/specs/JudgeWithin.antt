@@ -3,12 +3,12 @@ use mathlib.Core.Path.{_≡_, subst}
 use Prim.Native.Nat.{ℕ, _<_}
 use mathlib.Core.List.{List}
 use mathlib.Core.Bool.{Bool, true, false, cond}
-use Rattle.update_format.specs.Decode.{Decoded, refused, update, decode}
+use Rattle.update_format.specs.Decode.{Decoded, refused, update}
 use Rattle.bitset.specs.Bits.{join, within}
 use Rattle.bitset.specs.BitsLaws.{within-join}
 use Rattle.ledger_judging.specs.declared.Judgement.{Judgement}
 use Rattle.ledger_judging.specs.declared.Judgement.the-variants.{Holds as Judged-holds, Fails, Waits}
-use Rattle.ledger_state.specs.State.{Book, placeAt, storedAt}
+use Rattle.ledger_state.specs.State.{Book, placeAt, decodedAt}
 use Rattle.ledger_judging.specs.Antichain.{antichainAt}
 use Rattle.ledger_judging.specs.Judge.{nothingGathered, gather, valid, judgeReady, judgeGathered, judgeDecoded, judgeAt}
 use Rattle.ledger_judging.specs.GatherLaws.{gather-inside}
@@ -41,4 +41,4 @@ module _ (l : Book) (taken : (j : ℕ) → j < l .used → within (placeAt l j .
 
   pub judge-within : (s : List ℕ) (k w : ℕ) → judgeAt l s k ≡ Judged-holds w → within w (l .used) ≡ true
   unfolding judgeAt
-  judge-within s k w e = word-within (subst Within e (decoded-within s (decode (storedAt l s k))))
+  judge-within s k w e = word-within (subst Within e (decoded-within s (decodedAt l s k)))

@@ -1,37 +1,23 @@
 -- The tests of places, from what their parts answer.
-use Prim.Native.Nat.{ℕ, _+_, _≤_, _<_}
+use Prim.Native.Nat.{ℕ}
 use mathlib.Core.Path.{_≡_, refl, sym, ap, ap₂, _∙_}
 use mathlib.Core.List.{List}
-use mathlib.Core.Bool.{Bool, true, false, not, _&&_, _||_, Bool·not-not}
-use native.Mathlib.Numerals.{add-one}
-use native.Mathlib.Omega.{arith}
+use mathlib.Core.Bool.{Bool, true, false, not, _&&_, Bool·not-not}
 use borrow.Author.Tests.{eq-eqb, ne-eqb}
 use lib.Dec.{eqb}
 use Rattle.rules.specs.CausalOrder.{isApart}
 use Rattle.rules.specs.Settle.{isInsert}
-use Rattle.bitset.specs.Below.{anyBelow}
-use Rattle.bitset.specs.BelowLaws.{anyBelow←}
 use Rattle.bitset.specs.Bits.{count}
 use Rattle.rules.specs.declared.Standing.the-variants.{Held, Waiting, Void}
-use Rattle.ledger_state.specs.State.{Place, Book, placeAt, isHeld}
+use Rattle.ledger_state.specs.State.{Place, Book, placeAt, decodedIn, decodedAt, isHeld}
 use Rattle.ledger_state.specs.PlaceOrder.{placeOrder}
 use Rattle.ledger_state.specs.Number.{hasStanding}
 use Rattle.ledger_state.specs.NumberLaws.{is-held, is-waiting, is-void}
 use Rattle.update_fields.specs.Fields.{testOf, authorIn, isAnyAdd}
 use Rattle.ledger_judging.specs.Judge.{readyAt}
-use Rattle.ledger_relations.specs.declared.Effect.{Effect}
 use Rattle.ledger_relations.specs.declared.Effect.the-variants.{Removes, Deletes}
-use Rattle.ledger_relations.specs.PlaceTests.{idAt, decodedAt, heldAt, waitingAt, voidAt, faultAt, removedAt, presentAt, deletedAt, shownAt}
-use Rattle.ledger_relations.specs.Effects.{decodedIn, forks, heldAffects, rankedIn, someHeld}
-
--- a test of the numbers below n
-pub any-more : (n : ℕ) (p : ℕ → Bool) → anyBelow (n + 1) p ≡ anyBelow n p || p n
-unfolding anyBelow
-any-more n p = ap (λ (m : ℕ). anyBelow m p) (add-one n)
-
-pub any-zero : (p : ℕ → Bool) → anyBelow 0 p ≡ false
-unfolding anyBelow
-any-zero p = refl
+use Rattle.ledger_relations.specs.PlaceTests.{idAt, heldAt, waitingAt, voidAt, faultAt, removedAt, presentAt, deletedAt, shownAt}
+use Rattle.ledger_relations.specs.Effects.{forks, rankedIn, someHeld}
 
 pub with-true : (x : Bool) → (x && true) ≡ x
 with-true true = refl
@@ -125,22 +111,3 @@ module _ (l : Book) (s : List ℕ) (k : ℕ) where
   pub shown-is : {c : Bool} → c ≡ someHeld l s Deletes k → not c ≡ shownAt l s k
   unfolding shownAt deletedAt heldAt someHeld
   shown-is e = ap not e
-
-  -- some held place, one after the other
-  module _ (e : Effect) where
-    abbrev passes : ℕ → Bool
-    passes q = heldAffects s e (placeAt l k) k (placeAt l q) q
-
-    pub some-start : anyBelow 0 passes ≡ false
-    some-start = any-zero passes
-
-    pub some-hit : (q : ℕ) {b : Bool} → q < l .used → b ≡ passes q → b ≡ true → true ≡ someHeld l s e k
-    unfolding someHeld
-    some-hit q h f t = sym (anyBelow← (l .used) passes q h (sym f ∙ t))
-
-    pub some-more : (q : ℕ) {b : Bool} → anyBelow q passes ≡ false → b ≡ passes q → b ≡ false → anyBelow (q + 1) passes ≡ false
-    some-more q i f t = any-more q passes ∙ ap₂ _||_ i (sym f ∙ t)
-
-    pub some-end : (q : ℕ) → q ≤ l .used → l .used ≤ q → anyBelow q passes ≡ false → false ≡ someHeld l s e k
-    unfolding someHeld
-    some-end q h g i = let last : q ≡ l .used = omega arith in sym i ∙ ap (λ (m : ℕ). anyBelow m passes) last

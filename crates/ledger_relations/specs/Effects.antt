@@ -1,35 +1,29 @@
 -- What a place does to another, by value, each with its number; and whether some held place does so.
-use Prim.Native.Nat.{ℕ, _*_}
+use Prim.Native.Nat.{ℕ}
 use mathlib.Core.List.{List}
 use mathlib.Core.Bool.{Bool, _&&_}
 use lib.Dec.{eqb}
-use Rattle.update_format.specs.Update.{maxLength}
-use Rattle.update_format.specs.Decode.{slice, Decoded, decode}
 use Rattle.rules.specs.CausalOrder.{isBefore, isApart}
 use Rattle.rules.specs.Settle.{isInsert, names, deletes}
 use Rattle.bitset.specs.Below.{anyBelow}
 use Rattle.bitset.specs.Bits.{count}
 use Rattle.update_fields.specs.Fields.{testOf, authorIn}
-use Rattle.ledger_state.specs.State.{Place, Book, placeAt, isHeld}
+use Rattle.ledger_state.specs.State.{Place, Book, placeAt, decodedIn, isHeld}
 use Rattle.ledger_state.specs.PlaceOrder.{placeOrder}
 use Rattle.ledger_relations.specs.declared.Effect.{Effect}
 use Rattle.ledger_relations.specs.declared.Effect.the-variants.{Covers, Forks, Removes, Deletes}
 
 module _ (s : List ℕ) where
-  -- what the place's bytes in the store decode to
-  abbrev pub decodedIn : Place → ℕ → Decoded
-  decodedIn p k = decode (slice s (maxLength * k) (p .length))
-
   -- the places are of one author, and apart
   abbrev pub forks : Place → ℕ → Place → ℕ → Bool
-  forks own k other q = eqb (authorIn (decodedIn own k)) (authorIn (decodedIn other q)) && isApart (placeOrder own k other q)
+  forks own k other q = eqb (authorIn (decodedIn s own k)) (authorIn (decodedIn s other q)) && isApart (placeOrder own k other q)
 
   -- the other place does so to the own
   abbrev pub affects : Effect → Place → ℕ → Place → ℕ → Bool
   affects Covers own k other q = isBefore (placeOrder own k other q)
   affects Forks own k other q = forks own k other q
-  affects Removes own k other q = testOf (names (own .id)) (decodedIn other q)
-  affects Deletes own k other q = testOf (deletes (own .id)) (decodedIn other q)
+  affects Removes own k other q = testOf (names (own .id)) (decodedIn s other q)
+  affects Deletes own k other q = testOf (deletes (own .id)) (decodedIn s other q)
 
   -- and it is held
   abbrev pub heldAffects : Effect → Place → ℕ → Place → ℕ → Bool
@@ -37,7 +31,7 @@ module _ (s : List ℕ) where
 
   -- the place holds a held Insert with n ancestors
   abbrev pub rankedIn : ℕ → Place → ℕ → Bool
-  rankedIn n p k = (isHeld (p .standing) && testOf isInsert (decodedIn p k)) && eqb (count (p .ancestors)) n
+  rankedIn n p k = (isHeld (p .standing) && testOf isInsert (decodedIn s p k)) && eqb (count (p .ancestors)) n
 
 -- some held place does so to k
 unfoldable pub someHeld : Book → List ℕ → Effect → ℕ → Bool

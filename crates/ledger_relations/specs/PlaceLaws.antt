@@ -20,13 +20,13 @@ use Rattle.bitset.specs.BelowLaws.{upTo-∈, upTo-ascending}
 use Rattle.bitset.specs.Bits.{has}
 use Rattle.rules.specs.declared.Standing.{Standing}
 use Rattle.rules.specs.declared.Standing.the-variants.{Held as IsHeld, Waiting as IsWaiting, Void as IsVoid}
-use Rattle.ledger_state.specs.State.{Book, placeAt, isHeld}
+use Rattle.ledger_state.specs.State.{Book, placeAt, decodedAt, isHeld}
 use Rattle.ledger_state.specs.PlaceOrder.{orderAt}
 use Rattle.ledger_state.specs.PlaceOrderLaws.{order-at-exactly}
 use Rattle.update_fields.specs.Fields.{testOf, authorIn}
 use Rattle.ledger_state.specs.Stands.{ident, noUpdate, updateAt, Stands}
 use Rattle.ledger_state.specs.StandingLaws.{isHeld→}
-use Rattle.ledger_relations.specs.PlaceTests.{idAt, decodedAt, heldAt, authorAt}
+use Rattle.ledger_relations.specs.PlaceTests.{idAt, heldAt, authorAt}
 
 module _ {l : Book} {s : List ℕ} {us : List Update} (stands : Stands l s us) where
   -- a number of a taken place

@@ -6,12 +6,11 @@ use mathlib.Core.Bool.{Bool, not, _&&_}
 use lib.Dec.{eqb}
 use Rattle.bytes_order.specs.Sort.{sort}
 use Rattle.update_format.specs.Update.{Id}
-use Rattle.update_format.specs.Decode.{Decoded, decode}
 use Rattle.rules.specs.CausalOrder.{isBefore, isApart}
 use Rattle.rules.specs.Settle.{names, deletes}
 use Rattle.bitset.specs.Below.{anyBelow, upTo}
 use Rattle.bitset.specs.Bits.{count}
-use Rattle.ledger_state.specs.State.{Book, placeAt, storedAt, isHeld, isWaiting, isVoid}
+use Rattle.ledger_state.specs.State.{Book, placeAt, decodedAt, isHeld, isWaiting, isVoid}
 use Rattle.ledger_state.specs.PlaceOrder.{orderAt}
 use Rattle.update_fields.specs.Fields.{testOf, authorIn, isAnyAdd}
 use Rattle.ledger_judging.specs.Judge.{readyAt}
@@ -19,9 +18,6 @@ use Rattle.ledger_judging.specs.Judge.{readyAt}
 module _ (l : Book) (s : List ℕ) where
   abbrev pub idAt : ℕ → Id
   idAt k = placeAt l k .id
-
-  abbrev pub decodedAt : ℕ → Decoded
-  decodedAt k = decode (storedAt l s k)
 
   unfoldable pub heldAt : ℕ → Bool
   heldAt k = isHeld (placeAt l k .standing)
@@ -33,7 +29,7 @@ module _ (l : Book) (s : List ℕ) where
   voidAt k = isVoid (placeAt l k .standing)
 
   unfoldable pub authorAt : ℕ → ℕ
-  authorAt k = authorIn (decodedAt k)
+  authorAt k = authorIn (decodedAt l s k)
 
   unfoldable pub rankAt : ℕ → ℕ
   rankAt k = count (placeAt l k .ancestors)
@@ -62,14 +58,14 @@ module _ (l : Book) (s : List ℕ) where
 
   -- the set: an Add that no held Remove names
   unfoldable pub removedAt : Id → Bool
-  removedAt i = anyBelow (l .used) (λ (q : ℕ). heldAt q && testOf (names i) (decodedAt q))
+  removedAt i = anyBelow (l .used) (λ (q : ℕ). heldAt q && testOf (names i) (decodedAt l s q))
 
   unfoldable pub presentAt : ℕ → Bool
-  presentAt k = heldAt k && (testOf isAnyAdd (decodedAt k) && not (removedAt (idAt k)))
+  presentAt k = heldAt k && (testOf isAnyAdd (decodedAt l s k) && not (removedAt (idAt k)))
 
   -- the list: an entry that no held Delete names
   unfoldable pub deletedAt : Id → Bool
-  deletedAt i = anyBelow (l .used) (λ (q : ℕ). heldAt q && testOf (deletes i) (decodedAt q))
+  deletedAt i = anyBelow (l .used) (λ (q : ℕ). heldAt q && testOf (deletes i) (decodedAt l s q))
 
   unfoldable pub shownAt : ℕ → Bool
   shownAt k = not (deletedAt (idAt k))

@@ -29,14 +29,14 @@ use Rattle.bitset.specs.BelowLaws.{anyBelow→, anyBelow←, upTo-∈, ∈-upTo
 use Rattle.bitset.specs.Bits.{has}
 use Rattle.rules.specs.declared.Standing.{Standing}
 use Rattle.rules.specs.declared.Standing.the-variants.{Held as IsHeld, Waiting as IsWaiting, Void as IsVoid}
-use Rattle.ledger_state.specs.State.{Book, placeAt}
+use Rattle.ledger_state.specs.State.{Book, placeAt, decodedAt}
 use Rattle.update_fields.specs.Fields.{testOf}
 use Rattle.ledger_state.specs.PlaceOrder.{orderAt}
 use Rattle.ledger_state.specs.Stands.{ident, noUpdate, updateAt, Stands}
 use Rattle.ledger_state.specs.StandingLaws.{isHeld→ as isHeld→at}
 use Rattle.ledger_judging.specs.Judge.{readyAt}
 use Rattle.ledger_judging.specs.JudgeLaws.{ready-at→, →ready-at}
-use Rattle.ledger_relations.specs.PlaceTests.{idAt, heldAt, waitingAt, voidAt, authorAt, decodedAt, coveredAt, headAt, forkedWith, forkedAt, faultAt, idOrder}
+use Rattle.ledger_relations.specs.PlaceTests.{idAt, heldAt, waitingAt, voidAt, authorAt, coveredAt, headAt, forkedWith, forkedAt, faultAt, idOrder}
 use Rattle.ledger_relations.specs.PlaceLaws.{from-used, to-used, place-in, place-of, place-id, same-place, place-author, place-test, held-at→, above-at→, →above-at, order-at}
 
 -- the row of an id

@@ -1,13 +1,12 @@
 -- Row 1, from the tests that led to its answer.
-use Prim.Native.Nat.{ℕ, _+_, _≤_, _<_}
-use mathlib.Core.Path.{_≡_, refl, sym, ap, _∙_}
+use Prim.Native.Nat.{ℕ, _≤_, _<_}
+use mathlib.Core.Path.{_≡_}
 use mathlib.Core.List.{List}
-use mathlib.Core.Bool.{Bool, true, false}
+use mathlib.Core.Bool.{Bool, false}
 use borrow.Author.Tests.{le-leb, lt-leb, eq-eqb, ne-eqb}
 use lib.ListN.{length}
 use Rattle.update_format.specs.Update.{minLength, maxLength}
 use Rattle.bitset.specs.Below.{allBelow}
-use Rattle.bitset.specs.BelowLaws.{allBelow-more, allBelow-false←}
 use Rattle.bitset.specs.Bits.{within}
 use Rattle.ledger_state.specs.State.{places, storeLength, Place, Book, placeAt}
 use Rattle.ledger_state.specs.Row1.{soundPlace, sound}
@@ -30,23 +29,6 @@ module _ (used : ℕ) (p : Place) where
 abbrev pub soundAt : Book → ℕ → Bool
 soundAt l k = soundPlace (l .used) (placeAt l k)
 
--- the places below k are sound
-unfoldable pub SoundBelow : Book → ℕ → Type 0
-SoundBelow l k = allBelow k (soundAt l) ≡ true
-
-pub sound-first : (l : Book) → SoundBelow l 0
-unfolding SoundBelow allBelow
-sound-first l = refl
-
--- what a test of place k says
-module _ (l : Book) (k : ℕ) {r : Bool} (t : r ≡ soundAt l k) where
-  pub sound-more : r ≡ true → SoundBelow l k → SoundBelow l (k + 1)
-  unfolding SoundBelow
-  sound-more b h = rw (allBelow-more, h, ← t, b)
-
-  pub unsound : k < l .used → r ≡ false → allBelow (l .used) (soundAt l) ≡ false
-  unsound h b = allBelow-false← (l .used) (soundAt l) k h (sym t ∙ b)
-
 -- the ledger and the store
 module _ (l : Book) (s : List ℕ) where
   pub wrong-store : (length s ≡ storeLength → ⊥) → false ≡ sound l s
@@ -60,7 +42,3 @@ module _ (l : Book) (s : List ℕ) where
   pub by-places : length s ≡ storeLength → l .used ≤ places → allBelow (l .used) (soundAt l) ≡ sound l s
   unfolding sound
   by-places e u = rw (eq-eqb _ _ e, le-leb _ _ u)
-
-pub all-sound : (l : Book) (k : ℕ) → k ≡ l .used → SoundBelow l k → allBelow (l .used) (soundAt l) ≡ true
-unfolding SoundBelow
-all-sound l k q h = ap (λ (m : ℕ). allBelow m (soundAt l)) (sym q) ∙ h

@@ -1,16 +1,15 @@
 -- What the two loops carry: the one over the places that may name a settled one, and the one over the worklist.
 use mathlib.Core.Path.{_≡_, refl, sym, _∙_, ap, subst}
-use Prim.Native.Nat.{ℕ, _+_, _*_, _≤_, _<_, zero-le}
+use Prim.Native.Nat.{ℕ, _+_, _≤_, _<_, zero-le}
 use native.Mathlib.Nat.{le-refl}
 use native.Mathlib.Omega.{arith}
 use mathlib.Core.List.{List}
 use mathlib.Core.Bool.{true, false, _&&_}
 use lib.ListN.{length, getD, take}
 use lib.Seq.{length-take-le, getD-take}
-use Rattle.update_format.specs.Update.{Id, maxLength}
-use Rattle.update_format.specs.Decode.{slice, decode}
+use Rattle.update_format.specs.Update.{Id}
 use Rattle.rules.specs.declared.Standing.the-variants.{Held as IsHeld, Waiting as IsWaiting, Void as IsVoid}
-use Rattle.ledger_state.specs.State.{Place, Book, placeAt, isWaiting}
+use Rattle.ledger_state.specs.State.{Place, Book, placeAt, decodedIn, isWaiting}
 use Rattle.ledger_state.specs.View.{bookOf}
 use Rattle.ledger_state.specs.BookLaws.{replaced-other}
 use Rattle.ledger_settling.specs.declared.Settling.{Settling}
@@ -72,7 +71,7 @@ module _ (s : List ℕ) (i : ℕ) (l : Book) (id : Id) (used : ℕ) (x : Settlin
           below = omega arith;
           underway = λ m u.
               place-passed m s (h .underway m u)
-              (ap (λ (p : Place). isWaiting (p .standing) && follows id (decode (slice s (maxLength * k) (p .length)))) here ∙ e);
+              (ap (λ (p : Place). isWaiting (p .standing) && follows id (decodedIn s p k)) here ∙ e);
           later = λ j g. h .later j (omega arith);
         }
 

@@ -16,7 +16,7 @@ use Rattle.rules.specs.declared.Standing.{Standing}
 use Rattle.rules.specs.declared.Standing.the-variants.{Waiting}
 use Rattle.ledger_judging.specs.declared.Gathered.{Gathered}
 use Rattle.ledger_judging.specs.declared.Judgement.the-variants.{Waits}
-use Rattle.ledger_state.specs.State.{Place, Book, placeAt, storedAt, withStanding, isWaiting, findIn}
+use Rattle.ledger_state.specs.State.{Place, Book, placeAt, storedAt, decodedAt, withStanding, isWaiting, findIn}
 use Rattle.ledger_state.specs.BookLaws.{replaced-same, replaced-other}
 use Rattle.ledger_judging.specs.Judge.{nothingGathered, gatherAt, gather, judgeDecoded, judgeAt}
 use Rattle.ledger_settling.specs.Settle.{follows, followsAt}
@@ -74,7 +74,7 @@ module _ (l : Book) (n : ℕ) (v : Standing) (w : ℕ) where
   stays-waiting s k ne out e =
       let stored : storedAt after s k ≡ storedAt l s k = ap (λ (p : Place). slice s (maxLength * k) (p .length)) (other k ne) in
       ap (λ (b : List ℕ). judgeDecoded after s (decode b)) stored
-      ∙ decoded-waits l after s s (decode (storedAt l s k)) (λ u q. gather-others nothingGathered (u .preds) (ap (follows (placeAt l n .id)) (sym q) ∙ out)) e
+      ∙ decoded-waits l after s s (decodedAt l s k) (λ u q. gather-others nothingGathered (u .preds) (ap (follows (placeAt l n .id)) (sym q) ∙ out)) e
 
   -- of the places that wait, those are due that were, and its successors
   pub due-settled : (s : List ℕ) (these : ℕ → Type 0) → isWaiting v ≡ false → Due l s these

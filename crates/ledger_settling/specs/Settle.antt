@@ -6,12 +6,12 @@ use mathlib.Core.List.{List}
 use mathlib.Core.Bool.{Bool, true, false}
 use Rattle.bytes_order.specs.Member.{member}
 use Rattle.update_format.specs.Update.{Id}
-use Rattle.update_format.specs.Decode.{Decoded, refused, update, decode}
+use Rattle.update_format.specs.Decode.{Decoded, refused, update}
 use Rattle.rules.specs.declared.Standing.{Standing}
 use Rattle.rules.specs.declared.Standing.the-variants.{Held, Waiting, Void}
 use Rattle.ledger_judging.specs.declared.Judgement.{Judgement}
 use Rattle.ledger_judging.specs.declared.Judgement.the-variants.{Holds, Fails, Waits}
-use Rattle.ledger_state.specs.State.{Book, placeAt, storedAt, withStanding}
+use Rattle.ledger_state.specs.State.{Book, placeAt, decodedAt, withStanding}
 use Rattle.ledger_judging.specs.Judge.{judgeAt}
 
 -- the place k is judged, and gets this standing and ancestor word
@@ -52,4 +52,4 @@ follows i (refused n) = false
 follows i (update u) = member i (u .preds)
 
 abbrev pub followsAt : Book → List ℕ → Id → ℕ → Bool
-followsAt l s i k = follows i (decode (storedAt l s k))
+followsAt l s i k = follows i (decodedAt l s k)

@@ -21,7 +21,7 @@ use Rattle.ledger_judging.specs.declared.Judgement.{Judgement}
 use Rattle.ledger_judging.specs.declared.Judgement.the-variants.{Holds as Judged-holds, Fails, Waits}
 use Rattle.bytes_copy.specs.Overwritten.{overwritten}
 use Rattle.bytes_copy.specs.OverwrittenLaws.{overwritten-before}
-use Rattle.ledger_state.specs.State.{places, Place, Book, placeAt, storedAt, withTaken, findIn}
+use Rattle.ledger_state.specs.State.{places, Place, Book, placeAt, storedAt, decodedAt, withTaken, findIn}
 use Rattle.ledger_judging.specs.Antichain.{antichainAt}
 use Rattle.ledger_judging.specs.Judge.{nothingGathered, gatherBy, gatherAt, gather, valid, judgeReady, judgeGathered, judgeDecoded, judgeAt}
 use Rattle.ledger_settling.specs.Settle.{isWaits, OthersWait}
@@ -141,5 +141,5 @@ taken-others l s us stands i b free short k h q =
     ∙ overwritten-before s (maxLength * l .used) b (omega (arith, holds .store-whole)) (maxLength * k) (placeAt l k .length)
     (omega (arith, holds-sound l s us holds .each k inside .short)) in
     ap (λ (x : List ℕ). judgeDecoded r s′ (decode x)) stored
-    ∙ decoded-waits l r s s′ (decode (storedAt l s k)) (λ u _. gather-taken l i (length b) nothingGathered (u .preds))
+    ∙ decoded-waits l r s s′ (decodedAt l s k) (λ u _. gather-taken l i (length b) nothingGathered (u .preds))
     (waits-judged l s us stands k (omega (arith, holds .number)) (ap (λ (p : Place). p .standing) (sym old) ∙ q))

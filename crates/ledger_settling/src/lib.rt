@@ -2,11 +2,10 @@
 // whose successors were not. So the newest place is judged once, and any other at most once for each of its predecessors that is settled.
 ghost use mathlib.Core.Path.{_≡_};
 ghost use mathlib.Core.Bool.{_&&_};
-ghost use Prim.Native.Nat.{_*_, _<_};
-ghost use Rattle.update_format.specs.Update.{maxLength};
-ghost use Rattle.update_format.specs.Decode.{slice, decode};
-ghost use Rattle.ledger_state.specs.State.{places, isWaiting};
-ghost use Rattle.ledger_state.specs.View.{bookOf};
+ghost use Prim.Native.Nat.{_<_};
+ghost use Rattle.update_format.specs.Decode.{decode};
+ghost use Rattle.ledger_state.specs.State.{places, decodedIn, isWaiting};
+ghost use Rattle.ledger_state.specs.View.{placeOf, bookOf};
 ghost use Rattle.ledger_settling.specs.Settle.{follows, SettledFrom};
 ghost use Rattle.ledger_settling.specs.Worklist.{Roomy, WaitsAt, ListedAt, NewestWaits, Judges, JudgesSuccessors, Empties};
 use ledger_judging::Judgement;
@@ -43,7 +42,7 @@ fn follows(b: &[u8], id: &[u8]) -> bool
 // Whether the place k, which is p, waits and its update names the id.
 fn waits_for(p: Place, store: &[u8], k: usize, id: Id) -> bool
     requires { ⌜ k < places ⌝ }
-    ensures { λ r. ⌜ r ≡ (isWaiting (p .standing) && follows id (decode (slice (now (store .entry)) (maxLength * k) (p .length)))) ⌝ }
+    ensures { λ r. ⌜ r ≡ (isWaiting (p .standing) && follows id (decodedIn (now (store .entry)) (placeOf p) k)) ⌝ }
 {
     if has_standing(p, Standing::Waiting) {
         follows(stored(store, k, p.length), &id)

@@ -15,8 +15,8 @@ use Rattle.update_format.specs.Decode.{decode}
 use Rattle.update_fields.specs.Fields.{testOf, authorIn, isAnyAdd, tagIn, setEntryIn}
 use Rattle.update_fields.specs.FieldLaws.{add-tag-length}
 use Rattle.rules.specs.SetEntry.{entryKey}
-use Rattle.ledger_state.specs.State.{Book, placeAt}
-use Rattle.ledger_relations.specs.PlaceTests.{idAt, decodedAt, heldAt, removedAt, presentAt}
+use Rattle.ledger_state.specs.State.{Book, placeAt, decodedAt}
+use Rattle.ledger_relations.specs.PlaceTests.{idAt, heldAt, removedAt, presentAt}
 use Rattle.ledger_sorting.specs.declared.Key.{Key}
 use Rattle.ledger_sorting.specs.declared.Key.the-variants.{Id, SetEntry}
 use Rattle.ledger_sorting.specs.PlaceLists.{hasKey, candidate, keyed}

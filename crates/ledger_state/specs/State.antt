@@ -8,7 +8,7 @@ use lib.ListN.{length}
 use lib.Dec.{eqb}
 use Rattle.bytes_order.specs.Order.{same}
 use Rattle.update_format.specs.Update.{Id, maxLength}
-use Rattle.update_format.specs.Decode.{slice}
+use Rattle.update_format.specs.Decode.{slice, Decoded, decode}
 use Rattle.bitset.specs.Below.{countBelow, firstBelow}
 use Rattle.ledger_state.specs.declared.Found.{Found}
 use Rattle.ledger_state.specs.declared.Found.the-variants.{At, Nowhere}
@@ -62,6 +62,13 @@ withStanding l k v w =
 -- "Place k's update is written from byte 533 × k of the lent store"
 abbrev pub storedAt : Book → List ℕ → ℕ → List ℕ
 storedAt l s k = slice s (maxLength * k) (placeAt l k .length)
+
+-- what the bytes of a place in the store decode to: of a place by value, with its number; and of the place k
+abbrev pub decodedIn : List ℕ → Place → ℕ → Decoded
+decodedIn s p k = decode (slice s (maxLength * k) (p .length))
+
+abbrev pub decodedAt : Book → List ℕ → ℕ → Decoded
+decodedAt l s k = decodedIn s (placeAt l k) k
 
 -- the first taken place with this id
 unfoldable pub findIn : Book → Id → Option ℕ

@@ -9,14 +9,15 @@ use lib.Dec.{eqb}
 use Rattle.bytes_order.specs.BoolLaws.{test-ext}
 use Rattle.bytes_order.specs.MemberLaws.{concatMap-cong}
 use Rattle.bitset.specs.Below.{anyBelow, upTo}
+use Rattle.bitset.specs.BelowLaws.{anyBelow-more, anyBelow-none, anyBelow-end}
 use Rattle.bitset.specs.Bits.{wordBits, has, includingBelow}
 use Rattle.bitset.specs.BitsLaws.{included, has-including, has-none}
 use Rattle.update_format.specs.Update.{maxAuthor}
 use Rattle.update_fields.specs.Fields.{authorIn}
 use Rattle.rules.specs.Mark.{marksBy}
-use Rattle.ledger_state.specs.State.{Book}
-use Rattle.ledger_relations.specs.PlaceTests.{decodedAt, authorAt}
-use Rattle.ledger_relations.proofs.Testing.{any-more, any-zero, with-true}
+use Rattle.ledger_state.specs.State.{Book, decodedAt}
+use Rattle.ledger_relations.specs.PlaceTests.{authorAt}
+use Rattle.ledger_relations.proofs.Testing.{with-true}
 use Rattle.report_parts.specs.declared.Evidence.{Evidence}
 use Rattle.report_parts.specs.declared.Evidence.the-variants.{Fork, Fault}
 use Rattle.report_parts.specs.PlaceParts.{authorMarks, evidenceAt, markedBy, marksOf}
@@ -45,14 +46,14 @@ module _ (l : Book) (s : List ℕ) (v : Evidence) where
       go false false = refl
 
   pub marked-start : (a : ℕ) → has 0 a ≡ anyBelow 0 (against a)
-  marked-start a = has-none a ∙ sym (any-zero (against a))
+  marked-start a = has-none a ∙ sym (anyBelow-none (against a))
 
   pub marked-more : (w w′ k : ℕ) → ((a : ℕ) → has w a ≡ anyBelow k (against a)) → ((a : ℕ) → has w′ a ≡ has w a || against a k) → (a : ℕ) → has w′ a ≡ anyBelow (k + 1) (against a)
-  marked-more w w′ k i e a = e a ∙ ap (λ (x : Bool). x || against a k) (i a) ∙ sym (any-more k (against a))
+  marked-more w w′ k i e a = e a ∙ ap (λ (x : Bool). x || against a k) (i a) ∙ sym (anyBelow-more k (against a))
 
   pub marked-end : (w k : ℕ) → k ≤ l .used → l .used ≤ k → ((a : ℕ) → has w a ≡ anyBelow k (against a)) → (a : ℕ) → has w a ≡ markedBy l s v a
   unfolding markedBy
-  marked-end w k h g i a = let e : k ≡ l .used = omega arith in i a ∙ ap (λ (m : ℕ). anyBelow m (against a)) e
+  marked-end w k h g i a = anyBelow-end (l .used) (against a) k h g (sym (i a))
 
 -- the marks by the two sets of authors
 pub marks-are : (l : Book) (s : List ℕ) (w v : ℕ) → ((a : ℕ) → has w a ≡ markedBy l s Fork a) → ((a : ℕ) → has v a ≡ markedBy l s Fault a)

@@ -10,8 +10,8 @@ use Rattle.bytes_order.specs.Order.{same}
 use Rattle.bytes_order.specs.Member.{keep}
 use Rattle.bytes_order.specs.MemberLaws.{keep-append}
 use Rattle.rules.specs.Standing.{beginning}
-use Rattle.ledger_state.specs.State.{places, Book, placeAt}
-use Rattle.ledger_relations.specs.PlaceTests.{decodedAt, heldAt, rankAt, idOrder}
+use Rattle.ledger_state.specs.State.{places, Book, placeAt, decodedAt}
+use Rattle.ledger_relations.specs.PlaceTests.{heldAt, rankAt, idOrder}
 use Rattle.ledger_relations.specs.Effects.{rankedIn}
 use Rattle.report_parts.specs.PlaceParts.{insertAt, byRank, after, putBy, putEntry, putAll, entriesOf}
 use Rattle.update_fields.specs.Fields.{anchorIn}

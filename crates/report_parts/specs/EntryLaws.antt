@@ -17,10 +17,10 @@ use Rattle.bytes_order.specs.MemberLaws.{∈-cases, keep-none, concatMap-append
 use Rattle.update_format.specs.Update.{Id}
 use Rattle.rules.specs.Standing.{beginning}
 use Rattle.rules.specs.TableLaws.{not-true→}
-use Rattle.ledger_relations.specs.PlaceTests.{idAt, decodedAt}
+use Rattle.ledger_relations.specs.PlaceTests.{idAt}
 use Rattle.report_parts.specs.PlaceParts.{after, putBy, putEntry, putAll}
 use Rattle.update_fields.specs.Fields.{anchorIn}
-use Rattle.ledger_state.specs.State.{Book}
+use Rattle.ledger_state.specs.State.{Book, decodedAt}
 
 module _ (l : Book) (s : List ℕ) where
   abbrev pub anchorAt : ℕ → Id

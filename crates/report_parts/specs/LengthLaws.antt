@@ -25,9 +25,9 @@ use Rattle.bitset.specs.Below.{upTo}
 use Rattle.bitset.specs.BelowLaws.{upTo-∈, upTo-length}
 use Rattle.update_fields.specs.Fields.{testOf, isAnyAdd, anchorIn}
 use Rattle.update_fields.specs.FieldLaws.{one-operation, author-small, tag-small, value-small}
-use Rattle.ledger_state.specs.State.{places, Book, placeAt, storedAt}
+use Rattle.ledger_state.specs.State.{places, Book, placeAt, storedAt, decodedAt}
 use Rattle.ledger_state.specs.StandingLaws.{one-standing}
-use Rattle.ledger_relations.specs.PlaceTests.{idAt, decodedAt, authorAt, heldAt, waitingAt, voidAt, rankAt, idOrder, removedAt, presentAt}
+use Rattle.ledger_relations.specs.PlaceTests.{idAt, authorAt, heldAt, waitingAt, voidAt, rankAt, idOrder, removedAt, presentAt}
 use Rattle.ledger_sorting.specs.PlaceLists.{sortedBy}
 use Rattle.report_parts.specs.declared.Evidence.the-variants.{Fork, Fault}
 use Rattle.report_parts.specs.PlaceParts.{markedBy, marksOf, setEntryAt, setOrder, insertAt, byRank, after, putBy, putEntry, putAll, entriesOf, valueAt}

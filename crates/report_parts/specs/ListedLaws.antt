@@ -32,10 +32,10 @@ use Rattle.bitset.specs.Below.{countBelow, upTo}
 use Rattle.bitset.specs.BelowLaws.{upTo-∈, ∈-upTo, countBelow-le, countBelow-lt, countBelow-length, anyBelow→, anyBelow←}
 use Rattle.bitset.specs.Bits.{has}
 use Rattle.bitset.specs.BitsLaws.{within→lt, count-within, count-lt}
-use Rattle.ledger_state.specs.State.{places, Book, placeAt}
+use Rattle.ledger_state.specs.State.{places, Book, placeAt, decodedAt}
 use Rattle.update_fields.specs.Fields.{testOf, anchorOf, anchorIn, valueIn}
 use Rattle.ledger_state.specs.Stands.{ident, updateAt, Stands}
-use Rattle.ledger_relations.specs.PlaceTests.{idAt, decodedAt, heldAt, deletedAt, shownAt, idOrder, rankAt}
+use Rattle.ledger_relations.specs.PlaceTests.{idAt, heldAt, deletedAt, shownAt, idOrder, rankAt}
 use Rattle.report_parts.specs.PlaceParts.{insertAt, byRank, entriesOf, valueAt}
 use Rattle.ledger_relations.specs.PlaceLaws.{from-used, to-used, place-of, place-id, same-place, places-distinct, place-decoded, place-test, held-at→, →held-at, above-at→, →above-at}
 use Rattle.ledger_relations.specs.RowLaws.{order-∈, ∈-order, order-ascending}

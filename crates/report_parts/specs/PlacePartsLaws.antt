@@ -29,8 +29,8 @@ use Rattle.bitset.specs.BelowLaws.{upTo-∈, ∈-upTo, upTo-ascending}
 use Rattle.update_fields.specs.Fields.{testOf, isAnyAdd, tagIn}
 use Rattle.update_fields.specs.FieldLaws.{→isAnyAdd, isAnyAdd→, add-tag}
 use Rattle.ledger_state.specs.Stands.{ident, updateAt, Stands}
-use Rattle.ledger_state.specs.State.{Book}
-use Rattle.ledger_relations.specs.PlaceTests.{idAt, decodedAt, authorAt, heldAt, forkedAt, faultAt, removedAt, presentAt, idOrder}
+use Rattle.ledger_state.specs.State.{Book, decodedAt}
+use Rattle.ledger_relations.specs.PlaceTests.{idAt, authorAt, heldAt, forkedAt, faultAt, removedAt, presentAt, idOrder}
 use Rattle.ledger_sorting.specs.PlaceLists.{sortedBy}
 use Rattle.report_parts.specs.PlaceParts.{authorMarks, markedBy, marksOf, setEntryAt, setOrder}
 use Rattle.report_parts.specs.declared.Evidence.the-variants.{Fork, Fault}

@@ -7,10 +7,10 @@ use lib.ListN.{drop}
 use Rattle.bytes_order.specs.Member.{keep, concatMap}
 use Rattle.bytes_ascii.specs.Ascii.{codes, ascii}
 use Rattle.rules.specs.declared.Form.{Form}
-use Rattle.ledger_state.specs.State.{Book}
+use Rattle.ledger_state.specs.State.{Book, decodedAt}
 use Rattle.report_wording.specs.declared.Part.{Part}
 use Rattle.report_wording.specs.declared.Part.the-variants.{Held, Heads, Waiting, Void, Set, List as Entries}
-use Rattle.ledger_relations.specs.PlaceTests.{idAt, decodedAt, authorAt, idOrder}
+use Rattle.ledger_relations.specs.PlaceTests.{idAt, authorAt, idOrder}
 use Rattle.report_parts.specs.PlaceParts.{marksOf, setEntryAt, setOrder, entriesOf, valueAt}
 use Rattle.report_wording.specs.Lines.{wordOf, lineBy}
 use Rattle.report_text.specs.Parts.{marksPart, updateLineAt, listedIn, lineOf, partLines, partOf}

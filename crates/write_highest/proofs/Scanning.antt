@@ -15,8 +15,8 @@ use Rattle.ledger_state.specs.declared.Found.{Found}
 use Rattle.ledger_state.specs.declared.Found.the-variants.{At, Nowhere}
 use Rattle.rules.specs.declared.Standing.{Standing}
 use Rattle.rules.specs.declared.Standing.the-variants.{Held, Waiting, Void}
-use Rattle.ledger_state.specs.State.{Book, placeAt, foundOf, isHeld}
-use Rattle.ledger_relations.specs.PlaceTests.{idAt, decodedAt, heldAt, authorAt, rankAt}
+use Rattle.ledger_state.specs.State.{Book, placeAt, decodedAt, foundOf, isHeld}
+use Rattle.ledger_relations.specs.PlaceTests.{idAt, heldAt, authorAt, rankAt}
 use Rattle.write_highest.specs.Top.{ownAt, higher, betterThan, topBelow}
 
 -- the author's own held places

@@ -6,9 +6,10 @@ use mathlib.Core.Bool.{true}
 use borrow.Author.Needs.{needs}
 use borrow.Author.Tests.{not-true, not-false}
 use Rattle.bitset.specs.Below.{allBelow}
+use Rattle.bitset.specs.BelowLaws.{allBelow-none, allBelow-next, allBelow-stop, allBelow-end}
 use Rattle.ledger_state.specs.View.{bookOf}
 use Rattle.ledger_judging.specs.Antichain.{clearBelow, antichainAt}
-use Rattle.ledger_judging.proofs.Clearing.{wherever, where-outside, where-inside, all-start, all-next, all-left, all-done}
+use Rattle.ledger_judging.proofs.Clearing.{wherever, where-outside, where-inside}
 use Rattle.ledger_judging.proofs.antichain.Statement.{statement}
 use Rattle.ledger_judging.proofs.antichain.Tie as tie
 
@@ -23,7 +24,7 @@ abbrev has→loop : tie.After-has Inv-loop μ-loop → tie.At-loop Inv-loop μ-l
 has→loop c = c .before .before
 
 loop-holds : tie.Need-loop-holds Inv-loop μ-loop
-loop-holds c = (search needs, all-start (c .args .l .used) (wherever (c .args .set) (clearBelow (bookOf (c .args .l)) (c .args .set))))
+loop-holds c = (search needs, allBelow-none (wherever (c .args .set) (clearBelow (bookOf (c .args .l)) (c .args .set))))
 
 has-requires : tie.Need-has-requires Inv-loop μ-loop
 has-requires c κs = search needs
@@ -40,7 +41,7 @@ returns c =
     let at-loop = has→loop at-has in
     let a = at-loop .before .args in
     let clear = clearBelow (bookOf (a .l)) (a .set) in
-    all-left (a .l .used) (wherever (a .set) clear) (at-loop .loop .k) (search needs)
+    allBelow-stop (a .l .used) (wherever (a .set) clear) (at-loop .loop .k) (search needs)
     (where-inside (a .set) clear (at-loop .loop .k) (at-has .has .ensures) (in-then1 .if1 .taken) (at-clear-below .clear-below .ensures) (not-true _ (c .if2 .taken)))
 
 add-k : tie.Need-add-k Inv-loop μ-loop
@@ -59,14 +60,14 @@ loop-again c =
     let passes : wherever (a .set) clear k ≡ true =
     ⊎-elim (λ w. where-inside (a .set) clear k (at-has .has .ensures) (w .0 .taken) (w .1 .ensures) (not-false _ (w .2 .left)))
     (λ w. where-outside (a .set) clear k (at-has .has .ensures) (w .left)) (c .if1 .came) in
-    (search needs, all-next (a .l .used) (wherever (a .set) clear) k (at-loop .loop .inv .1) passes)
+    (search needs, allBelow-next (wherever (a .set) clear) k (at-loop .loop .inv .1) passes)
 
 returns-2 : tie.Need-returns-2 Inv-loop μ-loop
 unfolding antichainAt
 returns-2 c =
     let at-loop = c .before in
     let a = at-loop .before .args in
-    all-done (a .l .used) (wherever (a .set) (clearBelow (bookOf (a .l)) (a .set))) (at-loop .loop .k) (search needs) (search needs) (at-loop .loop .inv .1)
+    allBelow-end (a .l .used) (wherever (a .set) (clearBelow (bookOf (a .l)) (a .set))) (at-loop .loop .k) (search needs) (search needs) (at-loop .loop .inv .1)
 
 pub antichain-spec : {M : Type 1} → statement M
 antichain-spec =

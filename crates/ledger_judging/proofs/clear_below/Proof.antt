@@ -6,9 +6,10 @@ use mathlib.Core.Bool.{true}
 use borrow.Author.Needs.{needs}
 use borrow.Author.Tests.{not-true, not-false}
 use Rattle.bitset.specs.Below.{allBelow}
+use Rattle.bitset.specs.BelowLaws.{allBelow-none, allBelow-next, allBelow-stop, allBelow-end}
 use Rattle.ledger_state.specs.View.{bookOf}
 use Rattle.ledger_judging.specs.Antichain.{clearBelow}
-use Rattle.ledger_judging.proofs.Clearing.{wherever, clearWith, where-outside, where-inside, all-start, all-next, all-left, all-done}
+use Rattle.ledger_judging.proofs.Clearing.{wherever, clearWith, where-outside, where-inside}
 use Rattle.ledger_judging.proofs.clear_below.Statement.{statement}
 use Rattle.ledger_judging.proofs.clear_below.Tie as tie
 
@@ -26,7 +27,7 @@ abbrev unordered→then1 : tie.After-unordered Inv-loop μ-loop → tie.Then1 In
 unordered→then1 c = c .before .before .before
 
 loop-holds : tie.Need-loop-holds Inv-loop μ-loop
-loop-holds c = let a = c .args in (search needs, all-start (a .k) (wherever (a .set) (clearWith (bookOf (a .t1)) (a .k))))
+loop-holds c = let a = c .args in (search needs, allBelow-none (wherever (a .set) (clearWith (bookOf (a .t1)) (a .k))))
 
 has-requires : tie.Need-has-requires Inv-loop μ-loop
 has-requires c κs = search needs
@@ -55,7 +56,7 @@ returns c =
     let at-loop = has→loop at-has in
     let a = at-loop .before .args in
     let clear = clearWith (bookOf (a .t1)) (a .k) in
-    all-left (a .k) (wherever (a .set) clear) (at-loop .loop .q) (search needs)
+    allBelow-stop (a .k) (wherever (a .set) clear) (at-loop .loop .q) (search needs)
     (where-inside (a .set) clear (at-loop .loop .q) (at-has .has .ensures) (in-then1 .if1 .taken) (at-unordered .unordered .ensures) (not-true _ (c .if2 .taken)))
 
 add-q : tie.Need-add-q Inv-loop μ-loop
@@ -74,14 +75,14 @@ loop-again c =
     let passes : wherever (a .set) clear q ≡ true =
     ⊎-elim (λ w. where-inside (a .set) clear q (at-has .has .ensures) (w .0 .taken) (w .3 .ensures) (not-false _ (w .4 .left)))
     (λ w. where-outside (a .set) clear q (at-has .has .ensures) (w .left)) (c .if1 .came) in
-    (search needs, all-next (a .k) (wherever (a .set) clear) q (at-loop .loop .inv .1) passes)
+    (search needs, allBelow-next (wherever (a .set) clear) q (at-loop .loop .inv .1) passes)
 
 returns-2 : tie.Need-returns-2 Inv-loop μ-loop
 unfolding clearBelow
 returns-2 c =
     let at-loop = c .before in
     let a = at-loop .before .args in
-    all-done (a .k) (wherever (a .set) (clearWith (bookOf (a .t1)) (a .k))) (at-loop .loop .q) (search needs) (search needs) (at-loop .loop .inv .1)
+    allBelow-end (a .k) (wherever (a .set) (clearWith (bookOf (a .t1)) (a .k))) (at-loop .loop .q) (search needs) (search needs) (at-loop .loop .inv .1)
 
 pub clear-below-spec : {M : Type 1} → statement M
 clear-below-spec =

@@ -1,16 +1,19 @@
 -- `sound` meets its contract. The loop's invariant: the places below k are sound.
 use Prim.Native.Nat.{_≤_, _-_}
-use mathlib.Core.Path.{sym, _∙_}
+use mathlib.Core.Path.{_≡_, sym, _∙_}
+use mathlib.Core.Bool.{true}
 use borrow.Author.Needs.{needs}
 use borrow.Author.Tests.{not-true, not-false}
 use denote.Ref.{now}
+use Rattle.bitset.specs.Below.{allBelow}
+use Rattle.bitset.specs.BelowLaws.{allBelow-none, allBelow-next, allBelow-stop, allBelow-end}
 use Rattle.ledger_state.specs.View.{bookOf}
-use Rattle.ledger_row1.proofs.Row1Laws.{SoundBelow, wrong-store, too-many, unsound, sound-first, sound-more, all-sound, by-places}
+use Rattle.ledger_row1.proofs.Row1Laws.{soundAt, wrong-store, too-many, by-places}
 use Rattle.ledger_row1.proofs.sound.Statement.{statement}
 use Rattle.ledger_row1.proofs.sound.Tie as tie
 
 abbrev Inv-loop : tie.InvT-loop
-Inv-loop store l used k₀ k = (k ≤ used) × SoundBelow (bookOf l) k
+Inv-loop store l used k₀ k = (k ≤ used) × (allBelow k (soundAt (bookOf l)) ≡ true)
 
 abbrev μ-loop : tie.MeasureT-loop
 μ-loop store l used k₀ k = used - k
@@ -39,7 +42,7 @@ returns-2 c =
     let a = at-start .args in too-many (bookOf (a .t1)) (now (a .store)) (search needs) (search needs)
 
 loop-holds : tie.Need-loop-holds Inv-loop μ-loop
-loop-holds c = (search needs, sound-first _)
+loop-holds c = (search needs, allBelow-none _)
 
 mul-sound-place : tie.Need-mul-sound-place Inv-loop μ-loop
 mul-sound-place c = search needs
@@ -56,7 +59,7 @@ returns-3 c =
     let at-loop = sound-place→loop at-sound-place in
     let at-start = loop→start at-loop in
     let a = at-start .args in
-    sym (unsound (bookOf (a .t1)) (at-loop .loop .k) (at-sound-place .sound-place .ensures) (search needs) (not-true _ (c .if3 .taken)))
+    allBelow-stop (a .t1 .used) (soundAt (bookOf (a .t1))) (at-loop .loop .k) (search needs) (sym (at-sound-place .sound-place .ensures) ∙ not-true _ (c .if3 .taken))
     ∙ by-places (bookOf (a .t1)) (now (a .store)) (search needs) (search needs)
 
 add-k : tie.Need-add-k Inv-loop μ-loop
@@ -72,8 +75,8 @@ loop-again c =
     let at-start = loop→start at-loop in
     let a = at-start .args in (
       search needs,
-      sound-more (bookOf (a .t1)) (at-loop .loop .k) (at-sound-place .sound-place .ensures)
-          (not-false _ (c .if3 .left)) (at-loop .loop .inv .1),
+      allBelow-next (soundAt (bookOf (a .t1))) (at-loop .loop .k) (at-loop .loop .inv .1)
+          (sym (at-sound-place .sound-place .ensures) ∙ not-false _ (c .if3 .left)),
     )
 
 returns-4 : tie.Need-returns-4 Inv-loop μ-loop
@@ -81,7 +84,8 @@ returns-4 c =
     let at-loop = c .before in
     let at-start = loop→start at-loop in
     let a = at-start .args in
-    sym (all-sound (bookOf (a .t1)) (at-loop .loop .k) (search needs) (at-loop .loop .inv .1)) ∙ by-places (bookOf (a .t1)) (now (a .store)) (search needs) (search needs)
+    allBelow-end (a .t1 .used) (soundAt (bookOf (a .t1))) (at-loop .loop .k) (search needs) (search needs) (at-loop .loop .inv .1)
+    ∙ by-places (bookOf (a .t1)) (now (a .store)) (search needs) (search needs)
 
 pub sound-spec : {M : Type 1} → statement M
 sound-spec =
