@@ -28,3 +28,8 @@ nothing p at =
 -- a text by another name
 pub same-text : {p t t′ p₁ : List ℕ} {at n : ℕ} → t ≡ t′ → Prints p at t p₁ n → Prints p at t′ p₁ n
 same-text {p} {t} {t′} {p₁} {at} {n} e a = subst (λ (x : List ℕ). Prints p at x p₁ n) e a
+
+-- the word of a case k, where k is the case j and the text is the word of j
+pub same-word : {K : Type 0} (word : K → List ℕ) {k j : K} {p t p₁ : List ℕ} {at n : ℕ} →
+    k ≡ j → Prints p at t p₁ n → t ≡ word j → Prints p at (word k) p₁ n
+same-word word e a same = same-text (same ∙ ap word (sym e)) a

@@ -1,34 +1,18 @@
 -- The answers' texts as they are printed: in pieces, and in bytes.
-use mathlib.Core.Path.{_≡_, refl, ap, sym, _∙_}
+use mathlib.Core.Path.{_≡_, refl, ap}
 use Prim.Native.Nat.{ℕ, _<_}
 use native.Mathlib.Omega.{arith}
-use mathlib.Core.List.{List, [], _∷_, _++_}
+use mathlib.Core.List.{[], _∷_, _++_}
 use Rattle.update_format.specs.declared.Malformed.{Malformed}
 use Rattle.update_format.specs.declared.Malformed.the-variants.{Length, Version, Author, Predecessors, Truncated, Kind, Layout, Unordered}
 use Rattle.update_format.specs.ParseResult.{malformedNumber}
 use Rattle.bytes_ascii.specs.Ascii.{codes, ascii, decimal, twoDigits}
 use Rattle.rules.specs.declared.Standing.{Standing}
-use Rattle.rules.specs.declared.Standing.the-variants.{Held, Waiting, Void}
 use Rattle.ledger_refusals.specs.declared.Refusal.{Refusal}
 use Rattle.ledger_refusals.specs.declared.Refusal.the-variants.{Unfit, Malformed as Bad, Full, Short, Invalid}
 use Rattle.ledger_offering.specs.declared.Answer.the-variants.{Taken, Known, Refused}
 use Rattle.ledger_offering.specs.Words.{standingWord, valuesText, answerText}
 use Rattle.ledger_refusals.specs.Numbers.{refusalNumber}
-
--- a standing's word in bytes
-abbrev pub bytesOf : Standing → List ℕ
-bytesOf Held = 104 ∷ 101 ∷ 108 ∷ 100 ∷ []
-bytesOf Waiting = 119 ∷ 97 ∷ 105 ∷ 116 ∷ 105 ∷ 110 ∷ 103 ∷ []
-bytesOf Void = 118 ∷ 111 ∷ 105 ∷ 100 ∷ []
-
-word-bytes : (v : Standing) → bytesOf v ≡ standingWord v
-unfolding standingWord ascii codes
-word-bytes Held = refl
-word-bytes Waiting = refl
-word-bytes Void = refl
-
-pub word-is : {v w : Standing} → v ≡ w → bytesOf w ≡ standingWord v
-word-is {v} {w} e = word-bytes w ∙ ap standingWord (sym e)
 
 -- 40, 41, 32 and 10 are the brackets, the space and the newline
 

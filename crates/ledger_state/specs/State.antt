@@ -3,7 +3,7 @@
 use Prim.Native.Nat.{ℕ, _+_, _*_}
 use mathlib.Core.List.{List}
 use mathlib.Core.Option.{Option, none, some}
-use mathlib.Core.Bool.{Bool, true, false, cond}
+use mathlib.Core.Bool.{Bool, cond}
 use lib.ListN.{length}
 use lib.Dec.{eqb}
 use Rattle.bytes_order.specs.Order.{same}
@@ -13,7 +13,7 @@ use Rattle.bitset.specs.Below.{countBelow, firstBelow}
 use Rattle.ledger_state.specs.declared.Found.{Found}
 use Rattle.ledger_state.specs.declared.Found.the-variants.{At, Nowhere}
 use Rattle.rules.specs.declared.Standing.{Standing}
-use Rattle.rules.specs.declared.Standing.the-variants.{Held, Waiting, Void}
+use Rattle.rules.specs.declared.Standing.the-variants.{Waiting}
 -- "There are 64 places."
 pub use Rattle.rules.specs.Report.{places}
 -- a standing is held, waiting or void

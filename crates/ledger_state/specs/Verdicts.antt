@@ -1,5 +1,5 @@
--- The standings of a ledger's places as verdicts on its updates.
-use mathlib.Core.Path.{_≡_, refl, sym, _∙_, ap}
+-- The standings of a ledger's places as verdicts on its updates: what each update of a ledger is said to be, waiting where it has no place.
+use mathlib.Core.Path.{_≡_, sym, _∙_, ap}
 use Prim.Native.Nat.{ℕ, _<_}
 use mathlib.Core.List.{List}
 use mathlib.Core.Option.{Option, none, some}

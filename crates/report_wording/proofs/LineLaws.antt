@@ -1,6 +1,6 @@
--- The lines and the words of the report in bytes, as they are printed.
+-- The lines of the report in bytes, as they are printed.
 use Prim.Native.Nat.{ℕ}
-use mathlib.Core.Path.{_≡_, refl, sym, ap, _∙_}
+use mathlib.Core.Path.{_≡_, refl, ap, _∙_}
 use mathlib.Core.List.{List, [], _∷_, _++_, append-assoc}
 use denote.Enum.Declared.{tagOf}
 use types.Run.{OneOf, miss}
@@ -8,15 +8,14 @@ use Rattle.update_format.specs.Update.{Id}
 use Rattle.update_format.specs.Decode.{Decoded}
 use Rattle.bytes_ascii.specs.Ascii.{codes, ascii, hex, decimal}
 use Rattle.rules.specs.declared.MarkKind.{MarkKind}
-use Rattle.rules.specs.declared.MarkKind.the-variants.{Fork, Fault, Both}
-use Rattle.rules.specs.Report.{setLine, bytesLine, markWord, markLine}
+use Rattle.rules.specs.Report.{setLine, bytesLine, markLine}
 use Rattle.update_fields.specs.Fields.{authorIn, tagIn, setEntryIn}
 use Rattle.report_wording.specs.declared.Part.{Part}
 use Rattle.report_wording.specs.declared.Part.the-variants.{Held, Heads, Waiting, Void, Set, List as Entries}
-use Rattle.report_wording.specs.Lines.{wordOf, markEnd, authorLineBy, lineBy}
+use Rattle.report_wording.specs.Lines.{markEnd, authorLineBy, lineBy}
 use Rattle.report_wording.proofs.Part.{the-type}
 
--- lines: 40, 41, 32 and 10 are the brackets, the space and the newline
+-- 40, 41, 32 and 10 are the brackets, the space and the newline
 
 pub open-bytes : (bs : List ℕ) → (40 ∷ []) ++ hex bs ≡ ascii "(" ++ hex bs
 unfolding ascii codes
@@ -29,21 +28,6 @@ bytes-line bs = append-assoc (40 ∷ []) (hex bs) (41 ∷ 10 ∷ [])
 pub mark-line : (a : ℕ) (k : MarkKind) → (40 ∷ []) ++ (decimal a ++ markEnd k) ≡ markLine (record { author = a; kind = k })
 unfolding markLine ascii codes
 mark-line a k = refl
-
--- the end of a mark's line in bytes
-abbrev endBytes : MarkKind → List ℕ
-endBytes Fork = 32 ∷ 102 ∷ 111 ∷ 114 ∷ 107 ∷ 41 ∷ 10 ∷ []
-endBytes Fault = 32 ∷ 102 ∷ 97 ∷ 117 ∷ 108 ∷ 116 ∷ 41 ∷ 10 ∷ []
-endBytes Both = 32 ∷ 98 ∷ 111 ∷ 116 ∷ 104 ∷ 41 ∷ 10 ∷ []
-
-end-bytes : (k : MarkKind) → endBytes k ≡ markEnd k
-unfolding markWord ascii codes
-end-bytes Fork = refl
-end-bytes Fault = refl
-end-bytes Both = refl
-
-pub end-is : {k j : MarkKind} → k ≡ j → endBytes j ≡ markEnd k
-end-is {k} {j} e = end-bytes j ∙ ap markEnd (sym e)
 
 pub author-line : (bs : List ℕ) (d : Decoded) (a : ℕ) → a ≡ authorIn d →
     (ascii "(" ++ hex bs) ++ ((32 ∷ []) ++ (decimal a ++ (41 ∷ 10 ∷ []))) ≡ authorLineBy bs d
@@ -65,24 +49,3 @@ update-lines i d Void n = refl
 update-lines i d Heads n = absurd (miss (0 ∷ 2 ∷ 3 ∷ []) 1 tt n)
 update-lines i d Set n = absurd (miss (0 ∷ 2 ∷ 3 ∷ []) 4 tt n)
 update-lines i d Entries n = absurd (miss (0 ∷ 2 ∷ 3 ∷ []) 5 tt n)
-
--- a part's word in bytes
-abbrev pub bytesOf : Part → List ℕ
-bytesOf Held = 40 ∷ 104 ∷ 101 ∷ 108 ∷ 100 ∷ 10 ∷ []
-bytesOf Heads = 40 ∷ 104 ∷ 101 ∷ 97 ∷ 100 ∷ 115 ∷ 10 ∷ []
-bytesOf Waiting = 40 ∷ 119 ∷ 97 ∷ 105 ∷ 116 ∷ 105 ∷ 110 ∷ 103 ∷ 10 ∷ []
-bytesOf Void = 40 ∷ 118 ∷ 111 ∷ 105 ∷ 100 ∷ 10 ∷ []
-bytesOf Set = 40 ∷ 115 ∷ 101 ∷ 116 ∷ 10 ∷ []
-bytesOf Entries = 40 ∷ 108 ∷ 105 ∷ 115 ∷ 116 ∷ 10 ∷ []
-
-word-bytes : (p : Part) → bytesOf p ≡ wordOf p
-unfolding ascii codes
-word-bytes Held = refl
-word-bytes Heads = refl
-word-bytes Waiting = refl
-word-bytes Void = refl
-word-bytes Set = refl
-word-bytes Entries = refl
-
-pub word-is : {p q : Part} → p ≡ q → bytesOf q ≡ wordOf p
-word-is {p} {q} e = word-bytes q ∙ ap wordOf (sym e)

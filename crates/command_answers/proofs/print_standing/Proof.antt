@@ -1,29 +1,11 @@
 -- `print_standing` meets its contract, by the standing.
 use native.Mathlib.Omega.{arith}
-use Rattle.bytes_print.proofs.Printing.{same-text}
-use Rattle.command_answers.proofs.AnswerLaws.{word-is}
 use borrow.Author.Needs.{needs}
+use Rattle.bytes_ascii.specs.Ascii.{codes, ascii}
+use Rattle.bytes_print.proofs.Printing.{same-word}
+use Rattle.ledger_offering.specs.Words.{standingWord}
 use Rattle.command_answers.proofs.print_standing.Statement.{statement}
 use Rattle.command_answers.proofs.print_standing.Tie as tie
-
--- places of the code, each from a later one
-abbrev put→enum-told : tie.After-put → tie.After-enum-told
-put→enum-told c = c .before .before .before
-
-abbrev put2→enum-told2 : tie.After-put2 → tie.After-enum-told2
-put2→enum-told2 c = c .before .before .before
-
-abbrev put3→enum-told3 : tie.After-put3 → tie.After-enum-told3
-put3→enum-told3 c = c .before .before .before
-
-abbrev slice-known2→put : tie.After-slice-known2 → tie.After-put
-slice-known2→put c = c .before .before
-
-abbrev slice-known3→put2 : tie.After-slice-known3 → tie.After-put2
-slice-known3→put2 c = c .before .before
-
-abbrev slice-known4→put3 : tie.After-slice-known4 → tie.After-put3
-slice-known4→put3 c = c .before .before
 
 enum-told : tie.Need-enum-told
 enum-told c = search needs
@@ -56,34 +38,22 @@ same-length : tie.Need-same-length
 same-length c = search needs
 
 returns : tie.Need-returns
-returns c =
-    let at-put = slice-known2→put c in
-    let at-enum-told = put→enum-told at-put in
-    let enum-told = at-enum-told .enum-told in
-    let put′ = at-put .put in
-    (same-text (word-is (enum-told .given .1)) (put′ .ensures), omega (arith, put′ .ensures .past))
+unfolding standingWord ascii codes
+returns c = (search (same-word standingWord), omega arith)
 
 same-length-2 : tie.Need-same-length-2
 same-length-2 c = search needs
 
 returns-2 : tie.Need-returns-2
-returns-2 c =
-    let at-put2 = slice-known3→put2 c in
-    let at-enum-told2 = put2→enum-told2 at-put2 in
-    let enum-told = at-enum-told2 .enum-told2 in
-    let put′ = at-put2 .put2 in
-    (same-text (word-is (enum-told .given .1)) (put′ .ensures), omega (arith, put′ .ensures .past))
+unfolding standingWord ascii codes
+returns-2 c = (search (same-word standingWord), omega arith)
 
 same-length-3 : tie.Need-same-length-3
 same-length-3 c = search needs
 
 returns-3 : tie.Need-returns-3
-returns-3 c =
-    let at-put3 = slice-known4→put3 c in
-    let at-enum-told3 = put3→enum-told3 at-put3 in
-    let enum-told = at-enum-told3 .enum-told3 in
-    let put′ = at-put3 .put3 in
-    (same-text (word-is (enum-told .given .1)) (put′ .ensures), omega (arith, put′ .ensures .past))
+unfolding standingWord ascii codes
+returns-3 c = (search (same-word standingWord), omega arith)
 
 pub print-standing-spec : {M : Type 1} → statement M
 print-standing-spec =
