@@ -29,7 +29,7 @@ use Rattle.rules.specs.Settling.{settled-decides}
 use Rattle.rules.specs.Decides.{Decides}
 use Rattle.ledger_state.specs.declared.Ledger.{Ledger}
 use Rattle.ledger_state.specs.View.{bookOf}
-use Rattle.ledger_state.specs.State.{places, Book, placeAt, standingCount, isHeld as stateHeld, isVoid as stateVoid}
+use Rattle.ledger_state.specs.State.{places, Book, placeAt, standingCount}
 use Rattle.ledger_state.specs.Stands.{ident, noUpdate, updateAt, Stands}
 use Rattle.ledger_state.specs.FindLaws.{stored-at, find-right}
 use Rattle.ledger_state.specs.TakeLaws.{stands-sound}
@@ -80,7 +80,7 @@ module _ (l : Book) (s : List ℕ) (us : List Update) (stands : Stands l s us) w
 
   -- a place's standing is its update's verdict
   standing-by : (k : ℕ) → k < length us → (r : Row) → r ∈ settledTable ident us → r .update ≡ updateAt us k → (v : Standing) → r .verdict ≡ v
-      → (placeAt l k .standing) ≡ standingIn (settledTable ident us) (ident (updateAt us k))
+      → placeAt l k .standing ≡ standingIn (settledTable ident us) (ident (updateAt us k))
   unfolding standingIn isHeld isVoid heldIn voidIn
   standing-by k h r m e IsHeld q =
       let i : r .id ≡ ident (updateAt us k) = D .has-id r m ∙ ap ident e in
@@ -101,14 +101,14 @@ module _ (l : Book) (s : List ℕ) (us : List Update) (stands : Stands l s us) w
       not-true→false (voidIn (settledTable ident us) (ident (updateAt us k))) (λ t. true-false (row-test (settledTable ident us) isVoid (ident (updateAt us k)) (D .once) m i t) (ap isVoid q)) in
       rw (w, n, o)
 
-  pub standing-right : (k : ℕ) → k < length us → (placeAt l k .standing) ≡ standingIn (settledTable ident us) (ident (updateAt us k))
+  pub standing-right : (k : ℕ) → k < length us → placeAt l k .standing ≡ standingIn (settledTable ident us) (ident (updateAt us k))
   standing-right k h =
       let r = D .row-for (updateAt us k) (stored-at us k h) in
       standing-by k h (r .0) (r .1) (r .2) (r .0 .verdict) refl
 
 -- the place that an offer takes says how the update stands, and the counts say what changed
 taken-right : (l : Book) (s : List ℕ) (us : List Update) → Stands l s us → (u : Update) (r : Book) (s′ : List ℕ) → Stands r s′ (us ++ (u ∷ []))
-    → takenAs (placeAt r (l .used) .standing) (standingCount stateHeld r - standingCount stateHeld l) (standingCount stateVoid r - standingCount stateVoid l)
+    → takenAs (placeAt r (l .used) .standing) (standingCount isHeld r - standingCount isHeld l) (standingCount isVoid r - standingCount isVoid l)
     ≡ takenFor (settledTable ident us) (settledTable ident (us ++ (u ∷ []))) (ident u)
 unfolding takenFor heldNumber voidNumber
 taken-right l s us stands u r s′ after =

@@ -18,7 +18,7 @@ pub data AskedValues : Type 0 where
   refusedAs : ℕ → AskedValues
 
 abbrev pub askedValues : Asked → AskedValues
-askedValues (Is v) = standsAs (v)
+askedValues (Is v) = standsAs v
 askedValues Unknown = unknownId
 askedValues (Refused r) = refusedAs (refusalNumber r)
 

@@ -150,9 +150,9 @@ module _ (l : Book) (s : List ℕ) (us : List Update) (stands : Stands l s us) w
   pub stands-answers : AnswersFor l s us
   stands-answers =
       record {
-        held-asked = λ u h. let r = asked-says u (held-stored ident us h) in r .2 ∙ ap (λ (v : Standing). standsAs v) (only-held us (r .0) u (r .1) h);
-        waiting-asked = λ u h. let r = asked-says u (h .stored) in r .2 ∙ ap (λ (v : Standing). standsAs v) (only-waiting us (r .0) u (r .1) h);
-        void-asked = λ u h. let r = asked-says u (void-stored ident us h) in r .2 ∙ ap (λ (v : Standing). standsAs v) (only-void us (r .0) u (r .1) h);
+        held-asked = λ u h. let r = asked-says u (held-stored ident us h) in r .2 ∙ ap standsAs (only-held us (r .0) u (r .1) h);
+        waiting-asked = λ u h. let r = asked-says u (h .stored) in r .2 ∙ ap standsAs (only-waiting us (r .0) u (r .1) h);
+        void-asked = λ u h. let r = asked-says u (void-stored ident us h) in r .2 ∙ ap standsAs (only-void us (r .0) u (r .1) h);
         unknown-asked = λ i new. asked-found i none (unfound i new (findIn l i) refl);
       }
     where

@@ -12,7 +12,7 @@ use Rattle.ledger.specs.Ask.{askedValues}
 use Rattle.ledger.specs.Report.{reportValues}
 
 pub asked-one : (a b : Asked) → askedValues a ≡ askedValues b → a ≡ b
-asked-one (Is v) (Is w) e = let p : v ≡ w = cc in ap Is (p)
+asked-one (Is v) (Is w) e = let p : v ≡ w = cc in ap Is p
 asked-one (Is v) Unknown e = let z : _≡_ {A = ℕ} 0 1 = cc in absurd (omega arith)
 asked-one (Is v) (NotAsked r) e = let z : _≡_ {A = ℕ} 0 1 = cc in absurd (omega arith)
 asked-one Unknown (Is w) e = let z : _≡_ {A = ℕ} 0 1 = cc in absurd (omega arith)

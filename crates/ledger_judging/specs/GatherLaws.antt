@@ -16,6 +16,7 @@ use Rattle.bytes_order.specs.BoolLaws.{true-false, not-true→false, and-true�
 use Rattle.bytes_order.specs.MemberLaws.{∈-cast, any→∈, ∈→any, any-false→, any-false}
 use Rattle.bytes_order.specs.DistinctLaws.{distinct-index}
 use Rattle.update_format.specs.Update.{Id, Update}
+use Rattle.rules.specs.SettlingTable.{isHeld→, isVoid→}
 use Rattle.rules.specs.TableLaws.{not-true→, not-true}
 use Rattle.bitset.specs.Below.{countBelow}
 use Rattle.bitset.specs.BelowLaws.{countBelow-cong, countBelow-with}
@@ -27,7 +28,7 @@ use Rattle.ledger_judging.specs.declared.Gathered.{Gathered}
 use Rattle.ledger_state.specs.State.{Book, placeAt, findIn, isHeld, isWaiting, isVoid}
 use Rattle.ledger_judging.specs.Judge.{nothingGathered, gatherBy, gatherAt, gather, allHeld}
 use Rattle.ledger_state.specs.Stands.{ident, noUpdate, updateAt, Holds}
-use Rattle.ledger_state.specs.StandingLaws.{isHeld→, isVoid→, held-left}
+use Rattle.ledger_state.specs.StandingLaws.{held-left}
 use Rattle.ledger_state.specs.FindLaws.{find-taken, find-right, find-all}
 
 -- each id is that of an update at a held place

@@ -15,6 +15,7 @@ use Rattle.update_format.specs.Laws.{decode-complete}
 use Rattle.rules.specs.Standing.{Ancestor, Held}
 use Rattle.rules.specs.CausalOrder.{OrderExactly}
 use Rattle.rules.specs.LeastSets.{held-not-void}
+use Rattle.rules.specs.SettlingTable.{isHeld→}
 use Rattle.bitset.specs.Below.{upTo}
 use Rattle.bitset.specs.BelowLaws.{upTo-∈, upTo-ascending}
 use Rattle.bitset.specs.Bits.{has}
@@ -25,7 +26,6 @@ use Rattle.ledger_state.specs.PlaceOrder.{orderAt}
 use Rattle.ledger_state.specs.PlaceOrderLaws.{order-at-exactly}
 use Rattle.update_fields.specs.Fields.{testOf, authorIn}
 use Rattle.ledger_state.specs.Stands.{ident, noUpdate, updateAt, Stands}
-use Rattle.ledger_state.specs.StandingLaws.{isHeld→}
 use Rattle.ledger_relations.specs.PlaceTests.{idAt, heldAt, authorAt}
 
 module _ {l : Book} {s : List ℕ} {us : List Update} (stands : Stands l s us) where

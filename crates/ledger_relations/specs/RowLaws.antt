@@ -33,7 +33,6 @@ use Rattle.ledger_state.specs.State.{Book, placeAt, decodedAt}
 use Rattle.update_fields.specs.Fields.{testOf}
 use Rattle.ledger_state.specs.PlaceOrder.{orderAt}
 use Rattle.ledger_state.specs.Stands.{ident, noUpdate, updateAt, Stands}
-use Rattle.ledger_state.specs.StandingLaws.{isHeld→ as isHeld→at}
 use Rattle.ledger_judging.specs.Judge.{readyAt}
 use Rattle.ledger_judging.specs.JudgeLaws.{ready-at→, →ready-at}
 use Rattle.ledger_relations.specs.PlaceTests.{idAt, heldAt, waitingAt, voidAt, authorAt, coveredAt, headAt, forkedWith, forkedAt, faultAt, idOrder}
@@ -237,10 +236,10 @@ module _ {l : Book} {s : List ℕ} {us : List Update} (stands : Stands l s us) w
       let r = all-held T (rowAt us k .update) e .held-row i (subst (λ (u : Update). i ∈ u .preds) (sym (row-update h)) m) in
       let f = row-of (r .0) (r .1) in
       let v : heldAt l s (f .0) ≡ true = sym (held-agrees (f .0) (f .1)) ∙ ap (λ (q : Row). isHeld (q .verdict)) (f .2) ∙ ap isHeld (r .3) in
-      (f .0, f .1, sym (row-id (f .1) ∙ place-id stands (f .1)) ∙ ap (λ (q : Row). q .id) (f .2) ∙ r .2, isHeld→at (placeAt l (f .0) .standing) v)))
+      (f .0, f .1, sym (row-id (f .1) ∙ place-id stands (f .1)) ∙ ap (λ (q : Row). q .id) (f .2) ∙ r .2, isHeld→ (placeAt l (f .0) .standing) v)))
       (λ e. ∈→all (heldIn T) (rowAt us k .update .preds) (λ i m.
       let r = ready-at→ l s us (stands .holds) k h e i (subst (λ (u : Update). i ∈ u .preds) (row-update h) m) in
-      held-in (found (r .1) .0) (row-id (r .1) ∙ place-id stands (r .1) ∙ r .2) (verdict-agrees (r .1) ∙ (r .3))))
+      held-in (found (r .1) .0) (row-id (r .1) ∙ place-id stands (r .1) ∙ r .2) (verdict-agrees (r .1) ∙ r .3)))
 
   pub fault-agrees : (k : ℕ) → k < length us → faultRow (settledTable ident us) (rowAt us k) ≡ faultAt l s k
   unfolding faultRow faultAt

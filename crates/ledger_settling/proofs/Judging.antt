@@ -5,7 +5,7 @@ use native.Mathlib.Omega.{arith}
 use native.Mathlib.Numerals.{add-one}
 use mathlib.Core.Logic.{⊎-elim}
 use mathlib.Core.List.{List, _∷_, [], _++_}
-use mathlib.Core.Bool.{true, false, false≢true}
+use mathlib.Core.Bool.{true, false}
 use lib.Dec.{eqb}
 use borrow.Author.Tests.{eqb-true, eq-eqb}
 use lib.ListN.{length, getD, take, set, length-set, replicate, length-replicate}
@@ -13,7 +13,7 @@ use lib.Seq.{take-suc-set, getD-set-same, getD-set-other}
 use Rattle.bytes_order.specs.BoolLaws.{bool-cases, true-false}
 use Rattle.bitset.specs.BelowLaws.{countBelow-le}
 use Rattle.rules.specs.declared.Standing.{Standing}
-use Rattle.rules.specs.declared.Standing.the-variants.{Held as IsHeld, Waiting as IsWaiting, Void as IsVoid}
+use Rattle.rules.specs.declared.Standing.the-variants.{Held as IsHeld, Void as IsVoid}
 use Rattle.ledger_judging.specs.declared.Judgement.the-variants.{Holds as Judged-holds, Fails, Waits}
 use Rattle.ledger_state.specs.State.{places, Book, placeAt, withStanding, isWaiting, standingCount}
 use Rattle.ledger_state.specs.View.{bookOf}
@@ -21,12 +21,6 @@ use Rattle.ledger_judging.specs.Judge.{judgeAt}
 use Rattle.ledger_settling.specs.declared.Settling.{Settling}
 use Rattle.ledger_settling.specs.Worklist.{Progress, progressOf, Judged, waits, holds, fails, Roomy, WaitsAt, Judges}
 use Rattle.ledger_settling.specs.CountLaws.{one-less}
-
-pub isWaiting→ : (v : Standing) → isWaiting v ≡ true → v ≡ IsWaiting
-unfolding isWaiting
-isWaiting→ IsHeld e = absurd (false≢true e)
-isWaiting→ IsWaiting e = refl
-isWaiting→ IsVoid e = absurd (false≢true e)
 
 progress-same : {b b′ : Book} {ws ws′ : List ℕ} {h h′ v v′ : ℕ} → b ≡ b′ → ws ≡ ws′ → h ≡ h′ → v ≡ v′
     → _≡_ {A = Progress} (record { book = b; worklist = ws; held = h; void = v }) (record { book = b′; worklist = ws′; held = h′; void = v′ })

@@ -8,6 +8,7 @@ use mathlib.Core.Bool.{true, false, _&&_}
 use lib.ListN.{length, getD, take}
 use lib.Seq.{length-take-le, getD-take}
 use Rattle.update_format.specs.Update.{Id}
+use Rattle.rules.specs.SettlingTable.{isWaiting→}
 use Rattle.rules.specs.declared.Standing.the-variants.{Held as IsHeld, Waiting as IsWaiting, Void as IsVoid}
 use Rattle.ledger_state.specs.State.{Place, Book, placeAt, decodedIn, isWaiting}
 use Rattle.ledger_state.specs.View.{bookOf}
@@ -17,7 +18,6 @@ use Rattle.ledger_settling.specs.Settle.{follows, followsAt}
 use Rattle.ledger_settling.specs.Worklist.{Progress, progressOf, Judged, waits, holds, fails, WorklistAt, SuccessorsAt, Roomy, ListedAt, Judges, JudgesSuccessors, Empties}
 use Rattle.ledger_settling.specs.SettleLaws.{settled-place}
 use Rattle.ledger_settling.specs.WorklistLaws.{successors-begin, place-passed, place-judged, successors-end, worklist-end}
-use Rattle.ledger_settling.proofs.Judging.{isWaiting→}
 
 -- judging a place keeps how many are taken, and the other places
 judged-used : {s : List ℕ} {k : ℕ} {p q : Progress} → Judged s k p q → q .book .used ≡ p .book .used

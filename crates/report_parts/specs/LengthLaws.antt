@@ -20,13 +20,13 @@ use Rattle.update_format.specs.Update.{Id, tagLength, maxAuthor}
 use Rattle.rules.specs.Standing.{beginning}
 use Rattle.rules.specs.Settle.{isInsert}
 use Rattle.rules.specs.Mark.{Mark, marksBy}
+use Rattle.rules.specs.ReportLengthLaws.{one-standing}
 use Rattle.rules.specs.MarkLaws.{marks-by-author, marks-by-few}
 use Rattle.bitset.specs.Below.{upTo}
 use Rattle.bitset.specs.BelowLaws.{upTo-∈, upTo-length}
 use Rattle.update_fields.specs.Fields.{testOf, isAnyAdd, anchorIn}
 use Rattle.update_fields.specs.FieldLaws.{one-operation, author-small, tag-small, value-small}
 use Rattle.ledger_state.specs.State.{places, Book, placeAt, storedAt, decodedAt}
-use Rattle.ledger_state.specs.StandingLaws.{one-standing}
 use Rattle.ledger_relations.specs.PlaceTests.{idAt, authorAt, heldAt, waitingAt, voidAt, rankAt, idOrder, removedAt, presentAt}
 use Rattle.ledger_sorting.specs.PlaceLists.{sortedBy}
 use Rattle.report_parts.specs.declared.Evidence.the-variants.{Fork, Fault}

@@ -103,16 +103,16 @@ unfolding below
 ∈-below a zero h = absurd (not-suc-le-zero h)
 ∈-below a (suc n) h = ⊎-elim (λ (e : a ≡ n). List·Memᴰ·head (ap (λ (k : ℕ). k ∷ []) e)) (λ (k : a < n). List·Memᴰ·tail (∈-below a n k)) (eq-or-lt-of-le (le-of-suc-le-suc h))
 
--- a row has one verdict
-one-verdict : (v : Standing) → oneIf (isHeld v) + oneIf (isWaiting v) + oneIf (isVoid v) ≤ 1
+-- no two of the tests of a standing are passed
+pub one-standing : (v : Standing) → oneIf (isHeld v) + oneIf (isWaiting v) + oneIf (isVoid v) ≤ 1
 unfolding isHeld isWaiting isVoid
-one-verdict held = omega arith
-one-verdict waiting = omega arith
-one-verdict void = omega arith
+one-standing held = omega arith
+one-standing waiting = omega arith
+one-standing void = omega arith
 
 by-verdict : (T : Table)
     → length (keep (λ (r : Row). isHeld (r .verdict)) T) + length (keep (λ (r : Row). isWaiting (r .verdict)) T) + length (keep (λ (r : Row). isVoid (r .verdict)) T) ≤ length T
-by-verdict T = keep-three-length (λ (r : Row). isHeld (r .verdict)) (λ (r : Row). isWaiting (r .verdict)) (λ (r : Row). isVoid (r .verdict)) T (λ r. one-verdict (r .verdict))
+by-verdict T = keep-three-length (λ (r : Row). isHeld (r .verdict)) (λ (r : Row). isWaiting (r .verdict)) (λ (r : Row). isVoid (r .verdict)) T (λ r. one-standing (r .verdict))
 
 -- an update is an Add or an Insert, not both
 insertRow : Row → Bool
