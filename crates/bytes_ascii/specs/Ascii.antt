@@ -33,6 +33,6 @@ decimalIn (suc k) n = cond (ltb n 10) (digit n ∷ []) (decimalIn k (n / 10) ++ 
 unfoldable pub decimal : ℕ → List ℕ
 decimal n = decimalIn 20 n
 
--- a number below this has at most two decimal digits
-abbrev pub twoDigits : ℕ
-twoDigits = 100
+-- numbers below this are printed: they have at most four decimal digits
+abbrev pub decimalLimit : ℕ
+decimalLimit = 10000

@@ -3,7 +3,7 @@ use mathlib.Core.Path.{_≡_}
 use Prim.Native.Nat.{ℕ, _+_, _≤_, _<_}
 use mathlib.Core.List.{List}
 use lib.ListN.{length}
-use Rattle.bytes_ascii.specs.Ascii.{twoDigits}
+use Rattle.bytes_ascii.specs.Ascii.{decimalLimit}
 use Rattle.bytes_copy.specs.Overwritten.{overwritten}
 
 -- no byte beyond this one is printed at, so that no sum wraps: the whole report is far shorter
@@ -16,7 +16,7 @@ pub record Prints (page : List ℕ) (at : ℕ) (text page′ : List ℕ) (next :
   pub past : next ≡ at + length text
   pub fits : next ≤ length page → page′ ≡ overwritten page at text
 
--- what is asked to print a number of at most two digits at byte `at`
+-- what is asked to print a number at byte `at`
 pub record DecimalAt (at n : ℕ) : Type 0 where
   pub at-within : at ≤ farthest
-  pub two-digits : n < twoDigits
+  pub number-within : n < decimalLimit

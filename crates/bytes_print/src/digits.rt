@@ -39,16 +39,20 @@ pub fn hex(page: &mut [u8], at: usize, bytes: &[u8]) -> usize
     end
 }
 
-// A number below 100, base ten.
-pub fn decimal(page: &mut [u8], at: usize, n: u8) -> usize
+// A number below 10,000, base ten: the last digit is found first.
+pub fn decimal(page: &mut [u8], at: usize, n: usize) -> usize
     requires { ⌜ DecimalAt at n ⌝ }
     ensures prints { λ r. ⌜ Prints (now (page .entry)) at (decimal n) (now (page .exit)) r ⌝ }
-    ensures small { λ r. ⌜ r ≤ at + 2 ⌝ }
+    ensures small { λ r. ⌜ r ≤ at + 4 ⌝ }
 {
-    if n < 10 {
-        let one = [digit(n)];
-        return put(page, at, &one);
+    let mut text = [0u8; 4];
+    let mut first: usize = 3;
+    let mut rest = n;
+    while rest >= 10 {
+        text[first] = digit((rest % 10) as u8);
+        rest /= 10;
+        first -= 1;
     }
-    let two = [digit(n / 10), digit(n % 10)];
-    put(page, at, &two)
+    text[first] = digit(rest as u8);
+    put(page, at, &text[first..])
 }

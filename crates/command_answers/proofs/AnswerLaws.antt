@@ -1,12 +1,12 @@
 -- The answers' texts as they are printed: in pieces, and in bytes.
 use mathlib.Core.Path.{_≡_, refl, ap}
-use Prim.Native.Nat.{ℕ, _<_}
+use Prim.Native.Nat.{ℕ, _^_, _<_}
 use native.Mathlib.Omega.{arith}
 use mathlib.Core.List.{[], _∷_, _++_}
 use Rattle.update_format.specs.declared.Malformed.{Malformed}
 use Rattle.update_format.specs.declared.Malformed.the-variants.{Length, Version, Author, Predecessors, Truncated, Kind, Layout, Unordered}
 use Rattle.update_format.specs.ParseResult.{malformedNumber}
-use Rattle.bytes_ascii.specs.Ascii.{codes, ascii, decimal, twoDigits}
+use Rattle.bytes_ascii.specs.Ascii.{codes, ascii, decimal}
 use Rattle.rules.specs.declared.Standing.{Standing}
 use Rattle.ledger_refusals.specs.declared.Refusal.{Refusal}
 use Rattle.ledger_refusals.specs.declared.Refusal.the-variants.{Unfit, Malformed as Bad, Full, Short, Invalid}
@@ -34,7 +34,7 @@ refused-text r n e = ap (λ (k : ℕ). 40 ∷ 114 ∷ 101 ∷ 102 ∷ 117 ∷ 11
 
 -- the numbers of the refusals have at most two digits
 
-malformed-small : (m : Malformed) → malformedNumber m < twoDigits
+malformed-small : (m : Malformed) → malformedNumber m < 10 ^ 2
 malformed-small Length = omega arith
 malformed-small Version = omega arith
 malformed-small Author = omega arith
@@ -44,7 +44,7 @@ malformed-small Kind = omega arith
 malformed-small Layout = omega arith
 malformed-small Unordered = omega arith
 
-pub refusal-small : (r : Refusal) → refusalNumber r < twoDigits
+pub refusal-small : (r : Refusal) → refusalNumber r < 10 ^ 2
 refusal-small Unfit = omega arith
 refusal-small (Bad m) = malformed-small m
 refusal-small Full = omega arith

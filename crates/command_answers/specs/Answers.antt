@@ -1,10 +1,10 @@
 -- What is printed for a line.
 use mathlib.Core.Path.{_≡_}
-use Prim.Native.Nat.{ℕ, _≤_, _<_}
+use Prim.Native.Nat.{ℕ, _^_, _≤_, _<_}
 use mathlib.Core.List.{List}
 use mathlib.Core.Option.{none, some}
 use lib.ListN.{length, take}
-use Rattle.bytes_ascii.specs.Ascii.{ascii, twoDigits}
+use Rattle.bytes_ascii.specs.Ascii.{ascii}
 use Rattle.command_syntax.specs.declared.Line.{Line}
 use Rattle.command_syntax.specs.declared.Line.the-variants.{Offered as Offers, Unread as NotRead}
 use Rattle.command_syntax.specs.Line.{lineIn}
@@ -19,8 +19,8 @@ maxAnswer = 22
 
 -- the counts have at most two digits
 pub record Counts (held void : ℕ) : Type 0 where
-  pub held-two-digits : held < twoDigits
-  pub void-two-digits : void < twoDigits
+  pub held-two-digits : held < 10 ^ 2
+  pub void-two-digits : void < 10 ^ 2
 
 abbrev pub Printable : OfferValues → Type 0
 Printable (takenAs v h w) = Counts h w

@@ -43,9 +43,9 @@ fn print_taken(page: &mut [u8], standing: Standing, held: usize, void: usize) ->
     let mut at = put(page, 0, b"(taken ");
     at = print_standing(page, at, standing);
     at = put(page, at, b" ");
-    at = decimal(page, at, held as u8);
+    at = decimal(page, at, held);
     at = put(page, at, b" ");
-    at = decimal(page, at, void as u8);
+    at = decimal(page, at, void);
     put(page, at, b")\n")
 }
 
@@ -65,7 +65,7 @@ fn print_refused(page: &mut [u8], refusal: Refusal) -> usize
     ensures small { λ r. ⌜ r ≤ maxAnswer ⌝ }
 {
     let mut at = put(page, 0, b"(refused ");
-    at = decimal(page, at, refusal.number());
+    at = decimal(page, at, refusal.number() as usize);
     put(page, at, b")\n")
 }
 

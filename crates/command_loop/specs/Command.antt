@@ -7,7 +7,7 @@ use mathlib.Core.List.{List, [], _++_}
 use mathlib.Core.Bool.{false}
 use lib.ListN.{length, take, drop}
 use Rattle.ledger_state.specs.declared.Ledger.{Ledger}
-use Rattle.ledger_state.specs.State.{storeLength}
+use Rattle.ledger_state.specs.State.{documentTerms, storeLength}
 use Rattle.ledger_state.specs.View.{freshLedger}
 use Rattle.command_syntax.specs.Syntax.{maxLine}
 use Rattle.command_answers.specs.Answers.{maxAnswer}
@@ -80,7 +80,7 @@ pub record Steps (t : State) (s buffer chunk : List ℕ) (r : State) (s′ buffe
 
 -- what the command is lent: a store and a line buffer of their lengths, and room for the longest end
 pub record Lent (s buffer out : List ℕ) : Type 0 where
-  pub store-long : length s ≡ storeLength
+  pub store-long : length s ≡ storeLength documentTerms
   pub line-long : length buffer ≡ maxLine
   pub room : maxEnd ≤ length out
 

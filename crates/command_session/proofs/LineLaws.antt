@@ -11,6 +11,7 @@ use Rattle.bytes_ascii.specs.Ascii.{ascii}
 use Rattle.ledger_state.specs.declared.Ledger.{Ledger}
 use Rattle.rules.specs.declared.Standing.{Standing}
 use Rattle.ledger_state.specs.State.{Book, placeAt, isHeld, isVoid, standingCount}
+use Rattle.ledger_state.specs.RoomLaws.{room→}
 use Rattle.ledger_state.specs.View.{bookOf}
 use Rattle.ledger_offering.specs.declared.Offered.{Offered}
 use Rattle.ledger_offering.specs.Values.{OfferValues}
@@ -23,7 +24,7 @@ use Rattle.command_answers.specs.declared.Reply.the-variants.{Unread, Offered a
 use Rattle.command_answers.specs.Answers.{Printable, ReadsOffer}
 use Rattle.command_session.specs.Answering.{AnswersLine, unread, offered, Answers}
 
--- a count over the places is at most 64
+-- a count over the places is at most that of the taken ones
 count-few : (p : Standing → Bool) (l : Book) → standingCount p l ≤ l .used
 unfolding standingCount
 count-few p l = countBelow-le (l .used) (λ (k : ℕ). p (placeAt l k .standing))
@@ -33,10 +34,11 @@ offering-printable (unfit e) = tt
 offering-printable (malformed n e d) = tt
 offering-printable (known u k e d f) = tt
 offering-printable (full u e d f n) = tt
-offering-printable (taken u r e d f n t) =
+offering-printable {l} {s = s} (taken u r e d f n t) =
+    let free = room→ (bookOf l) s u n in
     record {
-      held-two-digits = omega (arith, count-few isHeld (bookOf r), t .used-next);
-      void-two-digits = omega (arith, count-few isVoid (bookOf r), t .used-next);
+      held-two-digits = omega (arith, count-few isHeld (bookOf r), t .used-next, free);
+      void-two-digits = omega (arith, count-few isVoid (bookOf r), t .used-next, free);
     }
 
 module _ (buffer : List ℕ) (fill : ℕ) (update : List ℕ) {x : Line} (reads : ReadsOffer buffer fill x update) where

@@ -2,6 +2,7 @@
 -- what the machine ends with.
 use mathlib.Core.Path.{_≡_, refl, sym, ap, subst, _∙_}
 use Prim.Native.Nat.{ℕ, _+_, _≤_}
+use native.Mathlib.Nat.{le-trans}
 use native.Mathlib.Omega.{arith}
 use mathlib.Core.List.{List, _++_, append-assoc}
 use lib.ListN.{length, take, drop, length-append, length-drop}
@@ -9,12 +10,12 @@ use lib.Seq.{take-at}
 use Rattle.bytes_order.specs.BoolLaws.{true-false}
 use Rattle.update_format.specs.Update.{Update}
 use Rattle.rules.specs.declared.Form.the-variants.{Full}
-use Rattle.rules.specs.Report.{reportOf, maxReport}
-use Rattle.rules.specs.ReportLaws.{report-length}
+use Rattle.rules.specs.Report.{reportOf, reportSize, maxReport}
+use Rattle.rules.specs.ReportLaws.{report-length, size-grows, document-size}
 use Rattle.ledger_state.specs.declared.Ledger.{Ledger}
-use Rattle.ledger_state.specs.State.{Book}
+use Rattle.ledger_state.specs.State.{Terms, documentTerms, Book}
 use Rattle.ledger_state.specs.View.{bookOf}
-use Rattle.ledger_state.specs.Stands.{ident, Stands}
+use Rattle.ledger_state.specs.Stands.{rules, Stands}
 use Rattle.ledger_state.specs.FindLaws.{ident-length}
 use Rattle.ledger_state.specs.TakeLaws.{stands-sound}
 use Rattle.ledger_refusals.specs.Numbers.{Output, putBytes}
@@ -26,16 +27,19 @@ use Rattle.command_session.specs.Feeding.{maxEnd, EndValues, withReport,
 use Rattle.command_session.specs.Feeding as feeding
 use Rattle.command_session.specs.FeedLaws.{Follows}
 
--- a report of a ledger that stands has at most 12,000 bytes
-report-few : {l : Book} {s : List ℕ} (us : List Update) → Stands l s us → length (reportOf Full ident us) ≤ maxReport
-report-few us h = report-length Full ident ident-length us (h .holds .distinct) (h .holds .room) (h .holds .bounded)
+-- a report of a ledger of document 01's terms that stands has at most 12,000 bytes
+report-few : {l : Book} {s : List ℕ} (us : List Update) → l .terms ≡ documentTerms → Stands l s us → length (reportOf Full rules us) ≤ maxReport
+report-few {l} us at h =
+    le-trans (report-length Full rules ident-length us (h .holds .distinct) (h .holds .bounded))
+    (le-trans (size-grows (l .terms .bounds) Full (h .holds .room .few))
+    (subst (λ (t : Terms). reportSize (t .bounds) (t .places) Full ≤ maxReport) (sym at) (document-size Full)))
 
-module _ {l : Book} {s : List ℕ} {us : List Update} (h : Stands l s us) (out : List ℕ) where
+module _ {l : Book} {s : List ℕ} {us : List Update} (at : l .terms ≡ documentTerms) (h : Stands l s us) (out : List ℕ) where
   -- .. and so it is written where there is room for 12,000
   report-written : maxReport ≤ length out → {v : Output} {out′ : List ℕ} → ReportRow Full l s out v out′
-      → (v ≡ putBytes (length (reportOf Full ident us))) × (out′ ≡ reportOf Full ident us ++ drop (length (reportOf Full ident us)) out)
+      → (v ≡ putBytes (length (reportOf Full rules us))) × (out′ ≡ reportOf Full rules us ++ drop (length (reportOf Full rules us)) out)
   report-written room (unfit e) = absurd (true-false (stands-sound l s us h) e)
-  report-written room (short text e t j) = absurd (omega (arith, report-few us h, ap length (t .of-rules us h)))
+  report-written room (short text e t j) = absurd (omega (arith, report-few us at h, ap length (t .of-rules us h)))
   report-written room (written text e t j) =
       let q = t .of-rules us h in (ap (λ (x : List ℕ). putBytes (length x)) q, ap (λ (x : List ℕ). x ++ drop (length x) out) q)
 
@@ -51,7 +55,7 @@ module _ {l l′ : Ledger} {s s′ buffer : List ℕ} {fill : ℕ} (m : Machine)
   after = lastLine m (m .line)
 
   abbrev text : List ℕ
-  text = reportOf Full ident (after .stored)
+  text = reportOf Full rules (after .stored)
 
   abbrev page : List ℕ
   page = put ++ drop (length put) out
@@ -71,7 +75,7 @@ module _ {l l′ : Ledger} {s s′ buffer : List ℕ} {fill : ℕ} (m : Machine)
 
   pub reports-output : {v : EndValues} {out′ : List ℕ} → ReportsAt (bookOf l′) s′ (length put) page v out′ → EndOutputs m v out′
   reports-output (reported n o p) =
-      let q = report-written stands (drop (length put) page) enough p in
+      let q = report-written refl stands (drop (length put) page) enough p in
       let e : n ≡ length text = cc in
       let front : take (length put) page ++ text ≡ put ++ text =
       ap (λ (x : List ℕ). x ++ text) (take-at put (drop (length put) out) (length put) refl) in
@@ -89,7 +93,7 @@ module _ {l l′ : Ledger} {s s′ buffer : List ℕ} {fill : ℕ} (m : Machine)
             ∙ whole;
       }
   reports-output (unreported e o p) =
-      let q = report-written stands (drop (length put) page) enough p in
+      let q = report-written refl stands (drop (length put) page) enough p in
       let z : _≡_ {A = ℕ} 0 1 = cc in
       absurd (omega arith)
 

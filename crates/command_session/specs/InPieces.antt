@@ -3,8 +3,9 @@ use mathlib.Core.Path.{_≡_, refl, sym, ap, _∙_}
 use Prim.Native.Nat.{ℕ, _≤_}
 use mathlib.Core.List.{List, [], _++_}
 use lib.ListN.{length, take}
+use Rattle.rules.specs.TermsLaws.{document-allowed}
 use Rattle.ledger_state.specs.declared.Ledger.{Ledger}
-use Rattle.ledger_state.specs.State.{storeLength}
+use Rattle.ledger_state.specs.State.{documentTerms, storeLength}
 use Rattle.ledger_state.specs.View.{bookOf, freshLedger}
 use Rattle.ledger_state.specs.TakeLaws.{fresh-stands}
 use Rattle.command_syntax.specs.Syntax.{maxLine}
@@ -31,14 +32,14 @@ pieces-move done = moves-none
 pieces-move (piece r p) = moves-then (r .moves) (pieces-move p)
 
 -- a fresh ledger, with any store and line buffer of their lengths, is where the machine begins
-fresh-follows : (s buffer : List ℕ) → length s ≡ storeLength → length buffer ≡ maxLine → Follows freshLedger s buffer 0 begin
+fresh-follows : (s buffer : List ℕ) → length s ≡ storeLength documentTerms → length buffer ≡ maxLine → Follows freshLedger s buffer 0 begin
 unfolding freshLedger
-fresh-follows s buffer h k = record { stands = fresh-stands (bookOf freshLedger) s refl h; keeps = keeps-none k }
+fresh-follows s buffer h k = record { stands = fresh-stands (bookOf freshLedger) s refl h document-allowed; keeps = keeps-none k }
 
 -- For every input, and a store and a line buffer of their lengths: if the pieces consumed are the input's bytes up to the limit, then what they and the end put out is
 -- the output of the whole input.
 pub in-pieces : (input : List ℕ) {l′ : Ledger} {s s′ s″ buffer buffer′ ys out out′ : List ℕ} {fill′ n : ℕ}
-    → length s ≡ storeLength
+    → length s ≡ storeLength documentTerms
     → length buffer ≡ maxLine
     → Pieces freshLedger s buffer 0 (take maxInput input) ys l′ s′ buffer′ fill′
     → FinishRow l′ s′ buffer′ fill′ out (withReport n) s″ out′
@@ -51,7 +52,7 @@ in-pieces input {s = s} {buffer = buffer} {out′ = out′} {n = n} h k c e =
 
 -- .. and with room for the longest end there is a report
 pub pieces-reported : (input : List ℕ) {l′ : Ledger} {s s′ s″ buffer buffer′ ys out out′ : List ℕ} {fill′ : ℕ} {v : EndValues}
-    → length s ≡ storeLength
+    → length s ≡ storeLength documentTerms
     → length buffer ≡ maxLine
     → Pieces freshLedger s buffer 0 input ys l′ s′ buffer′ fill′
     → maxEnd ≤ length out

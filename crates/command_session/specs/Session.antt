@@ -5,12 +5,13 @@ use mathlib.Core.Option.{Option, none, some}
 use mathlib.Core.Bool.{cond}
 use lib.ListN.{take}
 use lib.Dec.{eqb}
-use Rattle.update_format.specs.Update.{Update}
+use Rattle.update_format.specs.Update.{documentBounds, Update}
 use Rattle.update_format.specs.Decode.{decode}
 use Rattle.bytes_ascii.specs.Ascii.{ascii}
 use Rattle.rules.specs.declared.Form.the-variants.{Full}
 use Rattle.rules.specs.Report.{reportOf}
-use Rattle.ledger_state.specs.Stands.{ident}
+use Rattle.rules.specs.Terms.{documentTerms}
+use Rattle.ledger_state.specs.Stands.{rules}
 use Rattle.command_syntax.specs.Syntax.{readLine}
 use Rattle.ledger.specs.Calls.{acceptDecoded}
 use Rattle.ledger.specs.Answers.{offerText}
@@ -27,7 +28,7 @@ begin = record { stored = []; line = []; out = [] }
 unfoldable pub answerLine : Machine → Option (List ℕ) → Machine
 answerLine m none = record { stored = m .stored; line = []; out = m .out ++ ascii "(unread)\n" }
 answerLine m (some b) =
-    record { stored = acceptDecoded (m .stored) (decode b); line = []; out = m .out ++ offerText (m .stored) (decode b) }
+    record { stored = acceptDecoded documentTerms (m .stored) (decode documentBounds b); line = []; out = m .out ++ offerText documentTerms (m .stored) (decode documentBounds b) }
 
 unfoldable pub endLine : Machine → Machine
 endLine m = answerLine m (readLine (m .line))
@@ -46,7 +47,7 @@ lastLine m (c ∷ cs) = endLine m
 
 -- "Then comes the report": the command names the full form (document 02, E10)
 unfoldable pub finish : Machine → List ℕ
-finish m = lastLine m (m .line) .out ++ reportOf Full ident (lastLine m (m .line) .stored)
+finish m = lastLine m (m .line) .out ++ reportOf Full rules (lastLine m (m .line) .stored)
 
 -- "The command reads at most 4,294,967,296 bytes; its input counts as ended there."
 abbrev pub maxInput : ℕ

@@ -7,7 +7,9 @@ use mathlib.Core.Bool.{true}
 use lib.ListN.{length, drop}
 use Rattle.update_format.specs.Update.{idLength}
 use Rattle.rules.specs.declared.Form.{Form}
-use Rattle.rules.specs.Report.{longest}
+use Rattle.rules.specs.Report.{reportSize}
+use Rattle.rules.specs.ReportLaws.{size-grows}
+use Rattle.rules.specs.TermsLaws.{some-authors}
 use Rattle.ledger_state.specs.Row1.{sound}
 use Rattle.ledger_state.specs.Row1Laws.{sound→}
 use Rattle.ledger_state.specs.State.{Book, placeAt}
@@ -36,10 +38,10 @@ module _ (form : Form) (l : Book) (s : List ℕ) (fits : sound l s ≡ true) (o 
       rw (put, long p) (written text fits is-text (subst (λ (k : ℕ). k ≤ length o) (long p) h))
 
   -- at once, where the buffer has room for every report of the form
-  pub reported-at-once : ((k : ℕ) → k < l .used → length (placeAt l k .id) ≡ idLength) → longest form ≤ length o
+  pub reported-at-once : ((k : ℕ) → k < l .used → length (placeAt l k .id) ≡ idLength) → reportSize (l .terms .bounds) (l .terms .places) form ≤ length o
       → {o′ : List ℕ} {n : ℕ} → Prints o 0 (textOf l s form) o′ n → Reporting form l s o (Written n) o′
   reported-at-once sized room p =
-      reported-written p (subst (λ (k : ℕ). k ≤ length o) (sym (long p)) (le-trans (textOf-length form l s (sound→ l s fits .few) sized) room))
+      reported-written p (subst (λ (k : ℕ). k ≤ length o) (sym (long p)) (le-trans (le-trans (textOf-length form l s (some-authors (l .terms) (sound→ l s fits .terms-allowed)) sized) (size-grows (l .terms .bounds) form (sound→ l s fits .few))) room))
 
   -- once the length was asked
   module _ {page page′ : List ℕ} {n : ℕ} (asked : Prints page 0 (textOf l s form) page′ n) where

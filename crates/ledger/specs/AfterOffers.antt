@@ -14,8 +14,8 @@ use Rattle.rules.specs.Report.{reportText, reportOf}
 use Rattle.rules.specs.PartsLaws.{read-right}
 use Rattle.ledger_state.specs.declared.Ledger.{Ledger}
 use Rattle.ledger_state.specs.View.{bookOf, freshLedger}
-use Rattle.ledger_state.specs.State.{storeLength, Book}
-use Rattle.ledger_state.specs.Stands.{ident, Stands}
+use Rattle.ledger_state.specs.State.{documentTerms, storeLength, Book}
+use Rattle.ledger_state.specs.Stands.{rules, Stands}
 use Rattle.ledger_refusals.specs.Numbers.{Output, putBytes}
 use Rattle.ledger_offering.specs.Values.{OfferValues}
 use Rattle.ledger_offering.specs.Offer.{OfferRow}
@@ -27,19 +27,19 @@ use Rattle.ledger.specs.Answers.{answerFor, answer-right}
 -- the text is laid out in the form from parts that are exactly those that the rules give for the updates
 pub record LaidOut (form : Form) (us : List Update) (text : List ℕ) : Type 0 where
   pub parts : Parts
-  pub read : ReadFrom ident us parts
-  pub laid-out : text ≡ reportText form ident parts
+  pub read : ReadFrom rules us parts
+  pub laid-out : text ≡ reportText form rules parts
 
 -- What the entries say of a ledger and its store is what the rules give for the updates: the standing of every id, the bytes of a report in each form, and the
 -- answer to a further offer.
 pub record AsRuled (us : List Update) (l : Ledger) (s : List ℕ) : Type 0 where
   pub standing : AnswersFor (bookOf l) s us
   pub reported : (form : Form) {o o′ : List ℕ} {n : ℕ} → Reporting form (bookOf l) s o (Written n) o′ → LaidOut form us (take n o′)
-  pub answered : (b : List ℕ) {v : OfferValues} {r : Ledger} {s′ : List ℕ} → OfferRow l s b v r s′ → v ≡ answerFor us (decode b)
+  pub answered : (b : List ℕ) {v : OfferValues} {r : Ledger} {s′ : List ℕ} → OfferRow l s b v r s′ → v ≡ answerFor (bookOf l .terms) us (decode (bookOf l .terms .bounds) b)
 
 -- the bytes reported of a ledger that stands
 pub report-shown : {form : Form} {l : Book} {s o o′ : List ℕ} {v : Output} (us : List Update) → Stands l s us → ReportRow form l s o v o′
-    → (n : ℕ) → v ≡ putBytes n → take n o′ ≡ reportOf form ident us
+    → (n : ℕ) → v ≡ putBytes n → take n o′ ≡ reportOf form rules us
 report-shown us h (unfit e) n q = let z : _≡_ {A = ℕ} 0 1 = cc in absurd (omega arith)
 report-shown us h (short text e t k) n q = let z : _≡_ {A = ℕ} 0 1 = cc in absurd (omega arith)
 report-shown {o = o} us h (written text e t k) n q =
@@ -51,10 +51,10 @@ unfolding reportOf
 stands-ruled l {s} us h =
     record {
       standing = stands-answers (bookOf l) s us h;
-      reported = λ form {o} {o′} {n} r. record { parts = partsOf ident us; read = read-right ident us (h .holds .distinct); laid-out = report-shown us h r n refl };
+      reported = λ form {o} {o′} {n} r. record { parts = partsOf rules us; read = read-right rules us (h .holds .distinct); laid-out = report-shown us h r n refl };
       answered = λ b o. answer-right l s us h b o;
     }
 
 -- Demand 2 of offers, with any first contents of the store
-pub after-offers : {l : Ledger} {s s′ : List ℕ} {bs : List (List ℕ)} → length s ≡ storeLength → Calls freshLedger s bs l s′ → AsRuled (stored bs) l s′
-after-offers {l = l} {bs = bs} h c = stands-ruled l (stored bs) (offers-stand h c)
+pub after-offers : {l : Ledger} {s s′ : List ℕ} {bs : List (List ℕ)} → length s ≡ storeLength documentTerms → Calls freshLedger s bs l s′ → AsRuled (stored documentTerms bs) l s′
+after-offers {l = l} {bs = bs} h c = stands-ruled l (stored documentTerms bs) (offers-stand h c)

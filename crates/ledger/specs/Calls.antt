@@ -1,13 +1,10 @@
 -- Demand 2, its first half: any list of offers to a fresh ledger, refused and repeated ones between, with any first contents of the store.
 use mathlib.Core.Path.{_≡_, refl, sym, ap, subst, _∙_}
 use Prim.Native.Nat.{ℕ, _<_}
-use native.Mathlib.Nat.{le-of-eq}
-use borrow.Author.Tests.{le-ltb, lt-ltb}
 use mathlib.Core.Option.{Option, none, some}
 use mathlib.Core.List.{List, [], _∷_, _++_, map}
 use mathlib.Core.Bool.{true, false, cond}
 use lib.ListN.{length}
-use lib.Dec.{ltb}
 use Rattle.bytes_order.specs.Member.{_∈_, member}
 use Rattle.bytes_order.specs.BoolLaws.{true-false}
 use Rattle.bytes_order.specs.MemberLaws.{∈-cast, ∈-map, map-∈, ∈→member, member-false}
@@ -17,13 +14,16 @@ use Rattle.update_format.specs.Decode.{Decoded, refused, update, decode}
 use Rattle.update_format.specs.Laws.{decode-sound}
 use Rattle.rules.specs.Standing.{Held, Void, Waiting}
 use Rattle.rules.specs.LeastSets.{held-stored, void-stored, held-not-void}
+use Rattle.rules.specs.Room.{hasRoom}
+use Rattle.rules.specs.TermsLaws.{document-allowed}
 use Rattle.ledger_state.specs.declared.Ledger.{Ledger}
 use Rattle.rules.specs.declared.Standing.{Standing}
 use Rattle.rules.specs.declared.Standing.the-variants.{Held as IsHeld, Waiting as IsWaiting, Void as IsVoid}
-use Rattle.ledger_state.specs.State.{places, storeLength, Book, placeAt, findIn}
+use Rattle.ledger_state.specs.State.{Terms, documentTerms, storeLength, roomIn, Book, placeAt, findIn}
 use Rattle.ledger_state.specs.View.{bookOf, freshLedger}
-use Rattle.ledger_state.specs.Stands.{ident, updateAt, Stands}
+use Rattle.ledger_state.specs.Stands.{ident, rules, updateAt, Stands}
 use Rattle.ledger_state.specs.FindLaws.{stored-at, place-of, find-right, find-all, find-none}
+use Rattle.ledger_state.specs.RoomLaws.{room-stored}
 use Rattle.ledger_state.specs.TakeLaws.{stands-sound, fresh-stands}
 use Rattle.ledger_offering.specs.Values.{OfferValues}
 use Rattle.ledger_offering.specs.Offer.{OfferRow, unfit, malformed, known, full, taken}
@@ -36,73 +36,76 @@ pub data Calls : Ledger → List ℕ → List (List ℕ) → Ledger → List ℕ
   call : {l r l′ : Ledger} {s s₁ s′ b : List ℕ} {bs : List (List ℕ)} {v : OfferValues}
       → OfferRow l s b v r s₁ → Calls r s₁ bs l′ s′ → Calls l s (b ∷ bs) l′ s′
 
--- the stored updates after an offer: a well-formed one with a new id is stored while a place is free ("Two updates with one id count as the same: the
--- first is kept.")
-unfoldable pub acceptDecoded : List Update → Decoded → List Update
-acceptDecoded us (refused n) = us
-acceptDecoded us (update u) = cond (member (ident u) (map ident us)) us (cond (ltb (length us) places) (us ++ (u ∷ [])) us)
+-- the stored updates after an offer to a ledger of these terms: a well-formed one with a new id is stored where there is room for it ("Two updates with one id count as
+-- the same: the first is kept.")
+unfoldable pub acceptDecoded : Terms → List Update → Decoded → List Update
+acceptDecoded t us (refused n) = us
+acceptDecoded t us (update u) = cond (member (ident u) (map ident us)) us (cond (hasRoom t us u) (us ++ (u ∷ [])) us)
 
-unfoldable pub storedFrom : List Update → List (List ℕ) → List Update
-storedFrom us [] = us
-storedFrom us (b ∷ bs) = storedFrom (acceptDecoded us (decode b)) bs
+unfoldable pub storedFrom : Terms → List Update → List (List ℕ) → List Update
+storedFrom t us [] = us
+storedFrom t us (b ∷ bs) = storedFrom t (acceptDecoded t us (decode (t .bounds) b)) bs
 
--- the first 64 distinct well-formed updates, by id, in the order offered
-abbrev pub stored : List (List ℕ) → List Update
-stored bs = storedFrom [] bs
+-- the first distinct well-formed updates, by id, in the order offered, as many as there are places
+abbrev pub stored : Terms → List (List ℕ) → List Update
+stored t bs = storedFrom t [] bs
 
 -- what a standing says of an update, and that the rules give an update only one
 abbrev pub StandingSays : List Update → Standing → Update → Type 0
-StandingSays us IsHeld u = Held ident us u
-StandingSays us IsWaiting u = Waiting ident us u
-StandingSays us IsVoid u = Void ident us u
+StandingSays us IsHeld u = Held rules us u
+StandingSays us IsWaiting u = Waiting rules us u
+StandingSays us IsVoid u = Void rules us u
 
-pub only-held : (us : List Update) (v : Standing) (u : Update) → StandingSays us v u → Held ident us u → v ≡ IsHeld
+pub only-held : (us : List Update) (v : Standing) (u : Update) → StandingSays us v u → Held rules us u → v ≡ IsHeld
 only-held us IsHeld u a h = refl
 only-held us IsWaiting u a h = absurd (a .not-held h)
-only-held us IsVoid u a h = absurd (held-not-void ident us h a)
+only-held us IsVoid u a h = absurd (held-not-void rules us h a)
 
-pub only-waiting : (us : List Update) (v : Standing) (u : Update) → StandingSays us v u → Waiting ident us u → v ≡ IsWaiting
+pub only-waiting : (us : List Update) (v : Standing) (u : Update) → StandingSays us v u → Waiting rules us u → v ≡ IsWaiting
 only-waiting us IsHeld u a h = absurd (h .not-held a)
 only-waiting us IsWaiting u a h = refl
 only-waiting us IsVoid u a h = absurd (h .not-void a)
 
-pub only-void : (us : List Update) (v : Standing) (u : Update) → StandingSays us v u → Void ident us u → v ≡ IsVoid
-only-void us IsHeld u a h = absurd (held-not-void ident us a h)
+pub only-void : (us : List Update) (v : Standing) (u : Update) → StandingSays us v u → Void rules us u → v ≡ IsVoid
+only-void us IsHeld u a h = absurd (held-not-void rules us a h)
 only-void us IsWaiting u a h = absurd (a .not-void h)
 only-void us IsVoid u a h = refl
 
 module _ (l : Ledger) (s : List ℕ) (us : List Update) (stands : Stands (bookOf l) s us) (b : List ℕ) where
+  abbrev terms : Terms
+  terms = bookOf l .terms
+
   -- an update that the bytes decode to has the id SHA-256 of the bytes
-  pub decoded-id : {u : Update} → decode b ≡ update u → ident u ≡ SHA-256 b
+  pub decoded-id : {u : Update} → decode (terms .bounds) b ≡ update u → ident u ≡ SHA-256 b
   unfolding ident
-  decoded-id {u} d = ap SHA-256 (decode-sound b u d .1)
+  decoded-id {u} d = ap SHA-256 (decode-sound (terms .bounds) b u d .1)
 
   -- an id that is found is known, one that is not is new
-  pub found-known : {u : Update} {k : ℕ} → decode b ≡ update u → findIn (bookOf l) (SHA-256 b) ≡ some k → member (ident u) (map ident us) ≡ true
+  pub found-known : {u : Update} {k : ℕ} → decode (terms .bounds) b ≡ update u → findIn (bookOf l) (SHA-256 b) ≡ some k → member (ident u) (map ident us) ≡ true
   found-known {u} {k} d f =
       let r = find-right (bookOf l) s us (stands .holds) (SHA-256 b) k f in
       ∈→member (∈-cast (decoded-id d ∙ sym (r .1)) (∈-map ident (stored-at us k (r .0))))
 
-  pub none-new : {u : Update} → decode b ≡ update u → findIn (bookOf l) (SHA-256 b) ≡ none → member (ident u) (map ident us) ≡ false
+  pub none-new : {u : Update} → decode (terms .bounds) b ≡ update u → findIn (bookOf l) (SHA-256 b) ≡ none → member (ident u) (map ident us) ≡ false
   none-new {u} d f =
       member-false (ident u) (map ident us)
       (λ m. let r = map-∈ ident us m in find-none (bookOf l) s us (stands .holds) (SHA-256 b) f (r .0) (r .1) (r .2 ∙ decoded-id d))
 
-  accept-known : {u : Update} → decode b ≡ update u → member (ident u) (map ident us) ≡ true → acceptDecoded us (decode b) ≡ us
+  accept-known : {u : Update} → decode (terms .bounds) b ≡ update u → member (ident u) (map ident us) ≡ true → acceptDecoded terms us (decode (terms .bounds) b) ≡ us
   unfolding acceptDecoded
   accept-known d m = rw (d, m)
 
-  accept-full : {u : Update} → decode b ≡ update u → member (ident u) (map ident us) ≡ false → bookOf l .used ≡ places → acceptDecoded us (decode b) ≡ us
+  accept-full : {u : Update} → decode (terms .bounds) b ≡ update u → member (ident u) (map ident us) ≡ false → roomIn (bookOf l) s u ≡ false → acceptDecoded terms us (decode (terms .bounds) b) ≡ us
   unfolding acceptDecoded
-  accept-full d m e = rw (d, m, le-ltb (length us) places (le-of-eq (sym e ∙ stands .holds .number)))
+  accept-full {u} d m e = rw (d, m, sym (room-stored (bookOf l) s u us (stands .holds)) ∙ e)
 
-  accept-new : {u : Update} → decode b ≡ update u → member (ident u) (map ident us) ≡ false → bookOf l .used < places
-      → acceptDecoded us (decode b) ≡ us ++ (u ∷ [])
+  accept-new : {u : Update} → decode (terms .bounds) b ≡ update u → member (ident u) (map ident us) ≡ false → roomIn (bookOf l) s u ≡ true
+      → acceptDecoded terms us (decode (terms .bounds) b) ≡ us ++ (u ∷ [])
   unfolding acceptDecoded
-  accept-new d m h = rw (d, m, lt-ltb (length us) places (subst (λ (n : ℕ). n < places) (stands .holds .number) h))
+  accept-new {u} d m e = rw (d, m, sym (room-stored (bookOf l) s u us (stands .holds)) ∙ e)
 
   -- an offer leads from a ledger that stands to one that stands for what is then stored
-  pub offer-stands : {v : OfferValues} {r : Ledger} {s′ : List ℕ} → OfferRow l s b v r s′ → Stands (bookOf r) s′ (acceptDecoded us (decode b))
+  pub offer-stands : {v : OfferValues} {r : Ledger} {s′ : List ℕ} → OfferRow l s b v r s′ → Stands (bookOf r) s′ (acceptDecoded terms us (decode (terms .bounds) b))
   unfolding acceptDecoded
   offer-stands (unfit e) = absurd (true-false (stands-sound (bookOf l) s us stands) e)
   offer-stands (malformed n e d) = rw d stands
@@ -111,22 +114,22 @@ module _ (l : Ledger) (s : List ℕ) (us : List Update) (stands : Stands (bookOf
   offer-stands (taken u r e d f n t) = rw (accept-new d (none-new d f) n) (t .settles us stands)
 
 -- from a ledger that stands, offers lead to one that stands for what is stored
-pub calls-stand : {l l′ : Ledger} {s s′ : List ℕ} {bs : List (List ℕ)} (us : List Update) → Stands (bookOf l) s us → Calls l s bs l′ s′ → Stands (bookOf l′) s′ (storedFrom us bs)
+pub calls-stand : {l l′ : Ledger} {s s′ : List ℕ} {bs : List (List ℕ)} (us : List Update) → Stands (bookOf l) s us → Calls l s bs l′ s′ → Stands (bookOf l′) s′ (storedFrom (bookOf l .terms) us bs)
 unfolding storedFrom
 calls-stand us h done = h
-calls-stand us h (call {l = l} {s = s} {b = b} o c) = calls-stand (acceptDecoded us (decode b)) (offer-stands l s us h b o) c
+calls-stand us h (call {l = l} {s = s} {b = b} o c) = calls-stand (acceptDecoded (bookOf l .terms) us (decode (bookOf l .terms .bounds) b)) (offer-stands l s us h b o) c
 
 -- Demand 2 of offers: after any offers to a fresh ledger, with any store of the length, the ledger stands for the updates stored: their set, and each
 -- held, waiting or void exactly as the rules say for that set
-pub offers-stand : {l′ : Ledger} {s s′ : List ℕ} {bs : List (List ℕ)} → length s ≡ storeLength → Calls freshLedger s bs l′ s′ → Stands (bookOf l′) s′ (stored bs)
+pub offers-stand : {l′ : Ledger} {s s′ : List ℕ} {bs : List (List ℕ)} → length s ≡ storeLength documentTerms → Calls freshLedger s bs l′ s′ → Stands (bookOf l′) s′ (stored documentTerms bs)
 unfolding freshLedger
-offers-stand {s = s} h c = calls-stand [] (fresh-stands (bookOf freshLedger) s refl h) c
+offers-stand {s = s} h c = calls-stand [] (fresh-stands (bookOf freshLedger) s refl h document-allowed) c
 
 -- and `standing` answers so for every id
 pub record AnswersFor (l : Book) (s : List ℕ) (us : List Update) : Type 0 where
-  pub held-asked : (u : Update) → Held ident us u → askedOf l s (ident u) ≡ standsAs IsHeld
-  pub waiting-asked : (u : Update) → Waiting ident us u → askedOf l s (ident u) ≡ standsAs IsWaiting
-  pub void-asked : (u : Update) → Void ident us u → askedOf l s (ident u) ≡ standsAs IsVoid
+  pub held-asked : (u : Update) → Held rules us u → askedOf l s (ident u) ≡ standsAs IsHeld
+  pub waiting-asked : (u : Update) → Waiting rules us u → askedOf l s (ident u) ≡ standsAs IsWaiting
+  pub void-asked : (u : Update) → Void rules us u → askedOf l s (ident u) ≡ standsAs IsVoid
   pub unknown-asked : (i : Id) → ((u : Update) → u ∈ us → ident u ≡ i → ⊥) → askedOf l s i ≡ unknownId
 
 module _ (l : Book) (s : List ℕ) (us : List Update) (stands : Stands l s us) where
@@ -150,9 +153,9 @@ module _ (l : Book) (s : List ℕ) (us : List Update) (stands : Stands l s us) w
   pub stands-answers : AnswersFor l s us
   stands-answers =
       record {
-        held-asked = λ u h. let r = asked-says u (held-stored ident us h) in r .2 ∙ ap standsAs (only-held us (r .0) u (r .1) h);
+        held-asked = λ u h. let r = asked-says u (held-stored rules us h) in r .2 ∙ ap standsAs (only-held us (r .0) u (r .1) h);
         waiting-asked = λ u h. let r = asked-says u (h .stored) in r .2 ∙ ap standsAs (only-waiting us (r .0) u (r .1) h);
-        void-asked = λ u h. let r = asked-says u (void-stored ident us h) in r .2 ∙ ap standsAs (only-void us (r .0) u (r .1) h);
+        void-asked = λ u h. let r = asked-says u (void-stored rules us h) in r .2 ∙ ap standsAs (only-void us (r .0) u (r .1) h);
         unknown-asked = λ i new. asked-found i none (unfound i new (findIn l i) refl);
       }
     where

@@ -8,7 +8,7 @@ use Rattle.update_format.specs.Update.{Update}
 use Rattle.rules.specs.declared.Form.{Form}
 use Rattle.rules.specs.Report.{reportOf}
 use Rattle.ledger_state.specs.Row1.{sound}
-use Rattle.ledger_state.specs.Stands.{ident, Stands}
+use Rattle.ledger_state.specs.Stands.{rules, Stands}
 use Rattle.ledger_state.specs.State.{Book}
 use Rattle.report_text.specs.Text.{textOf}
 use Rattle.ledger_refusals.specs.Numbers.{row1Number, row11Number, refusalNumber, Output, putBytes, refusedBy}
@@ -18,7 +18,7 @@ use Rattle.ledger.specs.declared.Reported.the-variants.{Written, Refused
 -- The text that is reported of a ledger and its store in a form: for a ledger that stands, the report that the rules give for its updates. For a ledger or a store
 -- that is not the library's own the rules leave the text free; it is `textOf` in every case, so that the form, the ledger and the store alone determine it.
 pub record ReportText (form : Form) (l : Book) (s text : List ℕ) : Type 0 where
-  pub of-rules : (us : List Update) → Stands l s us → text ≡ reportOf form ident us
+  pub of-rules : (us : List Update) → Stands l s us → text ≡ reportOf form rules us
   pub determined : text ≡ textOf l s form
 
 -- document 01's values for each case of the answer

@@ -11,7 +11,7 @@ use lib.Seq.{take-at, getD-append-seam}
 use Rattle.bytes_order.specs.Member.{_∈_}
 use Rattle.bytes_order.specs.BoolLaws.{true-false}
 use Rattle.sha256_fips180.specs.Fips180.{SHA-256}
-use Rattle.update_format.specs.Update.{Id, maxAuthor, maxLength, Operation, Update, encode, WellFormed}
+use Rattle.update_format.specs.Update.{Id, maxLength, Operation, Update, encode, WellFormed}
 use Rattle.update_format.specs.Decode.{refused, decode, update}
 use Rattle.update_format.specs.Laws.{decode-complete}
 use Rattle.rules.specs.Standing.{Ancestor, Held}
@@ -23,10 +23,13 @@ use Rattle.bitset.specs.Below.{countBelow}
 use Rattle.bitset.specs.BelowLaws.{countBelow-more, countBelow-mono}
 use Rattle.rules.specs.declared.Standing.{Standing}
 use Rattle.rules.specs.declared.Standing.the-variants.{Held as IsHeld, Waiting as IsWaiting}
+use Rattle.rules.specs.Room.{hasRoom}
+use Rattle.rules.specs.TermsLaws.{some-predecessors}
+use Rattle.ledger_state.specs.RoomLaws.{room-stored}
 use Rattle.ledger_state.specs.declared.Ledger.{Ledger}
 use Rattle.ledger_state.specs.View.{bookOf}
-use Rattle.ledger_state.specs.State.{places, Place, Book, placeAt, standingCount, isHeld, isVoid}
-use Rattle.ledger_state.specs.Stands.{ident, noUpdate, updateAt, Stands}
+use Rattle.ledger_state.specs.State.{Place, Book, placeAt, standingCount, isHeld, isVoid}
+use Rattle.ledger_state.specs.Stands.{ident, rules, noUpdate, updateAt, Stands}
 use Rattle.ledger_state.specs.FindLaws.{stored-at, find-right}
 use Rattle.ledger_state.specs.TakeLaws.{stands-sound}
 use Rattle.write_operations.specs.declared.Kind.{Kind}
@@ -44,15 +47,15 @@ module _ (l : Book) (s : List ℕ) (a : ℕ) (k : Kind) (t : List ℕ) (i : Id) 
     pub value : Update
     pub number : n ≡ length (encode value)
     pub output : o′ ≡ encode value ++ drop (length (encode value)) o
-    pub author-small : a ≤ maxAuthor
+    pub author-small : a < l .terms .bounds .authors
     pub named-good : badNamed named ≡ false
     pub named-ordered : unorderedNamed named ≡ false
-    pub may : (us : List Update) → Stands l s us → writableOf ident us a (operationFor k t i named) ≡ true
+    pub may : (us : List Update) → Stands l s us → writableOf rules (l .terms .bounds .predecessors) us a (operationFor k t i named) ≡ true
     pub is-written : WrittenUpdate l s a (operationFor k t i named) value
 
   record RefusedSays (n : ℕ) : Type 0 where
-    void : n ≡ row12Number → (us : List Update) → Stands l s us → writableOf ident us a (operationFor k t i named) ≡ false
-    short-of : n ≡ row11Number → length o < maxLength
+    void : n ≡ row12Number → (us : List Update) → Stands l s us → writableOf rules (l .terms .bounds .predecessors) us a (operationFor k t i named) ≡ false
+    short-of : n ≡ row11Number → length o < maxLength (l .terms .bounds)
 
   abbrev WroteSays : Output → List ℕ → Type 0
   WroteSays (putBytes n) o′ = IsWritten n o′
@@ -81,18 +84,18 @@ module _ (l : Book) (s : List ℕ) (a : ℕ) (k : Kind) (t : List ℕ) (i : Id) 
   says-written w = wrote-says w
 
   pub says-invalid : {o′ : List ℕ} → Writing l s a k t i named o (refusedBy row12Number) o′
-      → (us : List Update) → Stands l s us → writableOf ident us a (operationFor k t i named) ≡ false
+      → (us : List Update) → Stands l s us → writableOf rules (l .terms .bounds .predecessors) us a (operationFor k t i named) ≡ false
   says-invalid w = wrote-says w .void refl
 
   -- a buffer of 533 bytes is never too short, whatever the ledger
-  pub says-short : {o′ : List ℕ} → Writing l s a k t i named o (refusedBy row11Number) o′ → length o < maxLength
+  pub says-short : {o′ : List ℕ} → Writing l s a k t i named o (refusedBy row11Number) o′ → length o < maxLength (l .terms .bounds)
   says-short w = wrote-says w .short-of refl
 
 -- "Add: always valid": the writer never refuses one with row 12
 pub add-not-invalid : (l : Book) (s : List ℕ) (us : List Update) → Stands l s us → (a : ℕ) (t : List ℕ) (i : Id) (named o : List ℕ) {o′ : List ℕ}
     → Writing l s a AnAdd t i named o (refusedBy row12Number) o′ → ⊥
 unfolding operationFor
-add-not-invalid l s us stands a t i named o w = true-false (add-writable ident us a t) (says-invalid l s a AnAdd t i named o w us stands)
+add-not-invalid l s us stands a t i named o w = true-false (add-writable rules (l .terms .bounds .predecessors) us a t) (says-invalid l s a AnAdd t i named o w us stands)
 
 -- one more is held
 more-held : (l r : Book) → r .used ≡ l .used + 1 → ((j : ℕ) → j < l .used → (placeAt l j .standing ≡ IsWaiting → ⊥) → placeAt r j ≡ placeAt l j)
@@ -122,7 +125,7 @@ module _ (l : Book) (s : List ℕ) (a : ℕ) (k : Kind) (t : List ℕ) (i : Id) 
       ap (take n) (told .output) ∙ take-at (encode (told .value)) (drop (length (encode (told .value))) o) n (sym (told .number))
 
   -- whatever the ledger, they are a well-formed update
-  pub written-well-formed : WellFormed (take n o′)
+  pub written-well-formed : WellFormed (l .terms .bounds) (take n o′)
   written-well-formed = record { value = told .value; bounded = told .is-written .laid-out; laid-out = sym bytes-are }
 
 -- for a ledger that stands
@@ -132,7 +135,7 @@ module _ (l : Book) (s : List ℕ) (us : List Update) (stands : Stands l s us) (
   op = operationFor k t i named
 
   abbrev new : Update
-  new = writtenOf ident us a op
+  new = writtenOf rules (l .terms .bounds .predecessors) us a op
 
   abbrev W : IsWritten l s a k t i named o n o′
   W = told l s a k t i named o wrote
@@ -144,42 +147,44 @@ module _ (l : Book) (s : List ℕ) (us : List Update) (stands : Stands l s us) (
   bytes-new = bytes-are l s a k t i named o wrote ∙ ap encode is-new
 
   -- they decode to the author and the operation asked for, and to the rules' update
-  pub written-decodes : decode (take n o′) ≡ update (writtenOf ident us a (operationFor k t i named))
+  pub written-decodes : decode (l .terms .bounds) (take n o′) ≡ update (writtenOf rules (l .terms .bounds .predecessors) us a (operationFor k t i named))
   written-decodes =
-      ap decode (bytes-are l s a k t i named o wrote) ∙ decode-complete (W .value) (W .is-written .laid-out) ∙ ap update is-new
+      ap (decode (l .terms .bounds)) (bytes-are l s a k t i named o wrote) ∙ decode-complete (W .value) (W .is-written .laid-out) ∙ ap update is-new
 
-  pub written-author : writtenOf ident us a (operationFor k t i named) .author ≡ a
+  pub written-author : writtenOf rules (l .terms .bounds .predecessors) us a (operationFor k t i named) .author ≡ a
   written-author = ap (λ (u : Update). u .author) (sym is-new) ∙ W .is-written .by-author
 
-  pub written-operation : writtenOf ident us a (operationFor k t i named) .op ≡ operationFor k t i named
+  pub written-operation : writtenOf rules (l .terms .bounds .predecessors) us a (operationFor k t i named) .op ≡ operationFor k t i named
   written-operation = ap (λ (u : Update). u .op) (sym is-new) ∙ W .is-written .with-operation
 
   -- it forms no fork: every held update of an author without a fork is its ancestor, also where the author has a fault
-  pub written-forks-not : (Forked ident us a → ⊥) → (u : Update) → Held ident us u → u .author ≡ a
-      → Ancestor ident us u (writtenOf ident us a (operationFor k t i named))
-  written-forks-not m u h e = written-no-fork ident us (stands .holds .distinct) a op m u h e
+  pub written-forks-not : (Forked rules us a → ⊥) → (u : Update) → Held rules us u → u .author ≡ a
+      → Ancestor rules us u (writtenOf rules (l .terms .bounds .predecessors) us a (operationFor k t i named))
+  written-forks-not m u h e = written-no-fork rules (l .terms .bounds .predecessors) us (stands .holds .distinct) a op (some-predecessors (l .terms) (stands .holds .terms-allowed)) m u h e
 
   id-is : ident new ≡ SHA-256 (take n o′)
   unfolding ident
   id-is = ap SHA-256 (sym bytes-new)
 
-  same-update : {u : Update} → decode (take n o′) ≡ update u → u ≡ writtenOf ident us a (operationFor k t i named)
+  same-update : {u : Update} → decode (l .terms .bounds) (take n o′) ≡ update u → u ≡ writtenOf rules (l .terms .bounds .predecessors) us a (operationFor k t i named)
   same-update {u} d = let e : update u ≡ update new = sym d ∙ written-decodes in cc
 
   -- where no stored update has its id
   module _ (fresh : (u : Update) → u ∈ us → ident u ≡ SHA-256 (take n o′) → ⊥) where
-    is-held : Held ident (us ++ (new ∷ [])) new
-    is-held = written-held ident us (stands .holds .distinct) a op (λ u m e. fresh u m (e ∙ id-is)) (W .may us stands)
+    is-held : Held rules (us ++ (new ∷ [])) new
+    is-held = written-held rules (l .terms .bounds .predecessors) us (stands .holds .distinct) a op (λ u m e. fresh u m (e ∙ id-is)) (W .may us stands)
 
     -- by the rules after the offer it is held, and so none of the faults
-    pub written-faults-not : Fault ident (us ++ (writtenOf ident us a (operationFor k t i named) ∷ [])) (writtenOf ident us a (operationFor k t i named)) → ⊥
-    written-faults-not = written-no-fault ident us (stands .holds .distinct) a op (λ u m e. fresh u m (e ∙ id-is)) (W .may us stands)
+    pub written-faults-not : Fault rules (us ++ (writtenOf rules (l .terms .bounds .predecessors) us a (operationFor k t i named) ∷ [])) (writtenOf rules (l .terms .bounds .predecessors) us a (operationFor k t i named)) → ⊥
+    written-faults-not = written-no-fault rules (l .terms .bounds .predecessors) us (stands .holds .distinct) a op (λ u m e. fresh u m (e ∙ id-is)) (W .may us stands)
 
     -- in the set with it, a held update of its author is an ancestor of it, is the update itself, or has it as an ancestor
-    pub written-forks-not-next : (Forked ident us a → ⊥) → (u : Update) → Held ident (us ++ (writtenOf ident us a (operationFor k t i named) ∷ [])) u → u .author ≡ a
-        → Ancestor ident (us ++ (writtenOf ident us a (operationFor k t i named) ∷ [])) u (writtenOf ident us a (operationFor k t i named))
-        ⊎ Reached ident us (writtenOf ident us a (operationFor k t i named)) u
-    written-forks-not-next = written-no-fork-next ident us (stands .holds .distinct) a op (λ u m e. fresh u m (e ∙ id-is))
+    pub written-forks-not-next : (Forked rules us a → ⊥) → (u : Update) → Held rules (us ++ (writtenOf rules (l .terms .bounds .predecessors) us a (operationFor k t i named) ∷ [])) u → u .author ≡ a
+        → Ancestor rules (us ++ (writtenOf rules (l .terms .bounds .predecessors) us a (operationFor k t i named) ∷ [])) u (writtenOf rules (l .terms .bounds .predecessors) us a (operationFor k t i named))
+        ⊎ Reached rules us (writtenOf rules (l .terms .bounds .predecessors) us a (operationFor k t i named)) u
+    written-forks-not-next =
+        written-no-fork-next rules (l .terms .bounds .predecessors) us (stands .holds .distinct) a op (λ u m e. fresh u m (e ∙ id-is))
+        (some-predecessors (l .terms) (stands .holds .terms-allowed))
 
     -- the place that the update took
     stands-held : (u : Update) (r : Book) {s′ : List ℕ} → u ≡ new → Stands r s′ (us ++ (u ∷ [])) → placeAt r (l .used) .standing ≡ IsHeld
@@ -189,12 +194,12 @@ module _ (l : Book) (s : List ℕ) (us : List Update) (stands : Stands l s us) (
         let last : updateAt (us ++ (u ∷ [])) (l .used) ≡ u = ap (updateAt (us ++ (u ∷ []))) q ∙ getD-append-seam us u [] noUpdate in
         only-held (us ++ (u ∷ [])) (placeAt r (l .used) .standing) (updateAt (us ++ (u ∷ [])) (l .used))
         (says r s′ (us ++ (u ∷ [])) after (placeAt r (l .used) .standing) (l .used) here refl)
-        (subst (λ (v : Update). Held ident (us ++ (u ∷ [])) v) (sym last)
-        (subst (λ (v : Update). Held ident (us ++ (v ∷ [])) v) (sym e) is-held))
+        (subst (λ (v : Update). Held rules (us ++ (u ∷ [])) v) (sym last)
+        (subst (λ (v : Update). Held rules (us ++ (v ∷ [])) v) (sym e) is-held))
 
--- Offered next, where a place is free and no stored update has its id, it is taken and held.
+-- Offered next, where there is room for it and no stored update has its id, it is taken and held.
 module _ (l : Ledger) (s : List ℕ) (us : List Update) (stands : Stands (bookOf l) s us) (a : ℕ) (k : Kind) (t : List ℕ) (i : Id) (named o : List ℕ)
-    {n : ℕ} {o′ : List ℕ} (wrote : Writing (bookOf l) s a k t i named o (putBytes n) o′) (free : bookOf l .used < places)
+    {n : ℕ} {o′ : List ℕ} (wrote : Writing (bookOf l) s a k t i named o (putBytes n) o′) (room : hasRoom (bookOf l .terms) us (writtenOf rules (bookOf l .terms .bounds .predecessors) us a (operationFor k t i named)) ≡ true)
     (fresh : (u : Update) → u ∈ us → ident u ≡ SHA-256 (take n o′) → ⊥) where
   abbrev before : Book
   before = bookOf l
@@ -206,7 +211,9 @@ module _ (l : Ledger) (s : List ℕ) (us : List Update) (stands : Stands (bookOf
       absurd (refused-update (sym d ∙ written-decodes before s us stands a k t i named o wrote))
   written-taken (known u j e d f) =
       let r = find-right before s us (stands .holds) (SHA-256 (take n o′)) j f in absurd (fresh (updateAt us j) (stored-at us j (r .0)) (r .1))
-  written-taken (full u e d f g) = absurd (omega arith)
+  written-taken (full u e d f g) =
+      let is-new : u ≡ writtenOf rules (before .terms .bounds .predecessors) us a (operationFor k t i named) = same-update before s us stands a k t i named o wrote d in
+      absurd (true-false room (ap (hasRoom (before .terms) us) (sym is-new) ∙ sym (room-stored before s u us (stands .holds)) ∙ g))
   written-taken (taken u r e d f g took) =
       let after : Book = bookOf r in
       let v : placeAt after (before .used) .standing ≡ IsHeld =

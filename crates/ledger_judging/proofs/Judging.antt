@@ -49,29 +49,29 @@ module _ (p : Place) (g : Gathered) (j : ℕ) (l : Book) (at : placeAt l j ≡ p
   by-void = by-standing Void
 
 -- the judgement of bytes, by what reading them answered
-module _ (l : Book) (s b : List ℕ) (r : ParseResult) (read : decodedOf b r ≡ decode b) where
+module _ (l : Book) (s b : List ℕ) (r : ParseResult) (read : decodedOf b r ≡ decode (l .terms .bounds) b) where
   pub judge-update : (u : Parsed) → r ≡ Accepted u
-      → judgeGathered l s (valueOf b u .op) (gather l nothingGathered (valueOf b u .preds)) ≡ judgeDecoded l s (decode b)
+      → judgeGathered l s (valueOf b u .op) (gather l nothingGathered (valueOf b u .preds)) ≡ judgeDecoded l s (decode (l .terms .bounds) b)
   unfolding judgeDecoded
   judge-update u e = ap (judgeDecoded l s) (ap (decodedOf b) (sym e) ∙ read)
 
-  pub judge-refused : (m : Malformed) → r ≡ Refused m → Waits ≡ judgeDecoded l s (decode b)
+  pub judge-refused : (m : Malformed) → r ≡ Refused m → Waits ≡ judgeDecoded l s (decode (l .terms .bounds) b)
   unfolding judgeDecoded
   judge-refused m e = ap (judgeDecoded l s) (ap (decodedOf b) (sym e) ∙ read)
 
 -- whether all predecessors are held, by the same
-module _ (l : Book) (b : List ℕ) (r : ParseResult) (read : decodedOf b r ≡ decode b) where
-  pub ready-update : (u : Parsed) → r ≡ Accepted u → allHeld (gather l nothingGathered (valueOf b u .preds)) ≡ readyDecoded l (decode b)
+module _ (l : Book) (b : List ℕ) (r : ParseResult) (read : decodedOf b r ≡ decode (l .terms .bounds) b) where
+  pub ready-update : (u : Parsed) → r ≡ Accepted u → allHeld (gather l nothingGathered (valueOf b u .preds)) ≡ readyDecoded l (decode (l .terms .bounds) b)
   unfolding readyDecoded
   ready-update u e = ap (readyDecoded l) (ap (decodedOf b) (sym e) ∙ read)
 
-  pub ready-refused : (m : Malformed) → r ≡ Refused m → false ≡ readyDecoded l (decode b)
+  pub ready-refused : (m : Malformed) → r ≡ Refused m → false ≡ readyDecoded l (decode (l .terms .bounds) b)
   unfolding readyDecoded
   ready-refused m e = ap (readyDecoded l) (ap (decodedOf b) (sym e) ∙ read)
 
-pub ready-stored : (l : Book) (s : List ℕ) (j : ℕ) (b : List ℕ) → b ≡ storedAt l s j → readyDecoded l (decode b) ≡ readyAt l s j
+pub ready-stored : (l : Book) (s : List ℕ) (j : ℕ) (b : List ℕ) → b ≡ storedAt l s j → readyDecoded l (decode (l .terms .bounds) b) ≡ readyAt l s j
 unfolding readyAt
-ready-stored l s j b stored = ap (λ (x : List ℕ). readyDecoded l (decode x)) stored
+ready-stored l s j b stored = ap (λ (x : List ℕ). readyDecoded l (decode (l .terms .bounds) x)) stored
 
 -- what was gathered says so
 module _ (g : Gathered) where
@@ -85,26 +85,26 @@ module _ (g : Gathered) where
 
 -- the judgement of the bytes of a place
 pub judge-stored : (l : Book) (s : List ℕ) (j : ℕ) (b : List ℕ) → b ≡ storedAt l s j
-    → judgeDecoded l s (decode b) ≡ judgeAt l s j
+    → judgeDecoded l s (decode (l .terms .bounds) b) ≡ judgeAt l s j
 unfolding judgeAt
-judge-stored l s j b stored = ap (λ (x : List ℕ). judgeDecoded l s (decode x)) stored
+judge-stored l s j b stored = ap (λ (x : List ℕ). judgeDecoded l s (decode (l .terms .bounds) x)) stored
 
 -- an id that names a place in the set `up`
 module _ (l : Book) (s : List ℕ) (p : U.Operation → Bool) (up : ℕ) (i : Id) where
-  pub names-in : (j : ℕ) → findIn l i ≡ some j → has up j ≡ true → (b : List ℕ) → b ≡ storedAt l s j → testOf p (decode b) ≡ namesAncestor l s p up i
+  pub names-in : (j : ℕ) → findIn l i ≡ some j → has up j ≡ true → (b : List ℕ) → b ≡ storedAt l s j → testOf p (decode (l .terms .bounds) b) ≡ namesAncestor l s p up i
   unfolding namesAncestor namesAt
   names-in j e h b f = rw (e, h, f)
 
   -- no bytes are no update
-  no-bytes : testOf p (decode []) ≡ false
+  no-bytes : testOf p (decode (l .terms .bounds) []) ≡ false
   unfolding testOf decode row2
   no-bytes = refl
 
-  pub names-out : (j : ℕ) → findIn l i ≡ some j → has up j ≡ false → testOf p (decode []) ≡ namesAncestor l s p up i
+  pub names-out : (j : ℕ) → findIn l i ≡ some j → has up j ≡ false → testOf p (decode (l .terms .bounds) []) ≡ namesAncestor l s p up i
   unfolding namesAncestor namesAt
   names-out j e h = no-bytes ∙ rw (e, h)
 
-  pub names-nowhere : findIn l i ≡ none → testOf p (decode []) ≡ namesAncestor l s p up i
+  pub names-nowhere : findIn l i ≡ none → testOf p (decode (l .terms .bounds) []) ≡ namesAncestor l s p up i
   unfolding namesAncestor namesAt
   names-nowhere e = no-bytes ∙ rw e
 

@@ -24,7 +24,7 @@ use Rattle.rules.specs.declared.Standing.the-variants.{Held as IsHeld}
 use Rattle.ledger_state.specs.State.{Book, placeAt}
 use Rattle.ledger_state.specs.PlaceOrder.{orderAt}
 use Rattle.ledger_state.specs.PlaceOrderLaws.{order-at-exactly}
-use Rattle.ledger_state.specs.Stands.{ident, updateAt, Holds, Truthful}
+use Rattle.ledger_state.specs.Stands.{rules, updateAt, Holds, Truthful}
 use Rattle.ledger_judging.specs.Antichain.{clearBelow, antichainAt, pairsBelow}
 use Rattle.ledger_judging.specs.Judge.{nothingGathered, gather}
 use Rattle.ledger_judging.specs.GatherLaws.{gather-few}
@@ -58,12 +58,12 @@ module _ {l : Book} {s : List ℕ} {us : List Update} (holds : Holds l s us) (tr
     (held : (j : ℕ) → has w j ≡ true → (j < length us) × (placeAt l j .standing ≡ IsHeld)) where
   -- no update at a place of the set is an ancestor of another
   abbrev pub PlacesApart : Type 0
-  PlacesApart = (j k : ℕ) → has w j ≡ true → has w k ≡ true → Ancestor ident us (updateAt us j) (updateAt us k) → ⊥
+  PlacesApart = (j k : ℕ) → has w j ≡ true → has w k ≡ true → Ancestor rules us (updateAt us j) (updateAt us k) → ⊥
 
   taken : (j : ℕ) → has w j ≡ true → j < l .used
   taken j x = subst (λ (n : ℕ). j < n) (sym (holds .number)) (held j x .0)
 
-  order : (j k : ℕ) → has w j ≡ true → has w k ≡ true → OrderExactly ident us (updateAt us j) (updateAt us k) (orderAt l j k)
+  order : (j k : ℕ) → has w j ≡ true → has w k ≡ true → OrderExactly rules us (updateAt us j) (updateAt us k) (orderAt l j k)
   order j k x y = let f = held j x in let g = held k y in order-at-exactly holds truthful j k (f .0) (g .0) (f .1) (g .1)
 
   pub antichain-at→ : antichainAt l w ≡ true → PlacesApart
@@ -76,7 +76,7 @@ module _ {l : Book} {s : List ℕ} {us : List Update} (holds : Holds l s us) (tr
       step false false p q =
           let one : j ≡ k = omega (arith, ltb-false j k p, ltb-false k j q) in
           let f = held j x in
-          held-acyclic ident us (truthful .held-right j (f .0) (f .1)) (subst (λ (i : ℕ). Ancestor ident us (updateAt us j) (updateAt us i)) (sym one) a)
+          held-acyclic rules us (truthful .held-right j (f .0) (f .1)) (subst (λ (i : ℕ). Ancestor rules us (updateAt us j) (updateAt us i)) (sym one) a)
 
   pub →antichain-at : PlacesApart → antichainAt l w ≡ true
   →antichain-at apart =

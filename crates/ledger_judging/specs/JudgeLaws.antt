@@ -34,7 +34,7 @@ use Rattle.ledger_state.specs.State.{Book, placeAt, decodedAt, findIn}
 use Rattle.ledger_judging.specs.Antichain.{antichainAt}
 use Rattle.ledger_judging.specs.AntichainLaws.{antichain-at→, →antichain-at}
 use Rattle.ledger_judging.specs.Judge.{nothingGathered, gather, namesAt, namesAncestor, valid, judgeReady, judgeGathered, judgeDecoded, judgeAt, allHeld, readyDecoded, readyAt}
-use Rattle.ledger_state.specs.Stands.{ident, noUpdate, updateAt, Holds, Truthful}
+use Rattle.ledger_state.specs.Stands.{ident, rules, noUpdate, updateAt, Holds, Truthful}
 use Rattle.ledger_state.specs.FindLaws.{stored-at, place-of, find-right, find-all}
 use Rattle.ledger_judging.specs.GatherLaws.{AllHeld, gathered-void→, gathered-void←, gathered-ready→, gathered-ready←, all-held→, all-held←, gathered-direct→, gathered-direct←, gathered-held, gathered-above→, gathered-above←}
 
@@ -42,7 +42,7 @@ use Rattle.ledger_judging.specs.GatherLaws.{AllHeld, gathered-void→, g
 stored-update : (l : Book) (s : List ℕ) (us : List Update) → Holds l s us → (k : ℕ) → k < length us
     → decodedAt l s k ≡ update (updateAt us k)
 stored-update l s us holds k h =
-    ap decode (holds .bytes k h) ∙ decode-complete (updateAt us k) (holds .bounded (updateAt us k) (stored-at us k h))
+    ap (decode (l .terms .bounds)) (holds .bytes k h) ∙ decode-complete (updateAt us k) (holds .bounded (updateAt us k) (stored-at us k h))
 
 -- the predecessors of its update are all held exactly where each is at a held place
 module _ (l : Book) (s : List ℕ) (us : List Update) (holds : Holds l s us) (k : ℕ) (h : k < length us) where
@@ -58,44 +58,44 @@ module _ (l : Book) (s : List ℕ) (us : List Update) (holds : Holds l s us) (k 
 
 -- the word has exactly the places of the ancestors of u
 record AncestorWord (us : List Update) (u : Update) (w : ℕ) : Type 0 where
-  only : (j : ℕ) → j < length us → has w j ≡ true → Ancestor ident us (updateAt us j) u
-  each : (j : ℕ) → j < length us → Ancestor ident us (updateAt us j) u → has w j ≡ true
+  only : (j : ℕ) → j < length us → has w j ≡ true → Ancestor rules us (updateAt us j) u
+  each : (j : ℕ) → j < length us → Ancestor rules us (updateAt us j) u → has w j ≡ true
 
 -- the operations are valid by such a word as by the rules
 module _ {l : Book} {s : List ℕ} {us : List Update} (holds : Holds l s us) {u : Update} {w : ℕ} (word : AncestorWord us u w) where
   names→ : (p : Operation → Bool) (i : Id) → namesAncestor l s p w i ≡ true
-      → (x : Update) × Ancestor ident us x u × (ident x ≡ i) × (p (x .op) ≡ true)
+      → (x : Update) × Ancestor rules us x u × (ident x ≡ i) × (p (x .op) ≡ true)
   unfolding namesAncestor namesAt testOf
   names→ p i = step (findIn l i) refl
     where
       step : (o : Option ℕ) → findIn l i ≡ o → namesAt l s p w o ≡ true
-          → (x : Update) × Ancestor ident us x u × (ident x ≡ i) × (p (x .op) ≡ true)
+          → (x : Update) × Ancestor rules us x u × (ident x ≡ i) × (p (x .op) ≡ true)
       step none f e = absurd (false≢true e)
       step (some j) f e =
           let r = find-right l s us holds i j f in
           let q = and-true→ (has w j) (testOf p (decodedAt l s j)) e in
           (updateAt us j, word .only j (r .0) (q .0), r .1, ap (testOf p) (sym (stored-update l s us holds j (r .0))) ∙ q .1)
 
-  →names : (p : Operation → Bool) {i : Id} {x : Update} → Ancestor ident us x u → ident x ≡ i → p (x .op) ≡ true → namesAncestor l s p w i ≡ true
+  →names : (p : Operation → Bool) {i : Id} {x : Update} → Ancestor rules us x u → ident x ≡ i → p (x .op) ≡ true → namesAncestor l s p w i ≡ true
   unfolding namesAncestor namesAt testOf
   →names p {i} {x} a e q =
-      let r = place-of us (ancestor-stored ident us a) in
+      let r = place-of us (ancestor-stored rules us a) in
       let f : findIn l i ≡ some (r .0) = ap (findIn l) (sym e ∙ ap ident (sym (r .2))) ∙ find-all l s us holds (r .0) (r .1) in
       ap (namesAt l s p w) f
       ∙ and-true (has w (r .0)) (testOf p (decodedAt l s (r .0)))
-      (word .each (r .0) (r .1) (subst (λ (y : Update). Ancestor ident us y u) (sym (r .2)) a))
+      (word .each (r .0) (r .1) (subst (λ (y : Update). Ancestor rules us y u) (sym (r .2)) a))
       (ap (testOf p) (stored-update l s us holds (r .0) (r .1)) ∙ ap (λ (y : Update). p (y .op)) (r .2) ∙ q)
 
-  insert→ : (i : Id) → namesAncestor l s isInsert w i ≡ true → InsertAncestor ident us u i
+  insert→ : (i : Id) → namesAncestor l s isInsert w i ≡ true → InsertAncestor rules us u i
   insert→ i e =
       let a = names→ isInsert i e in
       let o = isInsert→ (a .0 .op) (a .3) in
       record { found = a .0; above = a .1; has-id = a .2; anchor = o .0; value = o .1; is-insert = o .2 }
 
-  →insert : {i : Id} → InsertAncestor ident us u i → namesAncestor l s isInsert w i ≡ true
+  →insert : {i : Id} → InsertAncestor rules us u i → namesAncestor l s isInsert w i ≡ true
   →insert a = →names isInsert (a .above) (a .has-id) (→isInsert (a .is-insert))
 
-  valid→ : (o : Operation) → valid l s w o ≡ true → Valid ident us u o
+  valid→ : (o : Operation) → valid l s w o ≡ true → Valid rules us u o
   unfolding valid
   valid→ (Add t) e = tt
   valid→ (Remove t named) e = λ i m.
@@ -106,23 +106,23 @@ module _ {l : Book} {s : List ℕ} {us : List Update} (holds : Holds l s us) {u 
       (or-true→ (same a beginning) (namesAncestor l s isInsert w a) e)
   valid→ (Delete i) e = insert→ i e
 
-  →valid : (o : Operation) → Valid ident us u o → valid l s w o ≡ true
+  →valid : (o : Operation) → Valid rules us u o → valid l s w o ≡ true
   unfolding valid
   →valid (Add t) v = refl
   →valid (Remove t named) v =
       ∈→all (namesAncestor l s (isAdd t) w) named (λ i m. let a = v i m in →names (isAdd t) (a .above) (a .has-id) (→isAdd t (a .is-add)))
   →valid (Insert a x) v =
       ⊎-elim (λ (h : a ≡ beginning). or-left (same a beginning) (namesAncestor l s isInsert w a) (eq→same a beginning h))
-      (λ (h : InsertAncestor ident us u a). or-right (same a beginning) (namesAncestor l s isInsert w a) (→insert h)) v
+      (λ (h : InsertAncestor rules us u a). or-right (same a beginning) (namesAncestor l s isInsert w a) (→insert h)) v
   →valid (Delete i) v = →insert v
 
 -- what a judgement of u says
 Says : Book → List Update → Update → Judgement → Type 0
-Says l us u (Judged-holds w) = Held ident us u × AncestorWord us u w
-Says l us u Fails = Void ident us u
+Says l us u (Judged-holds w) = Held rules us u × AncestorWord us u w
+Says l us u Fails = Void rules us u
 Says l us u Waits =
     ((j : ℕ) → j < length us → ident (updateAt us j) ∈ u .preds → placeAt l j .standing ≡ IsVoid → ⊥)
-    × (Known ident us u → ((j : ℕ) → j < length us → ident (updateAt us j) ∈ u .preds → placeAt l j .standing ≡ IsHeld) → ⊥)
+    × (Known rules us u → ((j : ℕ) → j < length us → ident (updateAt us j) ∈ u .preds → placeAt l j .standing ≡ IsHeld) → ⊥)
 
 module _ (l : Book) (s : List ℕ) (us : List Update) (holds : Holds l s us) where
   module _ (truthful : Truthful l us) where
@@ -132,7 +132,7 @@ module _ (l : Book) (s : List ℕ) (us : List Update) (holds : Holds l s us) whe
 
       -- all predecessors are held
       module _ (ready : AllHeld l us (u .preds)) where
-        preds-known : Known ident us u
+        preds-known : Known rules us u
         preds-known = record { found = λ i m. let r = ready i m in (updateAt us (r .0), stored-at us (r .0) (r .1), r .2) }
 
         pred-held : (j : ℕ) → j < length us → ident (updateAt us j) ∈ u .preds → placeAt l j .standing ≡ IsHeld
@@ -140,26 +140,26 @@ module _ (l : Book) (s : List ℕ) (us : List Update) (holds : Holds l s us) whe
             let r = ready (ident (updateAt us j)) p in
             ap (λ (k : ℕ). placeAt l k .standing) (sym (distinct-index noUpdate (holds .distinct) (r .0) j (r .1) h (r .2))) ∙ r .3
 
-        preds-held : PredsHeld ident us u
+        preds-held : PredsHeld rules us u
         preds-held v m p =
             let r = place-of us m in
-            subst (Held ident us) (r .2) (truthful .held-right (r .0) (r .1) (pred-held (r .0) (r .1) (∈-cast (ap ident (r .2)) p)))
+            subst (Held rules us) (r .2) (truthful .held-right (r .0) (r .1) (pred-held (r .0) (r .1) (∈-cast (ap ident (r .2)) p)))
 
         -- the places of the predecessors, and of their ancestors
         direct-has : (j : ℕ) → j < length us → ident (updateAt us j) ∈ u .preds → has (gathered .direct) j ≡ true
         direct-has j h p = gathered-direct← l s us holds (u .preds) j h p (pred-held j h p)
 
-        above-has : (j : ℕ) {y : Update} → j < length us → y ∈ us → ident y ∈ u .preds → Ancestor ident us (updateAt us j) y
+        above-has : (j : ℕ) {y : Update} → j < length us → y ∈ us → ident y ∈ u .preds → Ancestor rules us (updateAt us j) y
             → has (gathered .above) j ≡ true
         above-has j h m p a =
             let r = place-of us m in
             let q = ∈-cast (ap ident (r .2)) p in
             let held = pred-held (r .0) (r .1) q in
             gathered-above← l s us holds (u .preds) j (r .0) (r .1) q held
-            (truthful .above-all (r .0) j (r .1) h held (subst (Ancestor ident us (updateAt us j)) (sym (r .2)) a))
+            (truthful .above-all (r .0) j (r .1) h held (subst (Ancestor rules us (updateAt us j)) (sym (r .2)) a))
 
         has-above : (j : ℕ) → j < length us → has (gathered .above) j ≡ true
-            → (y : Update) × (y ∈ us) × (ident y ∈ u .preds) × Ancestor ident us (updateAt us j) y
+            → (y : Update) × (y ∈ us) × (ident y ∈ u .preds) × Ancestor rules us (updateAt us j) y
         has-above j h e =
             let r = gathered-above→ l s us holds (u .preds) j e in
             (updateAt us (r .0), stored-at us (r .0) (r .1), r .2, truthful .above-right (r .0) j (r .1) h (r .3) (r .4))
@@ -182,22 +182,22 @@ module _ (l : Book) (s : List ℕ) (us : List Update) (holds : Holds l s us) whe
                   ∙ ⊎-elim
                   (λ (d : (updateAt us j ∈ us) × (ident (updateAt us j) ∈ u .preds)).
                   or-left (has (gathered .direct) j) (has (gathered .above) j) (direct-has j h (d .1)))
-                  (λ (d : (y : Update) × (y ∈ us) × (ident y ∈ u .preds) × Ancestor ident us (updateAt us j) y).
+                  (λ (d : (y : Update) × (y ∈ us) × (ident y ∈ u .preds) × Ancestor rules us (updateAt us j) y).
                   or-right (has (gathered .direct) j) (has (gathered .above) j) (above-has j h (d .1) (d .2) (d .3)))
-                  (ancestor-cases ident us a);
+                  (ancestor-cases rules us a);
             }
 
         -- the antichain rule
-        antichain→ : antichainAt l (gathered .direct) ≡ true → Antichain ident us u
+        antichain→ : antichainAt l (gathered .direct) ≡ true → Antichain rules us u
         antichain→ e x y mx my px py a =
             let r = place-of us mx in
             let q = place-of us my in
             antichain-at→ holds truthful (gathered .direct) (gathered-held l s us holds (u .preds)) e (r .0) (q .0)
             (direct-has (r .0) (r .1) (∈-cast (ap ident (r .2)) px))
             (direct-has (q .0) (q .1) (∈-cast (ap ident (q .2)) py))
-            (subst₂ (Ancestor ident us) (sym (r .2)) (sym (q .2)) a)
+            (subst₂ (Ancestor rules us) (sym (r .2)) (sym (q .2)) a)
 
-        →antichain : Antichain ident us u → antichainAt l (gathered .direct) ≡ true
+        →antichain : Antichain rules us u → antichainAt l (gathered .direct) ≡ true
         →antichain n =
             →antichain-at holds truthful (gathered .direct) (gathered-held l s us holds (u .preds))
             (λ j k x y a.
@@ -228,7 +228,7 @@ module _ (l : Book) (s : List ℕ) (us : List Update) (holds : Holds l s us) whe
       unfolding judgeGathered Says
       gathered-says = step (gathered .void) (gathered .ready) refl refl
         where
-          known-held : Known ident us u
+          known-held : Known rules us u
               → ((j : ℕ) → j < length us → ident (updateAt us j) ∈ u .preds → placeAt l j .standing ≡ IsHeld) → AllHeld l us (u .preds)
           known-held known below i m =
               let q = known .found i m in
@@ -253,21 +253,21 @@ module _ (l : Book) (s : List ℕ) (us : List Update) (holds : Holds l s us) whe
         subst (λ (d : Decoded). Says l us (updateAt us k) (judgeDecoded l s d)) (sym (stored-update l s us holds k h))
         (gathered-says (stored-at us k h))
 
-    pub judged-held : (k w : ℕ) → k < length us → judgeAt l s k ≡ Judged-holds w → Held ident us (updateAt us k)
+    pub judged-held : (k w : ℕ) → k < length us → judgeAt l s k ≡ Judged-holds w → Held rules us (updateAt us k)
     unfolding Says
     judged-held k w h e = subst (Says l us (updateAt us k)) e (judged k h) .0
 
     pub judged-above : (k w j : ℕ) → k < length us → j < length us → judgeAt l s k ≡ Judged-holds w → has w j ≡ true
-        → Ancestor ident us (updateAt us j) (updateAt us k)
+        → Ancestor rules us (updateAt us j) (updateAt us k)
     unfolding Says
     judged-above k w j h g e = subst (Says l us (updateAt us k)) e (judged k h) .1 .only j g
 
     pub judged-above-all : (k w j : ℕ) → k < length us → j < length us → judgeAt l s k ≡ Judged-holds w
-        → Ancestor ident us (updateAt us j) (updateAt us k) → has w j ≡ true
+        → Ancestor rules us (updateAt us j) (updateAt us k) → has w j ≡ true
     unfolding Says
     judged-above-all k w j h g e = subst (Says l us (updateAt us k)) e (judged k h) .1 .each j g
 
-    pub judged-void : (k : ℕ) → k < length us → judgeAt l s k ≡ Fails → Void ident us (updateAt us k)
+    pub judged-void : (k : ℕ) → k < length us → judgeAt l s k ≡ Fails → Void rules us (updateAt us k)
     unfolding Says
     judged-void k h e = subst (Says l us (updateAt us k)) e (judged k h)
 
@@ -276,7 +276,7 @@ module _ (l : Book) (s : List ℕ) (us : List Update) (holds : Holds l s us) whe
     unfolding Says
     judged-no-void k j h g e = subst (Says l us (updateAt us k)) e (judged k h) .0 j g
 
-    pub judged-not-ready : (k : ℕ) → k < length us → judgeAt l s k ≡ Waits → Known ident us (updateAt us k)
+    pub judged-not-ready : (k : ℕ) → k < length us → judgeAt l s k ≡ Waits → Known rules us (updateAt us k)
         → ((j : ℕ) → j < length us → ident (updateAt us j) ∈ updateAt us k .preds → placeAt l j .standing ≡ IsHeld) → ⊥
     unfolding Says
     judged-not-ready k h e = subst (Says l us (updateAt us k)) e (judged k h) .1

@@ -3,6 +3,7 @@ ghost use mathlib.Core.Path.{_≡_};
 ghost use mathlib.Core.Option.{some};
 ghost use mathlib.Core.Bool.{Bool, not};
 ghost use Prim.Native.Nat.{_≤_, _<_};
+ghost use Rattle.update_format.specs.Update.{documentBounds};
 ghost use Rattle.bytes_order.specs.Member.{all};
 ghost use Rattle.update_format.specs.Update as U;
 ghost use Rattle.update_format.specs.Decode.{idsAt, firstPredecessor, decode};
@@ -150,7 +151,7 @@ fn antichain(l: Ledger, set: Set) -> bool
 // The bytes of the place in the set `up` with this id, or no bytes.
 fn bytes_in<'a>(l: Ledger, store: &'a [u8], up: Set, id: &[u8]) -> &'a [u8]
     requires { ⌜ bookOf l .used ≤ places ⌝ }
-    ensures { λ r. ⌜ ((p : U.Operation → Bool) → testOf p (decode (now r)) ≡ namesAncestor (bookOf l) (now (store .entry)) p up (now (id .entry))) ⌝ }
+    ensures { λ r. ⌜ ((p : U.Operation → Bool) → testOf p (decode documentBounds (now r)) ≡ namesAncestor (bookOf l) (now (store .entry)) p up (now (id .entry))) ⌝ }
 {
     match find(l, id) {
         Found::At(j) => {
@@ -281,7 +282,7 @@ fn judge_update(l: Ledger, store: &[u8], b: &[u8], u: Parsed) -> Judgement
 // The judgement of the bytes b as an update; bytes that are none wait.
 pub fn judge_bytes(l: Ledger, store: &[u8], b: &[u8]) -> Judgement
     requires { ⌜ bookOf l .used ≤ places ⌝ }
-    ensures { λ r. ⌜ r ≡ judgeDecoded (bookOf l) (now (store .entry)) (decode (now (b .entry))) ⌝ }
+    ensures { λ r. ⌜ r ≡ judgeDecoded (bookOf l) (now (store .entry)) (decode documentBounds (now (b .entry))) ⌝ }
 {
     match update_parsing::read(b) {
         ParseResult::Update(u) => judge_update(l, store, b, u),
@@ -310,7 +311,7 @@ fn all_held(l: Ledger, b: &[u8], u: Parsed) -> bool
 // Whether the bytes b are an update whose predecessors are all held.
 fn bytes_ready(l: Ledger, b: &[u8]) -> bool
     requires { ⌜ bookOf l .used ≤ places ⌝ }
-    ensures { λ r. ⌜ r ≡ readyDecoded (bookOf l) (decode (now (b .entry))) ⌝ }
+    ensures { λ r. ⌜ r ≡ readyDecoded (bookOf l) (decode documentBounds (now (b .entry))) ⌝ }
 {
     match update_parsing::read(b) {
         ParseResult::Update(u) => all_held(l, b, u),

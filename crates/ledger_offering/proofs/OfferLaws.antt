@@ -1,11 +1,11 @@
 -- What an offer answers, from what the calls within it answered.
 use mathlib.Core.Path.{_≡_, sym, ap, subst, _∙_}
-use Prim.Native.Nat.{ℕ, _*_, _<_}
+use Prim.Native.Nat.{ℕ, _-_}
 use mathlib.Core.List.{List}
 use mathlib.Core.Option.{none, some}
 use mathlib.Core.Bool.{true, false}
 use Rattle.sha256_fips180.specs.Fips180.{SHA-256}
-use Rattle.update_format.specs.Update.{Id, maxLength}
+use Rattle.update_format.specs.Update.{Id}
 use Rattle.update_format.specs.Decode.{decode}
 use Rattle.update_format.specs.ParseResult.{malformedNumber, decodedOf, valueOf}
 use Rattle.update_format.specs.declared.Malformed.{Malformed}
@@ -14,7 +14,7 @@ use Rattle.update_format.specs.declared.ParseResult.{ParseResult}
 use Rattle.update_format.specs.declared.ParseResult.the-variants.{Update as Accepted, Refused as NotRead}
 use Rattle.ledger_state.specs.declared.Ledger.{Ledger}
 use Rattle.bytes_copy.specs.Overwritten.{overwritten}
-use Rattle.ledger_state.specs.State.{places, placeAt, findIn}
+use Rattle.ledger_state.specs.State.{roomIn, placeAt, findIn, startOf}
 use Rattle.ledger_state.specs.View.{bookOf}
 use Rattle.ledger_state.specs.Row1.{sound}
 use Rattle.ledger_refusals.specs.declared.Refusal.the-variants.{Unfit, Malformed as Bad, Full}
@@ -28,7 +28,7 @@ module _ (l : Ledger) (s b : List ℕ) where
   offered-unfit h e = rw e (unfit h)
 
   -- by what reading the bytes answered
-  module _ (fits : sound (bookOf l) s ≡ true) (r : ParseResult) (read : decodedOf b r ≡ decode b) where
+  module _ (fits : sound (bookOf l) s ≡ true) (r : ParseResult) (read : decodedOf b r ≡ decode (bookOf l .terms .bounds) b) where
     pub offered-malformed : (m : Malformed) → r ≡ NotRead m → {o : Offered} → o ≡ left l (Refused (Bad m)) → Offering l s b o s
     offered-malformed m h e = rw e (malformed (malformedNumber m) fits (sym read ∙ ap (decodedOf b) h))
 
@@ -41,12 +41,12 @@ module _ (l : Ledger) (s b : List ℕ) where
         → Offering l s b o s
     offered-known k h e = rw e (known (f .value) k (f .is-sound) (f .decodes) (ap (findIn (bookOf l)) (sym hashed) ∙ h))
 
-    pub offered-full : findIn (bookOf l) i ≡ none → bookOf l .used ≡ places → {o : Offered} → o ≡ left l (Refused Full) → Offering l s b o s
+    pub offered-full : findIn (bookOf l) i ≡ none → roomIn (bookOf l) s (f .value) ≡ false → {o : Offered} → o ≡ left l (Refused Full) → Offering l s b o s
     offered-full h n e = rw e (full (f .value) (f .is-sound) (f .decodes) (ap (findIn (bookOf l)) (sym hashed) ∙ h) n)
 
     -- a place is taken: the new place, and the two counts
-    pub offered-taken : findIn (bookOf l) i ≡ none → bookOf l .used < places → {r : Ledger} {s′ : List ℕ} {held void : ℕ}
-        → TookWith (bookOf l) s b (f .value) held void (bookOf r) s′ → s′ ≡ overwritten s (maxLength * bookOf l .used) b
+    pub offered-taken : findIn (bookOf l) i ≡ none → roomIn (bookOf l) s (f .value) ≡ true → {r : Ledger} {s′ : List ℕ} {held void : ℕ}
+        → TookWith (bookOf l) s b (f .value) held void (bookOf r) s′ → s′ ≡ overwritten s (startOf (bookOf l .terms) (bookOf l .used)) b
         → Offering l s b (record { answer = Taken (placeAt (bookOf r) (bookOf l .used) .standing) held void; ledger = r }) s′
     offered-taken h n {r} t w =
         rw (t .held-right, t .void-right, w)

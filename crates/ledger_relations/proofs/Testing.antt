@@ -9,7 +9,7 @@ use Rattle.rules.specs.CausalOrder.{isApart}
 use Rattle.rules.specs.Settle.{isInsert}
 use Rattle.bitset.specs.Bits.{count}
 use Rattle.rules.specs.declared.Standing.the-variants.{Held, Waiting, Void}
-use Rattle.ledger_state.specs.State.{Place, Book, placeAt, decodedIn, decodedAt, isHeld}
+use Rattle.ledger_state.specs.State.{Place, Book, placeAt, decodedIn, decodedAt, isHeld, Terms}
 use Rattle.ledger_state.specs.PlaceOrder.{placeOrder}
 use Rattle.ledger_state.specs.Number.{hasStanding}
 use Rattle.ledger_state.specs.NumberLaws.{is-held, is-waiting, is-void}
@@ -34,19 +34,19 @@ first-false : {a : Bool} (c : Bool) → a ≡ false → false ≡ (a && c)
 first-false c e = ap (λ (x : Bool). x && c) (sym e)
 
 module _ (own : Place) (k : ℕ) (other : Place) (q : ℕ) where
-  module _ (s : List ℕ) where
+  module _ (terms : Terms) (s : List ℕ) where
     abbrev sameAuthor : Bool
-    sameAuthor = eqb (authorIn (decodedIn s own k)) (authorIn (decodedIn s other q))
+    sameAuthor = eqb (authorIn (decodedIn terms s own k)) (authorIn (decodedIn terms s other q))
 
     module _ {c : Bool} (told : c ≡ not (isApart (placeOrder own k other q))) where
       apart-by : (b : Bool) → c ≡ not b → isApart (placeOrder own k other q) ≡ b
       apart-by b e = sym (Bool·not-not (isApart (placeOrder own k other q))) ∙ ap not (sym told ∙ e) ∙ Bool·not-not b
 
       -- two updates of one author
-      pub fork-apart : {a b : ℕ} → c ≡ false → a ≡ authorIn (decodedIn s own k) → b ≡ authorIn (decodedIn s other q) → eqb a b ≡ forks s own k other q
+      pub fork-apart : {a b : ℕ} → c ≡ false → a ≡ authorIn (decodedIn terms s own k) → b ≡ authorIn (decodedIn terms s other q) → eqb a b ≡ forks terms s own k other q
       fork-apart e f g = ap₂ eqb f g ∙ sym (ap (λ (x : Bool). sameAuthor && x) (apart-by true e) ∙ with-true sameAuthor)
 
-      pub fork-comparable : c ≡ true → false ≡ forks s own k other q
+      pub fork-comparable : c ≡ true → false ≡ forks terms s own k other q
       fork-comparable e = sym (ap (λ (x : Bool). sameAuthor && x) (apart-by false e) ∙ with-false sameAuthor)
 
 -- a test of a place that is to be held, by the answer whether it is
@@ -57,18 +57,18 @@ module _ (p : Place) {b : Bool} (h : b ≡ hasStanding Held (p .standing)) where
   pub held-not : (x : Bool) → b ≡ false → false ≡ (isHeld (p .standing) && x)
   held-not x e = first-false x (sym (h ∙ is-held (p .standing)) ∙ e)
 
-module _ (s : List ℕ) (p : Place) (k : ℕ) {b : Bool} (h : b ≡ hasStanding Held (p .standing)) where
+module _ (terms : Terms) (s : List ℕ) (p : Place) (k : ℕ) {b : Bool} (h : b ≡ hasStanding Held (p .standing)) where
   -- a held Insert of a rank
   abbrev holdsInsert : Bool
-  holdsInsert = isHeld (p .standing) && testOf isInsert (decodedIn s p k)
+  holdsInsert = isHeld (p .standing) && testOf isInsert (decodedIn terms s p k)
 
-  pub ranked-none : (n : ℕ) → b ≡ false → false ≡ rankedIn s n p k
-  ranked-none n e = ap (λ (x : Bool). x && eqb (count (p .ancestors)) n) (held-not p h (testOf isInsert (decodedIn s p k)) e)
+  pub ranked-none : (n : ℕ) → b ≡ false → false ≡ rankedIn terms s n p k
+  ranked-none n e = ap (λ (x : Bool). x && eqb (count (p .ancestors)) n) (held-not p h (testOf isInsert (decodedIn terms s p k)) e)
 
-  pub ranked-other : (n : ℕ) {m : ℕ} → m ≡ count (p .ancestors) → (m ≡ n → ⊥) → false ≡ rankedIn s n p k
+  pub ranked-other : (n : ℕ) {m : ℕ} → m ≡ count (p .ancestors) → (m ≡ n → ⊥) → false ≡ rankedIn terms s n p k
   ranked-other n e f = sym (ap (λ (x : Bool). holdsInsert && x) (ne-eqb (count (p .ancestors)) n (λ g. f (e ∙ g))) ∙ with-false holdsInsert)
 
-  pub ranked-insert : (n : ℕ) {c : Bool} {m : ℕ} → b ≡ true → m ≡ count (p .ancestors) → m ≡ n → c ≡ testOf isInsert (decodedIn s p k) → c ≡ rankedIn s n p k
+  pub ranked-insert : (n : ℕ) {c : Bool} {m : ℕ} → b ≡ true → m ≡ count (p .ancestors) → m ≡ n → c ≡ testOf isInsert (decodedIn terms s p k) → c ≡ rankedIn terms s n p k
   ranked-insert n {c} e f g i =
       held-and p h e i ∙ sym (ap (λ (x : Bool). holdsInsert && x) (eq-eqb (count (p .ancestors)) n (sym f ∙ g)) ∙ with-true holdsInsert)
 

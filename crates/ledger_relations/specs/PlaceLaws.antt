@@ -25,7 +25,7 @@ use Rattle.ledger_state.specs.State.{Book, placeAt, decodedAt, isHeld}
 use Rattle.ledger_state.specs.PlaceOrder.{orderAt}
 use Rattle.ledger_state.specs.PlaceOrderLaws.{order-at-exactly}
 use Rattle.update_fields.specs.Fields.{testOf, authorIn}
-use Rattle.ledger_state.specs.Stands.{ident, noUpdate, updateAt, Stands}
+use Rattle.ledger_state.specs.Stands.{ident, rules, noUpdate, updateAt, Stands}
 use Rattle.ledger_relations.specs.PlaceTests.{idAt, heldAt, authorAt}
 
 module _ {l : Book} {s : List ℕ} {us : List Update} (stands : Stands l s us) where
@@ -54,7 +54,7 @@ module _ {l : Book} {s : List ℕ} {us : List Update} (stands : Stands l s us) w
       (λ j k m n e. ap (λ (i : ℕ). i ∷ []) (same-place (upTo-∈ (length us) m) (upTo-∈ (length us) n) e))
 
   pub place-decoded : {k : ℕ} → k < length us → decodedAt l s k ≡ update (updateAt us k)
-  place-decoded {k} h = ap decode (stands .holds .bytes k h) ∙ decode-complete (updateAt us k) (stands .holds .bounded (updateAt us k) (place-in h))
+  place-decoded {k} h = ap (decode (l .terms .bounds)) (stands .holds .bytes k h) ∙ decode-complete (updateAt us k) (stands .holds .bounded (updateAt us k) (place-in h))
 
   pub place-author : {k : ℕ} → k < length us → authorAt l s k ≡ updateAt us k .author
   unfolding authorAt authorIn
@@ -69,28 +69,28 @@ module _ {l : Book} {s : List ℕ} {us : List Update} (stands : Stands l s us) w
   unfolding heldAt
   standing-held k e = isHeld→ (placeAt l k .standing) e
 
-  pub held-at→ : {k : ℕ} → k < length us → heldAt l s k ≡ true → Held ident us (updateAt us k)
+  pub held-at→ : {k : ℕ} → k < length us → heldAt l s k ≡ true → Held rules us (updateAt us k)
   held-at→ {k} h e = stands .truthful .held-right k h (standing-held k e)
 
-  pub →held-at : {k : ℕ} → k < length us → Held ident us (updateAt us k) → heldAt l s k ≡ true
+  pub →held-at : {k : ℕ} → k < length us → Held rules us (updateAt us k) → heldAt l s k ≡ true
   unfolding heldAt isHeld
   →held-at {k} h d = step (placeAt l k .standing) refl
     where
       step : (t : Standing) → placeAt l k .standing ≡ t → isHeld t ≡ true
       step IsHeld e = refl
       step IsWaiting e = absurd (stands .settled .waiting-right k h e .not-held d)
-      step IsVoid e = absurd (held-not-void ident us d (stands .truthful .void-right k h e))
+      step IsVoid e = absurd (held-not-void rules us d (stands .truthful .void-right k h e))
 
   -- and its word has exactly the places of its ancestors
   pub above-at→ : {j k : ℕ} → j < length us → k < length us → heldAt l s k ≡ true → has (placeAt l k .ancestors) j ≡ true
-      → Ancestor ident us (updateAt us j) (updateAt us k)
+      → Ancestor rules us (updateAt us j) (updateAt us k)
   above-at→ {j} {k} g h e b = stands .truthful .above-right k j h g (standing-held k e) b
 
-  pub →above-at : {j k : ℕ} → j < length us → k < length us → heldAt l s k ≡ true → Ancestor ident us (updateAt us j) (updateAt us k)
+  pub →above-at : {j k : ℕ} → j < length us → k < length us → heldAt l s k ≡ true → Ancestor rules us (updateAt us j) (updateAt us k)
       → has (placeAt l k .ancestors) j ≡ true
   →above-at {j} {k} g h e a = stands .truthful .above-all k j h g (standing-held k e) a
 
   -- and two held places stand to each other exactly as their updates do
   pub order-at : {j k : ℕ} → j < length us → k < length us → heldAt l s j ≡ true → heldAt l s k ≡ true
-      → OrderExactly ident us (updateAt us j) (updateAt us k) (orderAt l j k)
+      → OrderExactly rules us (updateAt us j) (updateAt us k) (orderAt l j k)
   order-at {j} {k} g h d e = order-at-exactly (stands .holds) (stands .truthful) j k g h (standing-held j d) (standing-held k e)

@@ -32,7 +32,7 @@ use Rattle.rules.specs.declared.Standing.the-variants.{Held as IsHeld, Waiting 
 use Rattle.ledger_state.specs.State.{Book, placeAt, decodedAt}
 use Rattle.update_fields.specs.Fields.{testOf}
 use Rattle.ledger_state.specs.PlaceOrder.{orderAt}
-use Rattle.ledger_state.specs.Stands.{ident, noUpdate, updateAt, Stands}
+use Rattle.ledger_state.specs.Stands.{ident, rules, noUpdate, updateAt, Stands}
 use Rattle.ledger_judging.specs.Judge.{readyAt}
 use Rattle.ledger_judging.specs.JudgeLaws.{ready-at→, →ready-at}
 use Rattle.ledger_relations.specs.PlaceTests.{idAt, heldAt, waitingAt, voidAt, authorAt, coveredAt, headAt, forkedWith, forkedAt, faultAt, idOrder}
@@ -60,14 +60,14 @@ row-in {r = r} (distinct-cons {x = q} {xs = T} n d) m = step (∈-cases m) (λ (
 
 -- the row of a place
 pub rowAt : List Update → ℕ → Row
-rowAt us k = rowIn (settledTable ident us) (ident (updateAt us k))
+rowAt us k = rowIn (settledTable rules us) (ident (updateAt us k))
 
 module _ {l : Book} {s : List ℕ} {us : List Update} (stands : Stands l s us) where
-  decides : Decides ident us (settledTable ident us)
-  decides = settled-decides ident us (stands .holds .distinct)
+  decides : Decides rules us (settledTable rules us)
+  decides = settled-decides rules us (stands .holds .distinct)
 
   abbrev T : Table
-  T = settledTable ident us
+  T = settledTable rules us
 
   found : {k : ℕ} → k < length us → (rowAt us k ∈ T) × (rowAt us k .update ≡ updateAt us k)
   unfolding rowAt
@@ -115,16 +115,16 @@ module _ {l : Book} {s : List ℕ} {us : List Update} (stands : Stands l s us) w
       let f = place-of stands (decides .of-set r m) in
       (f .0, f .1, ap (rowIn T) (ap ident (f .2) ∙ sym (decides .has-id r m)) ∙ row-in (decides .once) m)
 
-  pub table-rows : settledTable ident us ≡ map (rowAt us) (idOrder l s)
+  pub table-rows : settledTable rules us ≡ map (rowAt us) (idOrder l s)
   table-rows =
-      ascending-unique (settled-ascending ident us) rows-ascending
+      ascending-unique (settled-ascending rules us) rows-ascending
       (record {
         forth = λ r m. let f = row-of r m in ∈-cast (sym (f .2)) (∈-map (rowAt us) (∈-order (f .1)));
         back = λ r m. let f = map-∈ (rowAt us) (idOrder l s) m in ∈-cast (sym (f .2)) (found (order-∈ (f .1)) .0);
       })
 
   -- a test of some row, and of some place
-  pub any-agrees : (p : Row → Bool) (p′ : ℕ → Bool) → ((k : ℕ) → k < length us → p (rowAt us k) ≡ p′ k) → any p (settledTable ident us) ≡ anyBelow (l .used) p′
+  pub any-agrees : (p : Row → Bool) (p′ : ℕ → Bool) → ((k : ℕ) → k < length us → p (rowAt us k) ≡ p′ k) → any p (settledTable rules us) ≡ anyBelow (l .used) p′
   any-agrees p p′ h =
       test-ext (any p T) (anyBelow (l .used) p′)
       (λ e. let f = any→∈ p T e in let g = row-of (f .0) (f .1) in
@@ -146,13 +146,13 @@ module _ {l : Book} {s : List ℕ} {us : List Update} (stands : Stands l s us) w
 
       step : (v : Standing) → r .verdict ≡ v → (t : Standing) → placeAt l k .standing ≡ t → v ≡ t
       step IsHeld p IsHeld q = refl
-      step IsHeld p IsWaiting q = absurd (stands .settled .waiting-right k h q .not-held (subst (Held ident us) e (decides .held-right r m p)))
-      step IsHeld p IsVoid q = absurd (held-not-void ident us (decides .held-right r m p) (subst (Void ident us) (sym e) (stands .truthful .void-right k h q)))
-      step IsWaiting p IsHeld q = absurd (decides .waiting-right r m p .not-held (subst (Held ident us) (sym e) (stands .truthful .held-right k h q)))
+      step IsHeld p IsWaiting q = absurd (stands .settled .waiting-right k h q .not-held (subst (Held rules us) e (decides .held-right r m p)))
+      step IsHeld p IsVoid q = absurd (held-not-void rules us (decides .held-right r m p) (subst (Void rules us) (sym e) (stands .truthful .void-right k h q)))
+      step IsWaiting p IsHeld q = absurd (decides .waiting-right r m p .not-held (subst (Held rules us) (sym e) (stands .truthful .held-right k h q)))
       step IsWaiting p IsWaiting q = refl
-      step IsWaiting p IsVoid q = absurd (decides .waiting-right r m p .not-void (subst (Void ident us) (sym e) (stands .truthful .void-right k h q)))
-      step IsVoid p IsHeld q = absurd (held-not-void ident us (stands .truthful .held-right k h q) (subst (Void ident us) e (decides .void-right r m p)))
-      step IsVoid p IsWaiting q = absurd (stands .settled .waiting-right k h q .not-void (subst (Void ident us) e (decides .void-right r m p)))
+      step IsWaiting p IsVoid q = absurd (decides .waiting-right r m p .not-void (subst (Void rules us) (sym e) (stands .truthful .void-right k h q)))
+      step IsVoid p IsHeld q = absurd (held-not-void rules us (stands .truthful .held-right k h q) (subst (Void rules us) e (decides .void-right r m p)))
+      step IsVoid p IsWaiting q = absurd (stands .settled .waiting-right k h q .not-void (subst (Void rules us) e (decides .void-right r m p)))
       step IsVoid p IsVoid q = refl
 
   pub held-agrees : (k : ℕ) → k < length us → heldRow (rowAt us k) ≡ heldAt l s k
@@ -173,10 +173,10 @@ module _ {l : Book} {s : List ℕ} {us : List Update} (stands : Stands l s us) w
   above-agrees {j} {k} g h e =
       test-ext (member (r .id) (q .above)) (has (placeAt l k .ancestors) j)
       (λ b. let f = decides .above-right q m v (r .id) (member→∈ (r .id) (q .above) b) in
-      →above-at stands g h e (subst₂ (Ancestor ident us)
-      (distinct-eq (stands .holds .distinct) (ancestor-stored ident us (f .1)) (place-in stands g) (f .2 ∙ row-id g ∙ place-id stands g)) (row-update h) (f .1)))
+      →above-at stands g h e (subst₂ (Ancestor rules us)
+      (distinct-eq (stands .holds .distinct) (ancestor-stored rules us (f .1)) (place-in stands g) (f .2 ∙ row-id g ∙ place-id stands g)) (row-update h) (f .1)))
       (λ b. ∈→member (∈-cast (row-id g ∙ place-id stands g) (decides .above-all q m v (updateAt us j)
-      (subst (Ancestor ident us (updateAt us j)) (sym (row-update h)) (above-at→ stands g h e b)))))
+      (subst (Ancestor rules us (updateAt us j)) (sym (row-update h)) (above-at→ stands g h e b)))))
     where
       r : Row
       r = rowAt us j
@@ -198,37 +198,37 @@ module _ {l : Book} {s : List ℕ} {us : List Update} (stands : Stands l s us) w
 
   -- two held places stand to each other as their rows do
   pub order-agrees : {j k : ℕ} → j < length us → k < length us → heldAt l s j ≡ true → heldAt l s k ≡ true
-      → orderIn (settledTable ident us) (rowAt us j .id) (rowAt us k .id) ≡ orderAt l j k
+      → orderIn (settledTable rules us) (rowAt us j .id) (rowAt us k .id) ≡ orderAt l j k
   order-agrees {j} {k} g h d e =
       ap₂ (orderIn T) (row-id g ∙ place-id stands g) (row-id h ∙ place-id stands h)
       ∙ held-order (stands .holds .distinct) decides (held-at→ stands g d) (held-at→ stands h e) .all (orderAt l j k)
       (order-at stands g h d e .right (orderAt l j k) refl)
 
   -- heads
-  covered-agrees : {k : ℕ} → k < length us → heldAt l s k ≡ true → covered (settledTable ident us) (rowAt us k) ≡ coveredAt l s k
+  covered-agrees : {k : ℕ} → k < length us → heldAt l s k ≡ true → covered (settledTable rules us) (rowAt us k) ≡ coveredAt l s k
   unfolding covered coveredAt
   covered-agrees {k} h d =
       any-agrees (λ (q : Row). heldRow q && isBefore (orderIn T (rowAt us k .id) (q .id))) (λ (q : ℕ). heldAt l s q && isBefore (orderAt l k q))
       (λ q g. and-agrees (heldRow (rowAt us q)) (held-agrees q g) (λ e. ap isBefore (order-agrees h g d e)))
 
-  pub head-agrees : (k : ℕ) → k < length us → (heldRow (rowAt us k) && not (covered (settledTable ident us) (rowAt us k))) ≡ headAt l s k
+  pub head-agrees : (k : ℕ) → k < length us → (heldRow (rowAt us k) && not (covered (settledTable rules us) (rowAt us k))) ≡ headAt l s k
   unfolding headAt
   head-agrees k h = and-agrees (heldRow (rowAt us k)) (held-agrees k h) (λ e. ap not (covered-agrees h e))
 
   -- forks
-  forked-agrees : {r q : ℕ} → r < length us → q < length us → heldAt l s r ≡ true → forkedBy (settledTable ident us) (rowAt us r) (rowAt us q) ≡ forkedWith l s r q
+  forked-agrees : {r q : ℕ} → r < length us → q < length us → heldAt l s r ≡ true → forkedBy (settledTable rules us) (rowAt us r) (rowAt us q) ≡ forkedWith l s r q
   unfolding forkedBy forkedWith
   forked-agrees {r} {q} h g d =
       and-agrees (heldRow (rowAt us q)) (held-agrees q g) (λ e. λ i.
       eqb (author-agrees h i) (author-agrees g i) && isApart (order-agrees h g d e i))
 
-  pub fork-agrees : (k : ℕ) → k < length us → forkedRow (settledTable ident us) (rowAt us k) ≡ forkedAt l s k
+  pub fork-agrees : (k : ℕ) → k < length us → forkedRow (settledTable rules us) (rowAt us k) ≡ forkedAt l s k
   unfolding forkedRow forkedAt
   fork-agrees k h =
       and-agrees (heldRow (rowAt us k)) (held-agrees k h) (λ e. any-agrees (forkedBy T (rowAt us k)) (forkedWith l s k) (λ q g. forked-agrees h g e))
 
   -- faults
-  ready-agrees : {k : ℕ} → k < length us → all (heldIn (settledTable ident us)) (rowAt us k .update .preds) ≡ readyAt l s k
+  ready-agrees : {k : ℕ} → k < length us → all (heldIn (settledTable rules us)) (rowAt us k .update .preds) ≡ readyAt l s k
   unfolding heldRow isHeld heldAt
   ready-agrees {k} h =
       test-ext (all (heldIn T) (rowAt us k .update .preds)) (readyAt l s k)
@@ -241,12 +241,12 @@ module _ {l : Book} {s : List ℕ} {us : List Update} (stands : Stands l s us) w
       let r = ready-at→ l s us (stands .holds) k h e i (subst (λ (u : Update). i ∈ u .preds) (row-update h) m) in
       held-in (found (r .1) .0) (row-id (r .1) ∙ place-id stands (r .1) ∙ r .2) (verdict-agrees (r .1) ∙ r .3)))
 
-  pub fault-agrees : (k : ℕ) → k < length us → faultRow (settledTable ident us) (rowAt us k) ≡ faultAt l s k
+  pub fault-agrees : (k : ℕ) → k < length us → faultRow (settledTable rules us) (rowAt us k) ≡ faultAt l s k
   unfolding faultRow faultAt
   fault-agrees k h = and-agrees (isVoid (rowAt us k .verdict)) (void-agrees k h) (λ e. ready-agrees h)
 
   -- a held update whose operation passes a test
-  pub op-test-agrees : (p : Operation → Bool) → any (λ (q : Row). heldRow q && p (q .update .op)) (settledTable ident us)
+  pub op-test-agrees : (p : Operation → Bool) → any (λ (q : Row). heldRow q && p (q .update .op)) (settledTable rules us)
       ≡ anyBelow (l .used) (λ (q : ℕ). heldAt l s q && testOf p (decodedAt l s q))
   op-test-agrees p =
       any-agrees (λ (q : Row). heldRow q && p (q .update .op)) (λ (q : ℕ). heldAt l s q && testOf p (decodedAt l s q))

@@ -3,7 +3,7 @@ ghost use mathlib.Core.Path.{_≡_};
 ghost use mathlib.Core.Bool.{not};
 ghost use Prim.Native.Nat.{_<_};
 ghost use Rattle.rules.specs.CausalOrder.{isBefore, isApart};
-ghost use Rattle.ledger_state.specs.State.{places};
+ghost use Rattle.ledger_state.specs.State.{places, documentTerms};
 ghost use Rattle.ledger_state.specs.PlaceOrder.{placeOrder};
 ghost use Rattle.ledger_state.specs.View.{placeOf, bookOf};
 ghost use Rattle.ledger_state.specs.Bounds.{PlaceIn, TwoPlaces};
@@ -52,7 +52,7 @@ fn comparable(own: Place, k: usize, other: Place, q: usize) -> bool
 // Whether the places are apart and of one author.
 fn forks(store: &[u8], own: Place, k: usize, other: Place, q: usize) -> bool
     requires { ⌜ TwoPlaces k q ⌝ }
-    ensures { λ r. ⌜ r ≡ forks (now (store .entry)) (placeOf own) k (placeOf other) q ⌝ }
+    ensures { λ r. ⌜ r ≡ forks documentTerms (now (store .entry)) (placeOf own) k (placeOf other) q ⌝ }
 {
     if comparable(own, k, other, q) {
         return false;
@@ -64,7 +64,7 @@ fn forks(store: &[u8], own: Place, k: usize, other: Place, q: usize) -> bool
 // Whether the other place, q, does so to the own place, k.
 fn affects(store: &[u8], effect: Effect, own: Place, k: usize, other: Place, q: usize) -> bool
     requires { ⌜ TwoPlaces k q ⌝ }
-    ensures { λ r. ⌜ r ≡ affects (now (store .entry)) effect (placeOf own) k (placeOf other) q ⌝ }
+    ensures { λ r. ⌜ r ≡ affects documentTerms (now (store .entry)) effect (placeOf own) k (placeOf other) q ⌝ }
 {
     let id = own.id;
     match effect {
@@ -78,7 +78,7 @@ fn affects(store: &[u8], effect: Effect, own: Place, k: usize, other: Place, q: 
 // Whether the other place, q, is held and does so to the own place, k.
 fn held_affects(store: &[u8], effect: Effect, own: Place, k: usize, other: Place, q: usize) -> bool
     requires { ⌜ TwoPlaces k q ⌝ }
-    ensures { λ r. ⌜ r ≡ heldAffects (now (store .entry)) effect (placeOf own) k (placeOf other) q ⌝ }
+    ensures { λ r. ⌜ r ≡ heldAffects documentTerms (now (store .entry)) effect (placeOf own) k (placeOf other) q ⌝ }
 {
     if has_standing(other, Standing::Held) {
         affects(store, effect, own, k, other, q)
@@ -167,7 +167,7 @@ pub fn is_shown(l: Ledger, store: &[u8], k: usize) -> bool
 // Whether the place, k, holds a held Insert with n ancestors.
 pub fn is_ranked(store: &[u8], n: usize, p: Place, k: usize) -> bool
     requires { ⌜ k < places ⌝ }
-    ensures { λ r. ⌜ r ≡ rankedIn (now (store .entry)) n (placeOf p) k ⌝ }
+    ensures { λ r. ⌜ r ≡ rankedIn documentTerms (now (store .entry)) n (placeOf p) k ⌝ }
 {
     if !has_standing(p, Standing::Held) {
         return false;

@@ -1,5 +1,6 @@
 // Whether row 1 of the table applies to a ledger and its store.
 ghost use mathlib.Core.Path.{_≡_};
+ghost use Rattle.ledger_state.specs.State.{places, documentTerms};
 ghost use Rattle.ledger_state.specs.View.{placeOf, bookOf};
 ghost use Rattle.ledger_state.specs.Row1.{sound, soundPlace};
 use ledger_state::Ledger;
@@ -11,7 +12,7 @@ use update_format::bounds::MIN_LENGTH;
 
 // Whether a taken place's length and ancestors are possible ones.
 fn sound_place(used: usize, p: Place) -> bool
-    ensures { λ r. ⌜ r ≡ soundPlace used (placeOf p) ⌝ }
+    ensures { λ r. ⌜ r ≡ soundPlace documentTerms used (placeOf p) ⌝ }
 {
     if p.length < MIN_LENGTH {
         return false;

@@ -1,5 +1,5 @@
 -- What the two loops carry: the one over the places that may name a settled one, and the one over the worklist.
-use mathlib.Core.Path.{_≡_, refl, sym, _∙_, ap, subst}
+use mathlib.Core.Path.{_≡_, refl, sym, _∙_, ap, ap₂, subst}
 use Prim.Native.Nat.{ℕ, _+_, _≤_, _<_, zero-le}
 use native.Mathlib.Nat.{le-refl}
 use native.Mathlib.Omega.{arith}
@@ -10,7 +10,7 @@ use lib.Seq.{length-take-le, getD-take}
 use Rattle.update_format.specs.Update.{Id}
 use Rattle.rules.specs.SettlingTable.{isWaiting→}
 use Rattle.rules.specs.declared.Standing.the-variants.{Held as IsHeld, Waiting as IsWaiting, Void as IsVoid}
-use Rattle.ledger_state.specs.State.{Place, Book, placeAt, decodedIn, isWaiting}
+use Rattle.ledger_state.specs.State.{Terms, Place, Book, placeAt, decodedIn, isWaiting}
 use Rattle.ledger_state.specs.View.{bookOf}
 use Rattle.ledger_state.specs.BookLaws.{replaced-other}
 use Rattle.ledger_settling.specs.declared.Settling.{Settling}
@@ -19,7 +19,12 @@ use Rattle.ledger_settling.specs.Worklist.{Progress, progressOf, Judged,
 use Rattle.ledger_settling.specs.SettleLaws.{settled-place}
 use Rattle.ledger_settling.specs.WorklistLaws.{successors-begin, place-passed, place-judged, successors-end, worklist-end}
 
--- judging a place keeps how many are taken, and the other places
+-- judging a place keeps the terms, how many are taken, and the other places
+judged-terms : {s : List ℕ} {k : ℕ} {p q : Progress} → Judged s k p q → q .book .terms ≡ p .book .terms
+judged-terms (waits e) = refl
+judged-terms (holds e) = refl
+judged-terms (fails e) = refl
+
 judged-used : {s : List ℕ} {k : ℕ} {p q : Progress} → Judged s k p q → q .book .used ≡ p .book .used
 judged-used (waits e) = refl
 judged-used (holds e) = refl
@@ -38,6 +43,7 @@ worklist-length x r = length-take-le (x .held + x .void) (x .worklist) (omega (a
 -- at index i of the worklist
 pub record SuccessorsLoop (s : List ℕ) (i : ℕ) (l : Book) (id : Id) (used k : ℕ) (x y : Settling) : Type 0 where
   pub roomy : Roomy y
+  pub terms-kept : bookOf (y .ledger) .terms ≡ l .terms
   pub used-is : y .ledger .used ≡ used
   pub below : k ≤ used
   pub underway : (m : Book) → WorklistAt m s i (progressOf x) → SuccessorsAt m s i id k (progressOf y)
@@ -50,6 +56,7 @@ module _ (s : List ℕ) (i : ℕ) (l : Book) (id : Id) (used : ℕ) (x : Settlin
   loop-begin same asked u is =
       record {
         roomy = asked .roomy;
+        terms-kept = ap (λ (b : Book). b .terms) same;
         used-is = u;
         below = zero-le;
         underway = λ m h.
@@ -67,11 +74,12 @@ module _ (s : List ℕ) (i : ℕ) (l : Book) (id : Id) (used : ℕ) (x : Settlin
     loop-passed e =
         record {
           roomy = h .roomy;
+          terms-kept = h .terms-kept;
           used-is = h .used-is;
           below = omega arith;
           underway = λ m u.
               place-passed m s (h .underway m u)
-              (ap (λ (p : Place). isWaiting (p .standing) && follows id (decodedIn s p k)) here ∙ e);
+              (ap₂ (λ (t : Terms) (p : Place). isWaiting (p .standing) && follows id (decodedIn t s p k)) (h .terms-kept) here ∙ e);
           later = λ j g. h .later j (omega arith);
         }
 
@@ -83,6 +91,7 @@ module _ (s : List ℕ) (i : ℕ) (l : Book) (id : Id) (used : ℕ) (x : Settlin
     loop-judged z w o =
         record {
           roomy = o .roomy;
+          terms-kept = judged-terms (o .judged) ∙ h .terms-kept;
           used-is = judged-used (o .judged) ∙ h .used-is;
           below = omega arith;
           underway = λ m u.

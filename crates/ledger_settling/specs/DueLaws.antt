@@ -1,6 +1,6 @@
 -- Which places are due once a place is settled: those that were, and its successors.
 use mathlib.Core.Path.{_≡_, refl, sym, _∙_, ap}
-use Prim.Native.Nat.{ℕ, _*_, _<_}
+use Prim.Native.Nat.{ℕ, _<_}
 use mathlib.Core.Logic.{_⊎_, inl, inr, ⊎-elim}
 use mathlib.Core.List.{List, [], _∷_}
 use mathlib.Core.Option.{Option, none, some}
@@ -8,7 +8,7 @@ use mathlib.Core.Bool.{true, false}
 use Rattle.bytes_order.specs.BoolLaws.{bool-cases, true-false, or-false→}
 use Rattle.bytes_order.specs.Order.{same}
 use Rattle.bytes_order.specs.Member.{member}
-use Rattle.update_format.specs.Update.{Id, maxLength}
+use Rattle.update_format.specs.Update.{Id}
 use Rattle.update_format.specs.Decode.{decode, slice}
 use Rattle.bitset.specs.Below.{firstBelow}
 use Rattle.bitset.specs.BelowLaws.{firstBelow-some→}
@@ -16,7 +16,7 @@ use Rattle.rules.specs.declared.Standing.{Standing}
 use Rattle.rules.specs.declared.Standing.the-variants.{Waiting}
 use Rattle.ledger_judging.specs.declared.Gathered.{Gathered}
 use Rattle.ledger_judging.specs.declared.Judgement.the-variants.{Waits}
-use Rattle.ledger_state.specs.State.{Place, Book, placeAt, storedAt, decodedAt, withStanding, isWaiting, findIn}
+use Rattle.ledger_state.specs.State.{startOf, Place, Book, placeAt, storedAt, decodedAt, withStanding, isWaiting, findIn}
 use Rattle.ledger_state.specs.BookLaws.{replaced-same, replaced-other}
 use Rattle.ledger_judging.specs.Judge.{nothingGathered, gatherAt, gather, judgeDecoded, judgeAt}
 use Rattle.ledger_settling.specs.Settle.{follows, followsAt}
@@ -58,7 +58,7 @@ module _ (l : Book) (n : ℕ) (v : Standing) (w : ℕ) where
 
   -- an update names what it named
   pub follows-kept : (s : List ℕ) (x : Id) (k : ℕ) → followsAt (withStanding l n v w) s x k ≡ followsAt l s x k
-  follows-kept s x k = ap (λ (m : ℕ). follows x (decode (slice s (maxLength * k) m))) (same-length l n v w k)
+  follows-kept s x k = ap (λ (m : ℕ). follows x (decode (l .terms .bounds) (slice s (startOf (l .terms) k) m))) (same-length l n v w k)
 
   pub successor-kept : {s ps : List ℕ} {k : ℕ} → Successor l s ps k → Successor (withStanding l n v w) s ps k
   successor-kept {s} {ps} {k} x =
@@ -72,8 +72,8 @@ module _ (l : Book) (n : ℕ) (v : Standing) (w : ℕ) where
   stays-waiting : (s : List ℕ) (k : ℕ) → (k ≡ n → ⊥) → followsAt l s (placeAt l n .id) k ≡ false → judgeAt l s k ≡ Waits → judgeAt after s k ≡ Waits
   unfolding judgeAt follows
   stays-waiting s k ne out e =
-      let stored : storedAt after s k ≡ storedAt l s k = ap (λ (p : Place). slice s (maxLength * k) (p .length)) (other k ne) in
-      ap (λ (b : List ℕ). judgeDecoded after s (decode b)) stored
+      let stored : storedAt after s k ≡ storedAt l s k = ap (λ (p : Place). slice s (startOf (l .terms) k) (p .length)) (other k ne) in
+      ap (λ (b : List ℕ). judgeDecoded after s (decode (l .terms .bounds) b)) stored
       ∙ decoded-waits l after s s (decodedAt l s k) (λ u q. gather-others nothingGathered (u .preds) (ap (follows (placeAt l n .id)) (sym q) ∙ out)) e
 
   -- of the places that wait, those are due that were, and its successors

@@ -1,13 +1,13 @@
 -- Settling keeps what is so and ends with a ledger that stands as the rules say; and what it keeps of any ledger.
 use mathlib.Core.Path.{_≡_, refl, sym, _∙_, ap, subst, subst₂}
-use Prim.Native.Nat.{ℕ, _*_, _≤_, _<_}
+use Prim.Native.Nat.{ℕ, _≤_, _<_}
 use native.Mathlib.Omega.{arith}
 use mathlib.Core.List.{List}
 use mathlib.Core.Bool.{true}
 use lib.ListN.{length}
 use Rattle.bytes_order.specs.Member.{_∈_}
 use Rattle.bytes_order.specs.MemberLaws.{getD-∈}
-use Rattle.update_format.specs.Update.{Update, maxLength}
+use Rattle.update_format.specs.Update.{Update}
 use Rattle.update_format.specs.Decode.{slice}
 use Rattle.rules.specs.Standing.{Ancestor, Known, Held, Void}
 use Rattle.rules.specs.LeastSets.{SoundVerdicts, Stable, settled-waiting}
@@ -16,13 +16,13 @@ use Rattle.bitset.specs.BitsLaws.{within-none}
 use Rattle.rules.specs.declared.Standing.{Standing}
 use Rattle.rules.specs.declared.Standing.the-variants.{Held as IsHeld, Waiting as IsWaiting, Void as IsVoid}
 use Rattle.ledger_judging.specs.declared.Judgement.the-variants.{Holds as Judged-holds, Fails, Waits}
-use Rattle.ledger_state.specs.State.{Place, Book, placeAt, withStanding}
+use Rattle.ledger_state.specs.State.{Place, Book, placeAt, withStanding, startOf}
 use Rattle.ledger_state.specs.StandingLaws.{held≢void}
 use Rattle.ledger_state.specs.Row1.{sound}
 use Rattle.ledger_state.specs.Row1Laws.{SoundPlace, sound→, sound←, holds-sound}
 use Rattle.ledger_state.specs.Verdicts.{verdict, verdict-at, Placed, placed}
 use Rattle.ledger_judging.specs.Judge.{judgeAt}
-use Rattle.ledger_state.specs.Stands.{ident, noUpdate, updateAt, Holds, Truthful, Settled, Stands}
+use Rattle.ledger_state.specs.Stands.{ident, rules, noUpdate, updateAt, Holds, Truthful, Settled, Stands}
 use Rattle.ledger_state.specs.BookLaws.{replaced-cases}
 use Rattle.ledger_judging.specs.JudgeWithin.{judge-within}
 use Rattle.ledger_judging.specs.JudgeLaws.{judged-held, judged-above, judged-above-all, judged-void, judged-no-void, judged-not-ready}
@@ -65,8 +65,9 @@ module _ (l : Book) (k : ℕ) (v : Standing) (w : ℕ) where
   pub same-length : (j : ℕ) → placeAt (withStanding l k v w) j .length ≡ placeAt l j .length
   same-length j = place-cases (λ p. p .length ≡ placeAt l j .length) j refl (λ e. ap (λ (i : ℕ). placeAt l i .length) (sym e))
 
--- what settling keeps of any ledger: the places and their ids and lengths; and each place that did not wait
+-- what settling keeps of any ledger: its terms; the places and their ids and lengths; and each place that did not wait
 pub record Kept (l r : Book) : Type 0 where
+  pub terms-kept : r .terms ≡ l .terms
   pub used-kept : r .used ≡ l .used
   pub id-kept : (k : ℕ) → placeAt r k .id ≡ placeAt l k .id
   pub length-kept : (k : ℕ) → placeAt r k .length ≡ placeAt l k .length
@@ -76,6 +77,7 @@ pub record Kept (l r : Book) : Type 0 where
 kept-refl : (l : Book) → Kept l l
 kept-refl l =
     record {
+      terms-kept = refl;
       used-kept = refl;
       id-kept = λ k. refl;
       length-kept = λ k. refl;
@@ -86,6 +88,7 @@ kept-refl l =
 kept-trans : {l m r : Book} → Kept l m → Kept m r → Kept l r
 kept-trans {l} {m} {r} a b =
     record {
+      terms-kept = b .terms-kept ∙ a .terms-kept;
       used-kept = b .used-kept ∙ a .used-kept;
       id-kept = λ k. b .id-kept k ∙ a .id-kept k;
       length-kept = λ k. b .length-kept k ∙ a .length-kept k;
@@ -97,6 +100,7 @@ kept-trans {l} {m} {r} a b =
 kept-step : (l : Book) (k : ℕ) (v : Standing) (w : ℕ) → k < l .used → placeAt l k .standing ≡ IsWaiting → Kept l (withStanding l k v w)
 kept-step l k v w h q =
     record {
+      terms-kept = refl;
       used-kept = refl;
       id-kept = same-id l k v w;
       length-kept = same-length l k v w;
@@ -119,10 +123,11 @@ sound-step s l k v w j e =
     let inside = settles-within l (λ i g. h .each i g .inside) j in
     sound← (withStanding l k v w) s
     (record {
+      terms-allowed = h .terms-allowed;
       store = h .store;
       few = h .few;
       each = λ i g.
-          place-cases l k v w (SoundPlace (l .used)) i (h .each i g)
+          place-cases l k v w (SoundPlace (l .terms) (l .used)) i (h .each i g)
           (λ (q : i ≡ k).
           let p = h .each k (subst (λ (x : ℕ). x < l .used) q g) in record { long = p .long; short = p .short; inside = inside });
     })
@@ -132,6 +137,7 @@ module _ (s : List ℕ) (us : List Update) where
   holds-step : (l : Book) (k : ℕ) (v : Standing) (w : ℕ) → within w (l .used) ≡ true → Holds l s us → Holds (withStanding l k v w) s us
   holds-step l k v w inside h =
       record {
+        terms-allowed = h .terms-allowed;
         store-whole = h .store-whole;
         room = h .room;
         number = h .number;
@@ -139,7 +145,7 @@ module _ (s : List ℕ) (us : List Update) where
         distinct = h .distinct;
         ids = λ j g. same-id l k v w j ∙ h .ids j g;
         lengths = λ j g. same-length l k v w j ∙ h .lengths j g;
-        bytes = λ j g. ap (λ (n : ℕ). slice s (maxLength * j) n) (same-length l k v w j) ∙ h .bytes j g;
+        bytes = λ j g. ap (λ (n : ℕ). slice s (startOf (l .terms) j) n) (same-length l k v w j) ∙ h .bytes j g;
         inside = λ j g. place-cases l k v w (λ p. within (p .ancestors) (length us) ≡ true) j (h .inside j g)
             (λ _. subst (λ (n : ℕ). within w n ≡ true) (h .number) inside);
       }
@@ -149,27 +155,27 @@ module _ (s : List ℕ) (us : List Update) where
   truthful-step l k v w hk j h t =
       record {
         held-right = λ i g.
-            place-cases l k v w (λ p. p .standing ≡ IsHeld → Held ident us (updateAt us i)) i (t .held-right i g)
-            (λ e q. subst (λ (x : ℕ). Held ident us (updateAt us x)) (sym e) (judged-held l s us h t k w hk (settles-held j q)));
+            place-cases l k v w (λ p. p .standing ≡ IsHeld → Held rules us (updateAt us i)) i (t .held-right i g)
+            (λ e q. subst (λ (x : ℕ). Held rules us (updateAt us x)) (sym e) (judged-held l s us h t k w hk (settles-held j q)));
         void-right = λ i g.
-            place-cases l k v w (λ p. p .standing ≡ IsVoid → Void ident us (updateAt us i)) i (t .void-right i g)
-            (λ e q. subst (λ (x : ℕ). Void ident us (updateAt us x)) (sym e) (judged-void l s us h t k hk (settles-void j q)));
+            place-cases l k v w (λ p. p .standing ≡ IsVoid → Void rules us (updateAt us i)) i (t .void-right i g)
+            (λ e q. subst (λ (x : ℕ). Void rules us (updateAt us x)) (sym e) (judged-void l s us h t k hk (settles-void j q)));
         above-right = λ i a g ga.
             place-cases l k v w
-            (λ p. p .standing ≡ IsHeld → has (p .ancestors) a ≡ true → Ancestor ident us (updateAt us a) (updateAt us i))
+            (λ p. p .standing ≡ IsHeld → has (p .ancestors) a ≡ true → Ancestor rules us (updateAt us a) (updateAt us i))
             i
             (t .above-right i a g ga)
             (λ e q b.
-            subst (λ (x : ℕ). Ancestor ident us (updateAt us a) (updateAt us x)) (sym e)
+            subst (λ (x : ℕ). Ancestor rules us (updateAt us a) (updateAt us x)) (sym e)
             (judged-above l s us h t k w a hk ga (settles-held j q) b));
         above-all = λ i a g ga.
             place-cases l k v w
-            (λ p. p .standing ≡ IsHeld → Ancestor ident us (updateAt us a) (updateAt us i) → has (p .ancestors) a ≡ true)
+            (λ p. p .standing ≡ IsHeld → Ancestor rules us (updateAt us a) (updateAt us i) → has (p .ancestors) a ≡ true)
             i
             (t .above-all i a g ga)
             (λ e q b.
             judged-above-all l s us h t k w a hk ga (settles-held j q)
-            (subst (λ (x : ℕ). Ancestor ident us (updateAt us a) (updateAt us x)) e b));
+            (subst (λ (x : ℕ). Ancestor rules us (updateAt us a) (updateAt us x)) e b));
         none-above = λ i g.
             place-cases l k v w (λ p. (p .standing ≡ IsHeld → ⊥) → p .ancestors ≡ 0) i (t .none-above i g) (λ e. settles-none-above j);
       }
@@ -177,21 +183,21 @@ module _ (s : List ℕ) (us : List Update) where
 -- a ledger that says what is so, and judges each waiting place to go on waiting, is settled
 module _ (l : Book) (s : List ℕ) (us : List Update) (h : Holds l s us) (t : Truthful l us)
     (still : (k : ℕ) → k < length us → placeAt l k .standing ≡ IsWaiting → judgeAt l s k ≡ Waits) where
-  ledger-sound : SoundVerdicts ident us (verdict l)
+  ledger-sound : SoundVerdicts rules us (verdict l)
   ledger-sound =
       record {
         held-sound = λ u m e.
             let p = placed l s us h m in
-            subst (Held ident us) (p .is) (t .held-right (p .place) (p .inside) ((p .says ∙ e)));
+            subst (Held rules us) (p .is) (t .held-right (p .place) (p .inside) ((p .says ∙ e)));
         void-sound = λ u m e.
             let p = placed l s us h m in
-            subst (Void ident us) (p .is) (t .void-right (p .place) (p .inside) ((p .says ∙ e)));
+            subst (Void rules us) (p .is) (t .void-right (p .place) (p .inside) ((p .says ∙ e)));
       }
 
   judged-waits : {u : Update} (p : Placed l s us h u) → verdict l u ≡ IsWaiting → judgeAt l s (p .place) ≡ Waits
   judged-waits p e = still (p .place) (p .inside) ((p .says ∙ e))
 
-  ledger-stable : Stable ident us (verdict l)
+  ledger-stable : Stable rules us (verdict l)
   ledger-stable =
       record {
         no-void = λ u v m n e i f.
@@ -202,7 +208,7 @@ module _ (l : Book) (s : List ℕ) (us : List Update) (h : Holds l s us) (t : Tr
             ((q .says ∙ f));
         not-ready = λ u m e k all.
             let p = placed l s us h m in
-            judged-not-ready l s us h t (p .place) (p .inside) (judged-waits p e) (subst (Known ident us) (sym (p .is)) k)
+            judged-not-ready l s us h t (p .place) (p .inside) (judged-waits p e) (subst (Known rules us) (sym (p .is)) k)
             (λ j g i.
             (sym (verdict-at l s us h j g)
             ∙ all (updateAt us j) (getD-∈ us j noUpdate g) (subst (λ (y : Update). ident (updateAt us j) ∈ y .preds) (p .is) i)));
@@ -212,7 +218,7 @@ module _ (l : Book) (s : List ℕ) (us : List Update) (h : Holds l s us) (t : Tr
   ledger-settled =
       record {
         waiting-right = λ k g q.
-            settled-waiting ident us (verdict l) ledger-sound ledger-stable (updateAt us k) (getD-∈ us k noUpdate g)
+            settled-waiting rules us (verdict l) ledger-sound ledger-stable (updateAt us k) (getD-∈ us k noUpdate g)
             (verdict-at l s us h k g ∙ q);
       }
 

@@ -1,6 +1,6 @@
 -- In a ledger that stands, each place that waits is judged to go on waiting; and so it is once the next place is taken, by an update that waits.
 use mathlib.Core.Path.{_≡_, refl, sym, _∙_, ap}
-use Prim.Native.Nat.{ℕ, _+_, _*_, _≤_, _<_}
+use Prim.Native.Nat.{ℕ, _+_, _≤_, _<_}
 use native.Mathlib.Omega.{arith}
 use native.Mathlib.Nat.{eq-or-lt-of-le}
 use mathlib.Core.Logic.{⊎-elim}
@@ -10,7 +10,7 @@ use mathlib.Core.Bool.{Bool, true, false, cond, false≢true}
 use lib.ListN.{length}
 use Rattle.bytes_order.specs.BoolLaws.{true-false}
 use Rattle.bytes_order.specs.Order.{same}
-use Rattle.update_format.specs.Update.{Id, Operation, Update, maxLength}
+use Rattle.update_format.specs.Update.{maxLength, Id, Operation, Update}
 use Rattle.update_format.specs.Decode.{Decoded, refused, update, decode, slice}
 use Rattle.bitset.specs.Bits.{including, join}
 use Rattle.bitset.specs.BelowLaws.{firstBelow-some→, firstBelow-some←, firstBelow-none→}
@@ -21,12 +21,12 @@ use Rattle.ledger_judging.specs.declared.Judgement.{Judgement}
 use Rattle.ledger_judging.specs.declared.Judgement.the-variants.{Holds as Judged-holds, Fails, Waits}
 use Rattle.bytes_copy.specs.Overwritten.{overwritten}
 use Rattle.bytes_copy.specs.OverwrittenLaws.{overwritten-before}
-use Rattle.ledger_state.specs.State.{places, Place, Book, placeAt, storedAt, decodedAt, withTaken, findIn}
+use Rattle.ledger_state.specs.State.{places, Place, Book, placeAt, storedAt, decodedAt, withTaken, findIn, startOf}
 use Rattle.ledger_judging.specs.Antichain.{antichainAt}
 use Rattle.ledger_judging.specs.Judge.{nothingGathered, gatherBy, gatherAt, gather, valid, judgeReady, judgeGathered, judgeDecoded, judgeAt}
 use Rattle.ledger_settling.specs.Settle.{isWaits, OthersWait}
 use Rattle.ledger_state.specs.Stands.{Stands}
-use Rattle.ledger_state.specs.Row1Laws.{holds-sound}
+use Rattle.ledger_state.specs.Row1Laws.{start-next, start-inside, holds-sound}
 use Rattle.ledger_state.specs.FindLaws.{find-taken}
 use Rattle.ledger_judging.specs.JudgeLaws.{judged-held, judged-void}
 use Rattle.ledger_state.specs.TakeLaws.{taken-new, taken-old}
@@ -127,19 +127,19 @@ module _ (l : Book) (i : Id) (n : ℕ) where
   gather-taken g (x ∷ xs) = ap (λ (h : Gathered). gather taken h xs) (gather-one x g) ∙ gather-taken (gatherAt l g (findIn l x)) xs
 
 -- where the ledger stood, the others wait once the next place is taken and its bytes are written
-pub taken-others : (l : Book) (s : List ℕ) (us : List Update) → Stands l s us → (i : Id) (b : List ℕ) → l .used < places → length b ≤ maxLength
-    → OthersWait (withTaken l i (length b)) (overwritten s (maxLength * l .used) b)
+pub taken-others : (l : Book) (s : List ℕ) (us : List Update) → Stands l s us → (i : Id) (b : List ℕ) → l .used < l .terms .places → length b ≤ maxLength (l .terms .bounds)
+    → OthersWait (withTaken l i (length b)) (overwritten s (startOf (l .terms) (l .used)) b)
 unfolding judgeAt
 taken-others l s us stands i b free short k h q =
     let r = withTaken l i (length b) in
-    let s′ = overwritten s (maxLength * l .used) b in
+    let s′ = overwritten s (startOf (l .terms) (l .used)) b in
     let holds = stands .holds in
     let inside : k < l .used = omega arith in
     let old : placeAt r k ≡ placeAt l k = at-old l i (length b) k inside in
     let stored : storedAt r s′ k ≡ storedAt l s k =
-    ap (λ (p : Place). slice s′ (maxLength * k) (p .length)) old
-    ∙ overwritten-before s (maxLength * l .used) b (omega (arith, holds .store-whole)) (maxLength * k) (placeAt l k .length)
-    (omega (arith, holds-sound l s us holds .each k inside .short)) in
-    ap (λ (x : List ℕ). judgeDecoded r s′ (decode x)) stored
+    ap (λ (p : Place). slice s′ (startOf (l .terms) k) (p .length)) old
+    ∙ overwritten-before s (startOf (l .terms) (l .used)) b (omega (arith, holds .store-whole, start-inside (l .terms) (l .used) free, short)) (startOf (l .terms) k) (placeAt l k .length)
+    (omega (arith, holds-sound l s us holds .each k inside .short, start-next (l .terms) k (l .used) inside)) in
+    ap (λ (x : List ℕ). judgeDecoded r s′ (decode (l .terms .bounds) x)) stored
     ∙ decoded-waits l r s s′ (decodedAt l s k) (λ u _. gather-taken l i (length b) nothingGathered (u .preds))
     (waits-judged l s us stands k (omega (arith, holds .number)) (ap (λ (p : Place). p .standing) (sym old) ∙ q))

@@ -83,7 +83,7 @@ pub record ListedAt (x : Settling) (i : ℕ) : Type 0 where
 
 -- k is the newest place, and waits
 pub record NewestWaits (l : Book) (k : ℕ) : Type 0 where
-  pub used-within : l .used ≤ places
+  pub used-within : l .used ≤ l .terms .places
   pub newest : k + 1 ≡ l .used
   pub waiting : placeAt l k .standing ≡ Waiting
 

@@ -3,8 +3,9 @@
 ghost use mathlib.Core.Path.{_≡_};
 ghost use mathlib.Core.Bool.{_&&_};
 ghost use Prim.Native.Nat.{_<_};
+ghost use Rattle.update_format.specs.Update.{documentBounds};
 ghost use Rattle.update_format.specs.Decode.{decode};
-ghost use Rattle.ledger_state.specs.State.{places, decodedIn, isWaiting};
+ghost use Rattle.ledger_state.specs.State.{documentTerms, places, decodedIn, isWaiting};
 ghost use Rattle.ledger_state.specs.View.{placeOf, bookOf};
 ghost use Rattle.ledger_settling.specs.Settle.{follows, SettledFrom};
 ghost use Rattle.ledger_settling.specs.Worklist.{Roomy, WaitsAt, ListedAt, NewestWaits, Judges, JudgesSuccessors, Empties};
@@ -31,7 +32,7 @@ pub struct Settling {
 
 // Whether the bytes are an update that names the id among its predecessors.
 fn follows(b: &[u8], id: &[u8]) -> bool
-    ensures { λ r. ⌜ r ≡ follows (now (id .entry)) (decode (now (b .entry))) ⌝ }
+    ensures { λ r. ⌜ r ≡ follows (now (id .entry)) (decode documentBounds (now (b .entry))) ⌝ }
 {
     match update_parsing::read(b) {
         ParseResult::Update(u) => update_fields::among(b, FIRST_PREDECESSOR, u.count, id),
@@ -42,7 +43,7 @@ fn follows(b: &[u8], id: &[u8]) -> bool
 // Whether the place k, which is p, waits and its update names the id.
 fn waits_for(p: Place, store: &[u8], k: usize, id: Id) -> bool
     requires { ⌜ k < places ⌝ }
-    ensures { λ r. ⌜ r ≡ (isWaiting (p .standing) && follows id (decodedIn (now (store .entry)) (placeOf p) k)) ⌝ }
+    ensures { λ r. ⌜ r ≡ (isWaiting (p .standing) && follows id (decodedIn documentTerms (now (store .entry)) (placeOf p) k)) ⌝ }
 {
     if has_standing(p, Standing::Waiting) {
         follows(stored(store, k, p.length), &id)

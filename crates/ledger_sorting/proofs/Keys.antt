@@ -3,6 +3,7 @@ use Prim.Native.Nat.{ℕ}
 use mathlib.Core.Path.{_≡_, refl, sym, _∙_, ap}
 use mathlib.Core.List.{List, [], _∷_}
 use mathlib.Core.Bool.{true, not, _&&_}
+use Rattle.update_format.specs.Update.{Bounds}
 use Rattle.bytes_order.specs.BoolLaws.{and-true→}
 use Rattle.bytes_order.specs.declared.Order.{Order}
 use Rattle.bytes_order.specs.Compare.{orderOf, thenBy}
@@ -22,17 +23,17 @@ use Rattle.ledger_sorting.specs.declared.Key.the-variants.{Id, SetEntry}
 use Rattle.ledger_sorting.specs.PlaceLists.{hasKey, candidate, keyed}
 
 -- the entries of two Adds: by how their tags stand to each other, o, then by author
-pub set-entries-order : (b b′ : List ℕ) {o : Order} → testOf isAnyAdd (decode b) ≡ true → testOf isAnyAdd (decode b′) ≡ true
-    → o ≡ orderOf (tagIn (decode b)) (tagIn (decode b′))
-    → thenBy o (orderOf (authorIn (decode b) ∷ []) (authorIn (decode b′) ∷ [])) ≡ orderOf (entryKey (setEntryIn (decode b))) (entryKey (setEntryIn (decode b′)))
+pub set-entries-order : (bounds : Bounds) (b b′ : List ℕ) {o : Order} → testOf isAnyAdd (decode bounds b) ≡ true → testOf isAnyAdd (decode bounds b′) ≡ true
+    → o ≡ orderOf (tagIn (decode bounds b)) (tagIn (decode bounds b′))
+    → thenBy o (orderOf (authorIn (decode bounds b) ∷ []) (authorIn (decode bounds b′) ∷ [])) ≡ orderOf (entryKey (setEntryIn (decode bounds b))) (entryKey (setEntryIn (decode bounds b′)))
 unfolding entryKey
-set-entries-order b b′ h g e =
-    ap (λ (o : Order). thenBy o (orderOf (authorIn (decode b) ∷ []) (authorIn (decode b′) ∷ []))) e
-    ∙ sym (order-append (tagIn (decode b)) (tagIn (decode b′)) (authorIn (decode b) ∷ []) (authorIn (decode b′) ∷ []) (add-tag-length b h ∙ sym (add-tag-length b′ g)))
+set-entries-order bounds b b′ h g e =
+    ap (λ (o : Order). thenBy o (orderOf (authorIn (decode bounds b) ∷ []) (authorIn (decode bounds b′) ∷ []))) e
+    ∙ sym (order-append (tagIn (decode bounds b)) (tagIn (decode bounds b′)) (authorIn (decode bounds b) ∷ []) (authorIn (decode bounds b′) ∷ []) (add-tag-length bounds b h ∙ sym (add-tag-length bounds b′ g)))
 
 module _ (l : Book) (s : List ℕ) where
   -- a listed place has the key
-  pub candidate-keyed : (y : Key) (k : ℕ) → candidate l s y k ≡ true → hasKey s y (placeAt l k) k ≡ true
+  pub candidate-keyed : (y : Key) (k : ℕ) → candidate l s y k ≡ true → hasKey (l .terms) s y (placeAt l k) k ≡ true
   unfolding presentAt
   candidate-keyed Id k e = refl
   candidate-keyed SetEntry k e =
@@ -41,5 +42,5 @@ module _ (l : Book) (s : List ℕ) where
 
   pub sorted-keyed : (y : Key) (key : ℕ → List ℕ) (xs : List ℕ) → keyed l s y (sort key (keep (candidate l s y) xs)) ≡ true
   sorted-keyed y key xs =
-      ∈→all (λ (k : ℕ). hasKey s y (placeAt l k) k) (sort key (keep (candidate l s y) xs))
+      ∈→all (λ (k : ℕ). hasKey (l .terms) s y (placeAt l k) k) (sort key (keep (candidate l s y) xs))
       (λ k m. candidate-keyed y k (keep-∈ (candidate l s y) xs (sort-∈ key (keep (candidate l s y) xs) m) .1))

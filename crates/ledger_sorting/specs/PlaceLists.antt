@@ -10,7 +10,7 @@ use Rattle.bytes_order.specs.Sort.{sort}
 use Rattle.bitset.specs.Below.{upTo}
 use Rattle.rules.specs.SetEntry.{entryKey}
 use Rattle.update_fields.specs.Fields.{testOf, isAnyAdd, setEntryIn}
-use Rattle.ledger_state.specs.State.{places, Place, Book, placeAt, decodedIn}
+use Rattle.ledger_state.specs.State.{places, Place, Book, placeAt, decodedIn, Terms}
 use Rattle.ledger_state.specs.Bounds.{TwoPlaces}
 use Rattle.ledger_relations.specs.PlaceTests.{presentAt, idOrder}
 use Rattle.ledger_sorting.specs.declared.Places.{Places}
@@ -53,34 +53,34 @@ pub record InsertsAt (o : Places) (at k : ℕ) : Type 0 where
 
 -- .. and the bookkeeping has no more places taken than there are
 pub record RoomIn (l : Book) (o : Places) (k : ℕ) : Type 0 where
-  pub used-within : l .used ≤ places
+  pub used-within : l .used ≤ l .terms .places
   pub room-for : RoomFor o k
 
 -- the bookkeeping has no more places taken than there are, and the list has them, ascending by id
 pub record InOrder (l : Book) (s : List ℕ) (o : Places) : Type 0 where
-  pub used-within : l .used ≤ places
+  pub used-within : l .used ≤ l .terms .places
   pub order-listed : Lists o (idOrder l s)
 
 -- what an ascending list goes by: the id, or the key of the set entry
-abbrev pub keyIn : List ℕ → Key → Place → ℕ → List ℕ
-keyIn s Id p k = p .id
-keyIn s SetEntry p k = entryKey (setEntryIn (decodedIn s p k))
+abbrev pub keyIn : Terms → List ℕ → Key → Place → ℕ → List ℕ
+keyIn t s Id p k = p .id
+keyIn t s SetEntry p k = entryKey (setEntryIn (decodedIn t s p k))
 
 -- whether the place has one: each has an id, an Add a set entry
-abbrev pub hasKey : List ℕ → Key → Place → ℕ → Bool
-hasKey s Id p k = true
-hasKey s SetEntry p k = testOf isAnyAdd (decodedIn s p k)
+abbrev pub hasKey : Terms → List ℕ → Key → Place → ℕ → Bool
+hasKey t s Id p k = true
+hasKey t s SetEntry p k = testOf isAnyAdd (decodedIn t s p k)
 
 -- j and k are places, and both have such a key
-pub record TwoKeys (s : List ℕ) (y : Key) (own : Place) (j : ℕ) (other : Place) (k : ℕ) : Type 0 where
+pub record TwoKeys (t : Terms) (s : List ℕ) (y : Key) (own : Place) (j : ℕ) (other : Place) (k : ℕ) : Type 0 where
   pub two-places : TwoPlaces j k
-  pub own-keyed : hasKey s y own j ≡ true
-  pub other-keyed : hasKey s y other k ≡ true
+  pub own-keyed : hasKey t s y own j ≡ true
+  pub other-keyed : hasKey t s y other k ≡ true
 
 module _ (l : Book) (s : List ℕ) where
   -- what an ascending list goes by, the places that it lists, and the list
   abbrev pub keyOf : Key → ℕ → List ℕ
-  keyOf y k = keyIn s y (placeAt l k) k
+  keyOf y k = keyIn (l .terms) s y (placeAt l k) k
 
   abbrev pub candidate : Key → ℕ → Bool
   candidate Id k = true
@@ -88,12 +88,12 @@ module _ (l : Book) (s : List ℕ) where
 
   -- all of these places have the key
   abbrev pub keyed : Key → List ℕ → Bool
-  keyed y xs = all (λ (k : ℕ). hasKey s y (placeAt l k) k) xs
+  keyed y xs = all (λ (k : ℕ). hasKey (l .terms) s y (placeAt l k) k) xs
 
   -- the list has room for k, and k and all listed places have the key
   pub record KeyedRoomFor (y : Key) (o : Places) (k : ℕ) : Type 0 where
     pub room-for : RoomFor o k
-    pub own-keyed : hasKey s y (placeAt l k) k ≡ true
+    pub own-keyed : hasKey (l .terms) s y (placeAt l k) k ≡ true
     pub listed-keyed : keyed y (placesIn o) ≡ true
 
   -- the same, but k may have none, and the bookkeeping has no more places taken than there are

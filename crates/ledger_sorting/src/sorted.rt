@@ -7,6 +7,7 @@ ghost use Rattle.bytes_order.specs.Compare.{orderOf};
 ghost use Rattle.bytes_order.specs.Sort.{insert};
 ghost use Rattle.update_fields.specs.Fields.{authorIn, tagIn};
 ghost use Rattle.ledger_state.specs.State.{places, decodedIn};
+ghost use Rattle.ledger_state.specs.State.{places, documentTerms};
 ghost use Rattle.ledger_state.specs.View.{placeOf, bookOf};
 ghost use Rattle.ledger_state.specs.Bounds.{PlaceIn, TwoPlaces};
 ghost use Rattle.ledger_sorting.specs.PlaceLists.{placesIn, Lists, keyIn, TwoKeys, keyOf, candidate, KeyedRoomFor, KeyedRoomIn, sortedBy};
@@ -22,7 +23,7 @@ use ledger_state::store::stored;
 // How the tag of the one place, j, stands to that of the other, k.
 fn compare_tags(store: &[u8], own: Place, j: usize, other: Place, k: usize) -> Order
     requires { ⌜ TwoPlaces j k ⌝ }
-    ensures { λ r. ⌜ r ≡ orderOf (tagIn (decodedIn (now (store .entry)) (placeOf own) j)) (tagIn (decodedIn (now (store .entry)) (placeOf other) k)) ⌝ }
+    ensures { λ r. ⌜ r ≡ orderOf (tagIn (decodedIn documentTerms (now (store .entry)) (placeOf own) j)) (tagIn (decodedIn documentTerms (now (store .entry)) (placeOf other) k)) ⌝ }
 {
     let tag = update_fields::tag_of(stored(store, j, own.length));
     bytes_order::compare(tag, update_fields::tag_of(stored(store, k, other.length)))
@@ -31,7 +32,7 @@ fn compare_tags(store: &[u8], own: Place, j: usize, other: Place, k: usize) -> O
 // How the author of the one place, j, stands to that of the other, k, as a number.
 fn compare_authors(store: &[u8], own: Place, j: usize, other: Place, k: usize) -> Order
     requires { ⌜ TwoPlaces j k ⌝ }
-    ensures { λ r. ⌜ r ≡ orderOf (authorIn (decodedIn (now (store .entry)) (placeOf own) j) ∷ []) (authorIn (decodedIn (now (store .entry)) (placeOf other) k) ∷ []) ⌝ }
+    ensures { λ r. ⌜ r ≡ orderOf (authorIn (decodedIn documentTerms (now (store .entry)) (placeOf own) j) ∷ []) (authorIn (decodedIn documentTerms (now (store .entry)) (placeOf other) k) ∷ []) ⌝ }
 {
     let own_author = [update_fields::author_of(stored(store, j, own.length))];
     let other_author = [update_fields::author_of(stored(store, k, other.length))];
@@ -40,8 +41,8 @@ fn compare_authors(store: &[u8], own: Place, j: usize, other: Place, k: usize) -
 
 // How the set entry of the one place, j, stands to that of the other, k: by tag, then by author.
 fn compare_entries(store: &[u8], own: Place, j: usize, other: Place, k: usize) -> Order
-    requires { ⌜ TwoKeys (now store) SetEntry (placeOf own) j (placeOf other) k ⌝ }
-    ensures { λ r. ⌜ r ≡ orderOf (keyIn (now (store .entry)) SetEntry (placeOf own) j) (keyIn (now (store .entry)) SetEntry (placeOf other) k) ⌝ }
+    requires { ⌜ TwoKeys documentTerms (now store) SetEntry (placeOf own) j (placeOf other) k ⌝ }
+    ensures { λ r. ⌜ r ≡ orderOf (keyIn documentTerms (now (store .entry)) SetEntry (placeOf own) j) (keyIn documentTerms (now (store .entry)) SetEntry (placeOf other) k) ⌝ }
 {
     match compare_tags(store, own, j, other, k) {
         Order::Less => Order::Less,
@@ -52,8 +53,8 @@ fn compare_entries(store: &[u8], own: Place, j: usize, other: Place, k: usize) -
 
 // How the key of the one place, j, stands to that of the other, k.
 fn compare(store: &[u8], key: Key, own: Place, j: usize, other: Place, k: usize) -> Order
-    requires { ⌜ TwoKeys (now store) key (placeOf own) j (placeOf other) k ⌝ }
-    ensures { λ r. ⌜ r ≡ orderOf (keyIn (now (store .entry)) key (placeOf own) j) (keyIn (now (store .entry)) key (placeOf other) k) ⌝ }
+    requires { ⌜ TwoKeys documentTerms (now store) key (placeOf own) j (placeOf other) k ⌝ }
+    ensures { λ r. ⌜ r ≡ orderOf (keyIn documentTerms (now (store .entry)) key (placeOf own) j) (keyIn documentTerms (now (store .entry)) key (placeOf other) k) ⌝ }
 {
     match key {
         Key::Id => compare_ids(own, other),

@@ -3,13 +3,13 @@ use mathlib.Core.Path.{_≡_}
 use Prim.Native.Nat.{ℕ, _≤_, _<_}
 use mathlib.Core.List.{List}
 use lib.ListN.{length}
-use Rattle.update_format.specs.Update.{maxLength}
-use Rattle.ledger_state.specs.State.{places, storeLength, Book}
+use Rattle.update_format.specs.Update.{documentBounds, maxLength}
+use Rattle.ledger_state.specs.State.{places, documentTerms, storeLength, Book}
 
 -- the bookkeeping has no more places taken than there are, and k is a place
 pub record PlaceIn (l : Book) (k : ℕ) : Type 0 where
-  pub used-within : l .used ≤ places
-  pub place-within : k < places
+  pub used-within : l .used ≤ l .terms .places
+  pub place-within : k < l .terms .places
 
 -- j and k are places
 pub record TwoPlaces (j k : ℕ) : Type 0 where
@@ -18,6 +18,6 @@ pub record TwoPlaces (j k : ℕ) : Type 0 where
 
 -- the store is whole, k is a place, and the update fits one
 pub record WritableAt (s : List ℕ) (k : ℕ) (b : List ℕ) : Type 0 where
-  pub store-whole : length s ≡ storeLength
+  pub store-whole : length s ≡ storeLength documentTerms
   pub place-within : k < places
-  pub update-within : length b ≤ maxLength
+  pub update-within : length b ≤ maxLength documentBounds

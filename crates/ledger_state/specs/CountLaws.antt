@@ -19,33 +19,33 @@ use Rattle.bitset.specs.BelowLaws.{countBelow-cong, count-keep}
 use Rattle.rules.specs.declared.Standing.{Standing}
 use Rattle.rules.specs.declared.Standing.the-variants.{Held as IsHeld, Waiting as IsWaiting, Void as IsVoid}
 use Rattle.ledger_state.specs.State.{Book, placeAt, isHeld, isVoid, standingCount}
-use Rattle.ledger_state.specs.Stands.{ident, noUpdate, updateAt, Stands}
+use Rattle.ledger_state.specs.Stands.{ident, rules, noUpdate, updateAt, Stands}
 use Rattle.ledger_state.specs.Verdicts.{verdict, verdict-at, placed}
 
 -- what a verdict on an update of the set means
 abbrev Means : List Update → Standing → Update → Type 0
-Means us IsHeld u = Held ident us u
-Means us IsWaiting u = Waiting ident us u
-Means us IsVoid u = Void ident us u
+Means us IsHeld u = Held rules us u
+Means us IsWaiting u = Waiting rules us u
+Means us IsVoid u = Void rules us u
 
 means-one : (us : List Update) (u : Update) (x y : Standing) → Means us x u → Means us y u → x ≡ y
 means-one us u IsHeld IsHeld a b = refl
 means-one us u IsHeld IsWaiting a b = absurd (b .not-held a)
-means-one us u IsHeld IsVoid a b = absurd (held-not-void ident us a b)
+means-one us u IsHeld IsVoid a b = absurd (held-not-void rules us a b)
 means-one us u IsWaiting IsHeld a b = absurd (a .not-held b)
 means-one us u IsWaiting IsWaiting a b = refl
 means-one us u IsWaiting IsVoid a b = absurd (a .not-void b)
-means-one us u IsVoid IsHeld a b = absurd (held-not-void ident us b a)
+means-one us u IsVoid IsHeld a b = absurd (held-not-void rules us b a)
 means-one us u IsVoid IsWaiting a b = absurd (b .not-void a)
 means-one us u IsVoid IsVoid a b = refl
 
 module _ (l : Book) (s : List ℕ) (us : List Update) (stands : Stands l s us) where
   table : Table
-  table = settledTable ident us
+  table = settledTable rules us
 
-  decides : Decides ident us table
+  decides : Decides rules us table
   unfolding table
-  decides = settled-decides ident us (stands .holds .distinct)
+  decides = settled-decides rules us (stands .holds .distinct)
 
   -- what a place and what a row says
   place-means : (k : ℕ) → k < length us → (v : Standing) → placeAt l k .standing ≡ v → Means us v (updateAt us k)
@@ -107,12 +107,12 @@ module _ (l : Book) (s : List ℕ) (us : List Update) (stands : Stands l s us) w
         ∙ distinct-same-length (distinct-keep passing (stands .holds .distinct)) updates-distinct same-updates
         ∙ length-map (keep passes table) (λ (r : Row). r .update)
 
-    standing-count : standingCount p l ≡ length (keep (λ (r : Row). p (r .verdict)) (settledTable ident us))
+    standing-count : standingCount p l ≡ length (keep (λ (r : Row). p (r .verdict)) (settledTable rules us))
     unfolding standingCount table
     standing-count = ap (λ (n : ℕ). countBelow n (λ (k : ℕ). p (placeAt l k .standing))) (stands .holds .number) ∙ verdict-count
 
-  pub held-count : standingCount isHeld l ≡ length (keep (λ (r : Row). isHeld (r .verdict)) (settledTable ident us))
+  pub held-count : standingCount isHeld l ≡ length (keep (λ (r : Row). isHeld (r .verdict)) (settledTable rules us))
   held-count = standing-count isHeld
 
-  pub void-count : standingCount isVoid l ≡ length (keep (λ (r : Row). isVoid (r .verdict)) (settledTable ident us))
+  pub void-count : standingCount isVoid l ≡ length (keep (λ (r : Row). isVoid (r .verdict)) (settledTable rules us))
   void-count = standing-count isVoid

@@ -13,6 +13,7 @@ pub mod StandingLaws
 pub mod Row1Laws
 pub mod FindLaws
 pub mod Verdicts
+pub mod RoomLaws
 pub mod TakeLaws
 pub mod CountLaws
 pub mod PlaceOrderLaws

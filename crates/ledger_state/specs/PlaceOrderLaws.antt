@@ -17,7 +17,7 @@ use Rattle.bitset.specs.Bits.{has}
 use Rattle.rules.specs.declared.Standing.the-variants.{Held as IsHeld}
 use Rattle.ledger_state.specs.State.{Place, Book, placeAt}
 use Rattle.ledger_state.specs.PlaceOrder.{placeOrder, orderAt}
-use Rattle.ledger_state.specs.Stands.{ident, noUpdate, updateAt, Holds, Truthful}
+use Rattle.ledger_state.specs.Stands.{ident, rules, noUpdate, updateAt, Holds, Truthful}
 
 pub placeOrder-turned : (p : Place) (j : ℕ) (q : Place) (k : ℕ) → placeOrder q k p j ≡ turned (placeOrder p j q k)
 unfolding placeOrder
@@ -48,10 +48,10 @@ placeOrder-mutual p j q k n x y = placeOrder-two p j q k n true true x y
 
 module _ {l : Book} {s : List ℕ} {us : List Update} (holds : Holds l s us) (truthful : Truthful l us) where
   pub order-at-exactly : (j k : ℕ) → j < length us → k < length us → placeAt l j .standing ≡ IsHeld → placeAt l k .standing ≡ IsHeld
-      → OrderExactly ident us (updateAt us j) (updateAt us k) (orderAt l j k)
+      → OrderExactly rules us (updateAt us j) (updateAt us k) (orderAt l j k)
   unfolding placeOrder
   order-at-exactly j k g h d e =
-      tells-exactly ident us (eqb j k) (has (placeAt l k .ancestors) j) (has (placeAt l j .ancestors) k) (truthful .held-right j g d)
+      tells-exactly rules us (eqb j k) (has (placeAt l k .ancestors) j) (has (placeAt l j .ancestors) k) (truthful .held-right j g d)
       (record {
         one→ = λ b. ap (updateAt us) (eqb-true j k b);
         →one = λ b. eq-eqb j k (distinct-index noUpdate (holds .distinct) j k g h (ap ident b));

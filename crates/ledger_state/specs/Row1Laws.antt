@@ -1,6 +1,7 @@
 -- What row 1 asks, as facts; a ledger that holds updates has them. The length of a store, as document 01 has it.
 use mathlib.Core.Path.{_≡_, refl, sym, subst}
-use Prim.Native.Nat.{ℕ, _≤_, _<_}
+use Prim.Native.Nat.{ℕ, _+_, _≤_, _<_}
+use native.Mathlib.Nat.{mul-suc, mul-comm, mul-le-mul-left}
 use native.Mathlib.Omega.{arith}
 use mathlib.Core.List.{List}
 use mathlib.Core.Bool.{Bool, true, _&&_}
@@ -14,64 +15,82 @@ use Rattle.update_format.specs.Laws.{encode-within}
 use Rattle.bitset.specs.Below.{allBelow}
 use Rattle.bitset.specs.BelowLaws.{allBelow→, allBelow←}
 use Rattle.bitset.specs.Bits.{within}
-use Rattle.ledger_state.specs.State.{places, storeLength, Place, Book, placeAt}
+use Rattle.rules.specs.Terms.{allowed}
+use Rattle.ledger_state.specs.State.{Terms, documentTerms, startOf, storeLength, Place, Book, placeAt}
 use Rattle.ledger_state.specs.Row1.{soundPlace, sound}
 use Rattle.ledger_state.specs.Stands.{noUpdate, updateAt, Holds}
 
 -- "the lent store, which has 34,112 bytes"
-pub store-bytes : storeLength ≡ 34112
+pub store-bytes : storeLength documentTerms ≡ 34112
 store-bytes = refl
 
-pub record SoundPlace (used : ℕ) (p : Place) : Type 0 where
+pub record SoundPlace (t : Terms) (used : ℕ) (p : Place) : Type 0 where
   pub long : minLength ≤ p .length
-  pub short : p .length ≤ maxLength
+  pub short : p .length ≤ maxLength (t .bounds)
   pub inside : within (p .ancestors) used ≡ true
 
 pub record Sound (l : Book) (s : List ℕ) : Type 0 where
-  pub store : length s ≡ storeLength
-  pub few : l .used ≤ places
-  pub each : (k : ℕ) → k < l .used → SoundPlace (l .used) (placeAt l k)
+  pub terms-allowed : allowed (l .terms) ≡ true
+  pub store : length s ≡ storeLength (l .terms)
+  pub few : l .used ≤ l .terms .places
+  pub each : (k : ℕ) → k < l .used → SoundPlace (l .terms) (l .used) (placeAt l k)
 
-place→ : (n : ℕ) (p : Place) → soundPlace n p ≡ true → SoundPlace n p
+place→ : (t : Terms) (n : ℕ) (p : Place) → soundPlace t n p ≡ true → SoundPlace t n p
 unfolding soundPlace
-place→ n p e =
-    let a = and-true→ (leb minLength (p .length)) (leb (p .length) maxLength && within (p .ancestors) n) e in
-    let b = and-true→ (leb (p .length) maxLength) (within (p .ancestors) n) (a .1) in
-    record { long = leb-true minLength (p .length) (a .0); short = leb-true (p .length) maxLength (b .0); inside = b .1 }
+place→ t n p e =
+    let a = and-true→ (leb minLength (p .length)) (leb (p .length) (maxLength (t .bounds)) && within (p .ancestors) n) e in
+    let b = and-true→ (leb (p .length) (maxLength (t .bounds))) (within (p .ancestors) n) (a .1) in
+    record { long = leb-true minLength (p .length) (a .0); short = leb-true (p .length) (maxLength (t .bounds)) (b .0); inside = b .1 }
 
-place← : (n : ℕ) (p : Place) → SoundPlace n p → soundPlace n p ≡ true
+place← : (t : Terms) (n : ℕ) (p : Place) → SoundPlace t n p → soundPlace t n p ≡ true
 unfolding soundPlace
-place← n p h =
-    and-true (leb minLength (p .length)) (leb (p .length) maxLength && within (p .ancestors) n) (le-leb minLength (p .length) (h .long))
-    (and-true (leb (p .length) maxLength) (within (p .ancestors) n) (le-leb (p .length) maxLength (h .short)) (h .inside))
+place← t n p h =
+    and-true (leb minLength (p .length)) (leb (p .length) (maxLength (t .bounds)) && within (p .ancestors) n) (le-leb minLength (p .length) (h .long))
+    (and-true (leb (p .length) (maxLength (t .bounds))) (within (p .ancestors) n) (le-leb (p .length) (maxLength (t .bounds)) (h .short)) (h .inside))
 
 module _ (l : Book) (s : List ℕ) where
   placeSound : ℕ → Bool
-  placeSound k = soundPlace (l .used) (placeAt l k)
+  placeSound k = soundPlace (l .terms) (l .used) (placeAt l k)
+
+  abbrev placesSound : Bool
+  placesSound = leb (l .used) (l .terms .places) && allBelow (l .used) placeSound
 
   pub sound→ : sound l s ≡ true → Sound l s
   unfolding sound placeSound
   sound→ e =
-      let a = and-true→ (eqb (length s) storeLength) (leb (l .used) places && allBelow (l .used) placeSound) e in
-      let b = and-true→ (leb (l .used) places) (allBelow (l .used) placeSound) (a .1) in
+      let t = and-true→ (allowed (l .terms)) (eqb (length s) (storeLength (l .terms)) && placesSound) e in
+      let a = and-true→ (eqb (length s) (storeLength (l .terms))) placesSound (t .1) in
+      let b = and-true→ (leb (l .used) (l .terms .places)) (allBelow (l .used) placeSound) (a .1) in
       record {
-        store = eqb-true (length s) storeLength (a .0);
-        few = leb-true (l .used) places (b .0);
-        each = λ k h. place→ (l .used) (placeAt l k) (allBelow→ (l .used) placeSound (b .1) k h);
+        terms-allowed = t .0;
+        store = eqb-true (length s) (storeLength (l .terms)) (a .0);
+        few = leb-true (l .used) (l .terms .places) (b .0);
+        each = λ k h. place→ (l .terms) (l .used) (placeAt l k) (allBelow→ (l .used) placeSound (b .1) k h);
       }
 
   pub sound← : Sound l s → sound l s ≡ true
   unfolding sound placeSound
   sound← h =
-      and-true (eqb (length s) storeLength) (leb (l .used) places && allBelow (l .used) placeSound) (eq-eqb (length s) storeLength (h .store))
-      (and-true (leb (l .used) places) (allBelow (l .used) placeSound) (le-leb (l .used) places (h .few))
-      (allBelow← (l .used) placeSound (λ k g. place← (l .used) (placeAt l k) (h .each k g))))
+      and-true (allowed (l .terms)) (eqb (length s) (storeLength (l .terms)) && placesSound) (h .terms-allowed)
+      (and-true (eqb (length s) (storeLength (l .terms))) placesSound (eq-eqb (length s) (storeLength (l .terms)) (h .store))
+      (and-true (leb (l .used) (l .terms .places)) (allBelow (l .used) placeSound) (le-leb (l .used) (l .terms .places) (h .few))
+      (allBelow← (l .used) placeSound (λ k g. place← (l .terms) (l .used) (placeAt l k) (h .each k g)))))
+
+-- the bytes of a later place begin after those of an earlier one, and those of the last end with the store
+pub start-next : (t : Terms) (j k : ℕ) → j < k → startOf t j + maxLength (t .bounds) ≤ startOf t k
+unfolding startOf
+start-next t j k h = subst (λ (m : ℕ). m ≤ startOf t k) (mul-suc (maxLength (t .bounds)) j) (mul-le-mul-left (maxLength (t .bounds)) h)
+
+pub start-inside : (t : Terms) (k : ℕ) → k < t .places → startOf t k + maxLength (t .bounds) ≤ storeLength t
+unfolding startOf
+start-inside t k h = subst (λ (m : ℕ). startOf t k + maxLength (t .bounds) ≤ m) (mul-comm (maxLength (t .bounds)) (t .places)) (start-next t k (t .places) h)
 
 pub holds-sound : (l : Book) (s : List ℕ) (us : List Update) → Holds l s us → Sound l s
 holds-sound l s us h =
     record {
+      terms-allowed = h .terms-allowed;
       store = h .store-whole;
-      few = omega (arith, h .number, h .room);
+      few = omega (arith, h .number, h .room .few);
       each = λ k g.
           let i = subst (λ (n : ℕ). k < n) (h .number) g in
           let sized = encode-within (updateAt us k) (h .bounded (updateAt us k) (getD-∈ us k noUpdate i)) in

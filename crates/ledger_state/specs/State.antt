@@ -5,23 +5,26 @@ use mathlib.Core.List.{List}
 use mathlib.Core.Option.{Option, none, some}
 use mathlib.Core.Bool.{Bool, cond}
 use lib.ListN.{length}
-use lib.Dec.{eqb}
+use lib.Dec.{eqb, ltb}
 use Rattle.bytes_order.specs.Order.{same}
-use Rattle.update_format.specs.Update.{Id, maxLength}
+use Rattle.update_format.specs.Update.{Id, Update, maxLength}
 use Rattle.update_format.specs.Decode.{slice, Decoded, decode}
 use Rattle.bitset.specs.Below.{countBelow, firstBelow}
 use Rattle.ledger_state.specs.declared.Found.{Found}
 use Rattle.ledger_state.specs.declared.Found.the-variants.{At, Nowhere}
 use Rattle.rules.specs.declared.Standing.{Standing}
 use Rattle.rules.specs.declared.Standing.the-variants.{Waiting}
--- "There are 64 places."
-pub use Rattle.rules.specs.Report.{places}
+pub use Rattle.rules.specs.Terms.{places, Terms, documentTerms}
 -- a standing is held, waiting or void
 unfoldable pub use Rattle.rules.specs.Settle.{isHeld, isWaiting, isVoid}
 
--- "the lent store, which has 34,112 bytes"
-abbrev pub storeLength : ℕ
-storeLength = places * maxLength
+-- "Place k's update is written from byte 533 × k of the lent store": where the bytes of place k begin. Laws: `start-next`, `start-inside` (`Row1Laws`)
+unfoldable pub startOf : Terms → ℕ → ℕ
+startOf t k = maxLength (t .bounds) * k
+
+-- "the lent store, which has 34,112 bytes" (`store-bytes`, `Row1Laws`)
+abbrev pub storeLength : Terms → ℕ
+storeLength t = t .places * maxLength (t .bounds)
 
 -- one place: its update's id and length, the set of its ancestors' places as a number (bit k for place k), and how it stands
 pub record Place : Type 0 where
@@ -30,8 +33,9 @@ pub record Place : Type 0 where
   pub ancestors : ℕ
   pub standing : Standing
 
--- the bookkeeping: how many places are taken, and what each place keeps
+-- the bookkeeping: the terms of the ledger, how many places are taken, and what each place keeps
 pub record Book : Type 0 where
+  pub terms : Terms
   pub used : ℕ
   pub place : ℕ → Place
 
@@ -44,12 +48,13 @@ replaced f k a j = cond (eqb j k) a (f j)
 
 -- the bookkeeping with another place k
 abbrev pub withPlace : Book → ℕ → Place → Book
-withPlace l k p = record { used = l .used; place = replaced (l .place) k p }
+withPlace l k p = record { terms = l .terms; used = l .used; place = replaced (l .place) k p }
 
 -- the bookkeeping with its next place taken, by an update that waits
 abbrev pub withTaken : Book → Id → ℕ → Book
 withTaken l i n =
     record {
+      terms = l .terms;
       used = l .used + 1;
       place = replaced (l .place) (l .used) (record { id = i; length = n; ancestors = 0; standing = Waiting });
     }
@@ -59,16 +64,20 @@ abbrev pub withStanding : Book → ℕ → Standing → ℕ → Book
 withStanding l k v w =
     withPlace l k (record { id = placeAt l k .id; length = placeAt l k .length; ancestors = w; standing = v })
 
--- "Place k's update is written from byte 533 × k of the lent store"
+-- the bytes of place k
 abbrev pub storedAt : Book → List ℕ → ℕ → List ℕ
-storedAt l s k = slice s (maxLength * k) (placeAt l k .length)
+storedAt l s k = slice s (startOf (l .terms) k) (placeAt l k .length)
+
+-- a place is free for the new update u: what `hasRoom` says of the updates stored (`room-stored`, `RoomLaws`), of any ledger and store
+unfoldable pub roomIn : Book → List ℕ → Update → Bool
+roomIn l s u = ltb (l .used) (l .terms .places)
 
 -- what the bytes of a place in the store decode to: of a place by value, with its number; and of the place k
-abbrev pub decodedIn : List ℕ → Place → ℕ → Decoded
-decodedIn s p k = decode (slice s (maxLength * k) (p .length))
+abbrev pub decodedIn : Terms → List ℕ → Place → ℕ → Decoded
+decodedIn t s p k = decode (t .bounds) (slice s (startOf t k) (p .length))
 
 abbrev pub decodedAt : Book → List ℕ → ℕ → Decoded
-decodedAt l s k = decodedIn s (placeAt l k) k
+decodedAt l s k = decodedIn (l .terms) s (placeAt l k) k
 
 -- the first taken place with this id
 unfoldable pub findIn : Book → Id → Option ℕ

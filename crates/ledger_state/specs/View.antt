@@ -7,7 +7,7 @@ use Rattle.update_format.specs.Update.{idLength}
 use Rattle.ledger_state.specs.declared.Ledger.{Ledger}
 use Rattle.ledger_state.specs.declared.Place.{Place as DeclaredPlace}
 use Rattle.rules.specs.declared.Standing.the-variants.{Held}
-use Rattle.ledger_state.specs.State.{places, Place, Book}
+use Rattle.ledger_state.specs.State.{places, Place, Book, documentTerms}
 
 abbrev pub placeOf : DeclaredPlace → Place
 placeOf p = record { id = p .id; length = p .length; ancestors = p .ancestors; standing = p .standing }
@@ -17,7 +17,7 @@ abbrev pub noPlace : DeclaredPlace
 noPlace = record { id = []; length = 0; ancestors = 0; standing = Held }
 
 abbrev pub bookOf : Ledger → Book
-bookOf l = record { used = l .used; place = λ (k : ℕ). placeOf (getD (l .places) k noPlace) }
+bookOf l = record { terms = documentTerms; used = l .used; place = λ (k : ℕ). placeOf (getD (l .places) k noPlace) }
 
 -- "a fresh ledger, no place taken"
 unfoldable pub freshLedger : Ledger

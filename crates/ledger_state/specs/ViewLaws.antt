@@ -10,7 +10,7 @@ use borrow.Author.Tests.{eqb-true, eq-eqb}
 use Rattle.bytes_order.specs.BoolLaws.{true-false}
 use Rattle.ledger_state.specs.declared.Ledger.{Ledger}
 use Rattle.ledger_state.specs.declared.Place.{Place as DeclaredPlace}
-use Rattle.ledger_state.specs.State.{Place, Book, replaced}
+use Rattle.ledger_state.specs.State.{documentTerms, Place, Book, replaced}
 use Rattle.ledger_state.specs.View.{placeOf, noPlace, bookOf}
 
 -- a place stored in the array, if it is one of the array's
@@ -25,8 +25,8 @@ view-set ps k p h j = go (eqb j k) refl
 
 -- the view of the ledger with another place k, and another number of taken places
 pub stored-view : (l : Ledger) (n k : ℕ) (p : DeclaredPlace) → k < length (l .places)
-    → bookOf (record { used = n; places = set (l .places) k p }) ≡ record { used = n; place = replaced (bookOf l .place) k (placeOf p) }
-stored-view l n k p h = ap (λ (f : ℕ → Place). record { used = n; place = f }) (fun-ext (view-set (l .places) k p h))
+    → bookOf (record { used = n; places = set (l .places) k p }) ≡ record { terms = documentTerms; used = n; place = replaced (bookOf l .place) k (placeOf p) }
+stored-view l n k p h = ap (λ (f : ℕ → Place). record { terms = documentTerms; used = n; place = f }) (fun-ext (view-set (l .places) k p h))
 
 -- Two ledgers with the same view and as many places are the same ledger.
 pub view-faithful : (l m : Ledger) → length (l .places) ≡ length (m .places) → bookOf l ≡ bookOf m → l ≡ m

@@ -5,11 +5,12 @@ use native.Mathlib.Omega.{arith}
 use mathlib.Core.List.{List}
 use mathlib.Core.Bool.{Bool, true, false}
 use lib.ListN.{length, take}
+use Rattle.update_format.specs.Update.{documentBounds}
 use Rattle.bytes_order.specs.Order.{same}
 use Rattle.bytes_order.specs.OrderLaws.{same→eq, eq→same}
 use Rattle.rules.specs.declared.Form.the-variants.{Full}
 use Rattle.ledger_state.specs.declared.Ledger.{Ledger}
-use Rattle.ledger_state.specs.State.{storeLength}
+use Rattle.ledger_state.specs.State.{documentTerms, storeLength}
 use Rattle.ledger_state.specs.View.{bookOf, freshLedger}
 use Rattle.ledger_refusals.specs.Numbers.{putBytes}
 use Rattle.rules.specs.Report.{maxReport}
@@ -42,10 +43,10 @@ pub record BothReported (v : CheckValues) : Type 0 where
 
 -- What such an answer says: "same" exactly when the sets are equal; and each buffer begins with the report that the rules give for its set.
 pub record CheckSays (xs ys : List (List ℕ)) (v : CheckValues) (out other-out : List ℕ) : Type 0 where
-  pub equal-sets-same : setOf xs ≡ setOf ys → (n : ℕ) × (v ≡ sameOf n)
-  pub same-equal-sets : (n : ℕ) → v ≡ sameOf n → setOf xs ≡ setOf ys
-  pub first-right : take (firstLength v) out ≡ reportFor Full (setOf xs)
-  pub second-right : take (secondLength v) other-out ≡ reportFor Full (setOf ys)
+  pub equal-sets-same : setOf documentBounds xs ≡ setOf documentBounds ys → (n : ℕ) × (v ≡ sameOf n)
+  pub same-equal-sets : (n : ℕ) → v ≡ sameOf n → setOf documentBounds xs ≡ setOf documentBounds ys
+  pub first-right : take (firstLength v) out ≡ reportFor Full (setOf documentBounds xs)
+  pub second-right : take (secondLength v) other-out ≡ reportFor Full (setOf documentBounds ys)
 
 -- the answer for two full reports
 module _ (first second : List ℕ) where
@@ -102,7 +103,7 @@ reported-copy {l} {s} {s′} {o} {o′} n c h =
 compared-says : {l m : Ledger} {s s′ o o′ t t′ p p′ : List ℕ} {xs ys : List (List ℕ)} (n k : ℕ)
     → Calls freshLedger s xs l s′ → ReportRow Full (bookOf l) s′ o (putBytes n) o′
     → Calls freshLedger t ys m t′ → ReportRow Full (bookOf m) t′ p (putBytes k) p′
-    → Fits xs → Fits ys → NoCollision xs ys → CheckSays xs ys (comparedOf (take n o′) (take k p′)) o′ p′
+    → Fits documentTerms xs → Fits documentTerms ys → NoCollision documentBounds xs ys → CheckSays xs ys (comparedOf (take n o′) (take k p′)) o′ p′
 compared-says {o′ = o′} {p′ = p′} {xs = xs} {ys = ys} n k c h d q fits-first fits-second none =
     let first = take n o′ in
     let second = take k p′ in
@@ -118,14 +119,14 @@ compared-says {o′ = o′} {p′ = p′} {xs = xs} {ys = ys} n k c h d q fits-f
 -- Demand 3 of the copy check: where both copies gave a report, where neither list has more distinct well-formed updates than there are places, and no two
 -- different ones of both share a SHA-256
 pub check-says : {xs ys : List (List ℕ)} {s t o p s′ t′ o′ p′ : List ℕ} {v : CheckValues} → CheckRow xs ys s t o p v s′ t′ o′ p′
-    → BothReported v → Fits xs → Fits ys → NoCollision xs ys → CheckSays xs ys v o′ p′
+    → BothReported v → Fits documentTerms xs → Fits documentTerms ys → NoCollision documentBounds xs ys → CheckSays xs ys v o′ p′
 check-says (first-unreported i c h) both fits-first fits-second none = absurd (both .first-reported i refl)
 check-says (second-unreported n i c h d q) both fits-first fits-second none = absurd (both .second-reported i refl)
 check-says (compared n k c h d q) both fits-first fits-second none = compared-says n k c h d q fits-first fits-second none
 
 -- Both give one where the stores have the stated length and the buffers 12,000 bytes.
 pub check-answers : {xs ys : List (List ℕ)} {s t o p s′ t′ o′ p′ : List ℕ} {v : CheckValues} → CheckRow xs ys s t o p v s′ t′ o′ p′
-    → length s ≡ storeLength → length t ≡ storeLength → maxReport ≤ length o → maxReport ≤ length p → BothReported v
-check-answers {xs = xs} (first-unreported i c h) u w a b = absurd (report-answers (stored xs) (offers-stand u c) h a i refl)
-check-answers {ys = ys} (second-unreported n i c h d q) u w a b = absurd (report-answers (stored ys) (offers-stand w d) q b i refl)
+    → length s ≡ storeLength documentTerms → length t ≡ storeLength documentTerms → maxReport ≤ length o → maxReport ≤ length p → BothReported v
+check-answers {xs = xs} (first-unreported i c h) u w a b = absurd (report-answers (stored documentTerms xs) refl (offers-stand u c) h a i refl)
+check-answers {ys = ys} (second-unreported n i c h d q) u w a b = absurd (report-answers (stored documentTerms ys) refl (offers-stand w d) q b i refl)
 check-answers (compared {o′ = o′} {p′ = p′} n k c h d q) u w a b = compared-both (take n o′) (take k p′) (same (take n o′) (take k p′)) refl

@@ -1,18 +1,16 @@
 -- The marked authors, place by place.
-use Prim.Native.Nat.{ℕ, suc, _+_, _≤_}
+use Prim.Native.Nat.{ℕ, _+_, _≤_, _<_}
 use mathlib.Core.Path.{_≡_, refl, sym, ap, ap₂, _∙_}
 use mathlib.Core.List.{List}
 use mathlib.Core.Bool.{Bool, true, false, _&&_, _||_}
-use native.Mathlib.Omega.{arith}
 use borrow.Author.Tests.{eq-eqb, eqb-true}
 use lib.Dec.{eqb}
 use Rattle.bytes_order.specs.BoolLaws.{test-ext}
 use Rattle.bytes_order.specs.MemberLaws.{concatMap-cong}
 use Rattle.bitset.specs.Below.{anyBelow, upTo}
 use Rattle.bitset.specs.BelowLaws.{anyBelow-more, anyBelow-none, anyBelow-end}
-use Rattle.bitset.specs.Bits.{wordBits, has, includingBelow}
+use Rattle.bitset.specs.Bits.{has, includingBelow}
 use Rattle.bitset.specs.BitsLaws.{included, has-including, has-none}
-use Rattle.update_format.specs.Update.{maxAuthor}
 use Rattle.update_fields.specs.Fields.{authorIn}
 use Rattle.rules.specs.Mark.{marksBy}
 use Rattle.ledger_state.specs.State.{Book, decodedAt}
@@ -30,10 +28,12 @@ module _ (l : Book) (s : List ℕ) (v : Evidence) where
   abbrev pub against : ℕ → ℕ → Bool
   against a k = eqb (authorAt l s k) a && evidenceAt l s v k
 
-  pub author-added : (w k a : ℕ) {b : Bool} {c m : ℕ} → b ≡ evidenceAt l s v k → b ≡ true → c ≡ authorIn (decodedAt l s k) → c ≤ maxAuthor → m ≡ includingBelow wordBits w c → has m a ≡ has w a || against a k
+  -- a set of authors that has room for n of them gets the author of place k
+  pub author-added : (n w k a : ℕ) {b : Bool} {c m : ℕ} → b ≡ evidenceAt l s v k → b ≡ true → c ≡ authorIn (decodedAt l s k) → c < n → m ≡ includingBelow n w c
+      → has m a ≡ has w a || against a k
   unfolding authorAt
-  author-added w k a e t f h g =
-      ap (λ (x : ℕ). has x a) (g ∙ included wordBits w _ (omega arith))
+  author-added n w k a e t f h g =
+      ap (λ (x : ℕ). has x a) (g ∙ included n w _ h)
       ∙ has-including w _ a
       ∙ ap (λ (x : Bool). has w a || x) (eqb-sym a _ ∙ ap (λ (c : ℕ). eqb c a) f ∙ sym (with-true (eqb (authorAt l s k) a)) ∙ ap (λ (x : Bool). eqb (authorAt l s k) a && x) (sym (sym e ∙ t)))
 
@@ -57,6 +57,6 @@ module _ (l : Book) (s : List ℕ) (v : Evidence) where
 
 -- the marks by the two sets of authors
 pub marks-are : (l : Book) (s : List ℕ) (w v : ℕ) → ((a : ℕ) → has w a ≡ markedBy l s Fork a) → ((a : ℕ) → has v a ≡ markedBy l s Fault a)
-    → authorMarks (has w) (has v) ≡ marksOf l s
+    → authorMarks (l .terms .bounds .authors) (has w) (has v) ≡ marksOf l s
 unfolding marksOf
-marks-are l s w v e f = concatMap-cong _ _ (upTo (suc maxAuthor)) (λ a m. ap₂ (marksBy a) (e a) (f a))
+marks-are l s w v e f = concatMap-cong _ _ (upTo (l .terms .bounds .authors)) (λ a m. ap₂ (marksBy a) (e a) (f a))

@@ -23,7 +23,7 @@ use Rattle.ledger_sorting.proofs.Inserting.{renamed}
 use Rattle.ledger_sorting.proofs.Keeping.{keep-no, keep-one}
 
 module _ (l : Book) (s : List ℕ) where
-  pub ranked-is : (k n : ℕ) {b : Bool} → b ≡ rankedIn s n (placeAt l k) k → b ≡ rankedAt l s n k
+  pub ranked-is : (k n : ℕ) {b : Bool} → b ≡ rankedIn (l .terms) s n (placeAt l k) k → b ≡ rankedAt l s n k
   unfolding rankedAt
   ranked-is k n e = e
 
@@ -61,9 +61,9 @@ module _ (l : Book) (s : List ℕ) where
       ap₂ (λ (x o : List ℕ). putAll l s x (keep (rankedAt l s n) o)) f e
       ∙ sym (ap (putAll l s []) (by-rank-more n) ∙ put-append [] (byRank l s n) (keep (rankedAt l s n) (idOrder l s)))
 
-  pub rank-end : (n : ℕ) → n ≤ places → places ≤ n → putAll l s [] (byRank l s n) ≡ entriesOf l s
+  pub rank-end : (n : ℕ) → n ≤ l .terms .places → l .terms .places ≤ n → putAll l s [] (byRank l s n) ≡ entriesOf l s
   unfolding entriesOf
-  rank-end n h g = let e : n ≡ places = omega arith in ap (λ (m : ℕ). putAll l s [] (byRank l s m)) e
+  rank-end n h g = let e : n ≡ l .terms .places = omega arith in ap (λ (m : ℕ). putAll l s [] (byRank l s m)) e
 
   -- those of a list from the i-th on that pass
   module _ (q : ℕ → Bool) (xs : List ℕ) (i k : ℕ) (d : drop i xs ≡ k ∷ drop (i + 1) xs) where

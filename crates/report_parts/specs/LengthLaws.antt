@@ -2,35 +2,37 @@
 -- and the list together no more either, since no update is an Add and an Insert; and one mark at most of each author.
 use Prim.Native.Nat.{ℕ, zero, suc, _+_, _≤_, _<_, zero-le}
 use native.Mathlib.Omega.{arith}
-use mathlib.Core.Path.{_≡_, refl, ap}
-use mathlib.Core.Logic.{⊎-elim}
-use mathlib.Core.List.{List, [], _∷_}
+use mathlib.Core.Path.{_≡_, refl, sym, ap, subst}
+use mathlib.Core.Logic.{_⊎_, ⊎-elim}
+use mathlib.Core.List.{List, [], _∷_, map}
 use mathlib.Core.Bool.{Bool, true, false, cond, not, _&&_}
-use lib.ListN.{length, length-append}
+use lib.ListN.{length, length-append, length-map}
 use lib.Dec.{eqb, ltb}
 use borrow.Author.Tests.{eqb-true, ne-eqb, lt-ltb, le-ltb, ltb-true}
-use Rattle.bytes_order.specs.BoolLaws.{bool-cases}
+use Rattle.bytes_order.specs.BoolLaws.{bool-cases, and-true→}
 use Rattle.bytes_order.specs.Order.{same}
 use Rattle.bytes_order.specs.Member.{_∈_, keep}
-use Rattle.bytes_order.specs.MemberLaws.{∈-keep, keep-∈, keep-length, concatMap-∈}
+use Rattle.bytes_order.specs.MemberLaws.{∈-cast, ∈-map, ∈-keep, keep-∈, keep-length, concatMap-∈}
 use Rattle.bytes_order.specs.CountLaws.{oneIf, keep-apart-length, keep-three-length, concatMap-length}
-use Rattle.bytes_order.specs.DistinctLaws.{distinct-keep, distinct-subset-length}
-use Rattle.bytes_order.specs.SortLaws.{sort-∈, sort-length, sort-distinct}
-use Rattle.update_format.specs.Update.{Id, tagLength, maxAuthor}
+use Rattle.bytes_order.specs.DistinctLaws.{distinct-length, distinct-keep, distinct-subset-length}
+use Rattle.bytes_order.specs.SortLaws.{ascending-distinct, sort-∈, sort-length, sort-distinct}
+use Rattle.update_format.specs.Update.{Id, tagLength}
 use Rattle.rules.specs.Standing.{beginning}
 use Rattle.rules.specs.Settle.{isInsert}
-use Rattle.rules.specs.Mark.{Mark, marksBy}
+use Rattle.rules.specs.Mark.{Mark, markKey, marksBy}
 use Rattle.rules.specs.ReportLengthLaws.{one-standing}
-use Rattle.rules.specs.MarkLaws.{marks-by-author, marks-by-few}
+use Rattle.rules.specs.MarkLaws.{marks-by-author, marks-by-few, marks-by-some}
 use Rattle.bitset.specs.Below.{upTo}
-use Rattle.bitset.specs.BelowLaws.{upTo-∈, upTo-length}
+use Rattle.bitset.specs.BelowLaws.{anyBelow→, upTo-∈, ∈-upTo, upTo-length}
 use Rattle.update_fields.specs.Fields.{testOf, isAnyAdd, anchorIn}
 use Rattle.update_fields.specs.FieldLaws.{one-operation, author-small, tag-small, value-small}
-use Rattle.ledger_state.specs.State.{places, Book, placeAt, storedAt, decodedAt}
+use Rattle.ledger_state.specs.State.{Book, placeAt, storedAt, decodedAt}
 use Rattle.ledger_relations.specs.PlaceTests.{idAt, authorAt, heldAt, waitingAt, voidAt, rankAt, idOrder, removedAt, presentAt}
 use Rattle.ledger_sorting.specs.PlaceLists.{sortedBy}
+use Rattle.report_parts.specs.declared.Evidence.{Evidence}
 use Rattle.report_parts.specs.declared.Evidence.the-variants.{Fork, Fault}
-use Rattle.report_parts.specs.PlaceParts.{markedBy, marksOf, setEntryAt, setOrder, insertAt, byRank, after, putBy, putEntry, putAll, entriesOf, valueAt}
+use Rattle.report_parts.specs.PlacePartsLaws.{author-marks-ascending}
+use Rattle.report_parts.specs.PlaceParts.{evidenceAt, markedBy, marksOf, setEntryAt, setOrder, insertAt, byRank, after, putBy, putEntry, putAll, entriesOf, valueAt}
 
 -- a number below n or equal to n is below n + 1, and not both
 one-rank : (b : Bool) (y n : ℕ) → oneIf (b && ltb y n) + oneIf (b && eqb y n) + oneIf false ≤ oneIf (b && ltb y (suc n))
@@ -68,23 +70,23 @@ one-shown true true false true h = omega arith
 one-shown true true false false h = omega arith
 
 module _ (l : Book) (s : List ℕ) where
-  -- what a place's bytes show is bounded, whatever the bytes are
+  -- what a place's bytes show is bounded, whatever the bytes are, where there are authors
 
-  pub author-bound : (k : ℕ) → authorAt l s k ≤ maxAuthor
+  pub author-bound : 0 < l .terms .bounds .authors → (k : ℕ) → authorAt l s k < l .terms .bounds .authors
   unfolding authorAt
-  author-bound k = author-small (storedAt l s k)
+  author-bound some k = author-small (l .terms .bounds) some (storedAt l s k)
 
   pub tag-bound : (k : ℕ) → length (setEntryAt l s k .tag) ≤ tagLength
   unfolding setEntryAt
-  tag-bound k = tag-small (storedAt l s k)
+  tag-bound k = tag-small (l .terms .bounds) (storedAt l s k)
 
-  pub entry-author-bound : (k : ℕ) → setEntryAt l s k .author ≤ maxAuthor
+  pub entry-author-bound : 0 < l .terms .bounds .authors → (k : ℕ) → setEntryAt l s k .author < l .terms .bounds .authors
   unfolding setEntryAt
-  entry-author-bound k = author-small (storedAt l s k)
+  entry-author-bound some k = author-small (l .terms .bounds) some (storedAt l s k)
 
   pub value-bound : (k : ℕ) → length (valueAt l s k) ≤ tagLength
   unfolding valueAt
-  value-bound k = value-small (storedAt l s k)
+  value-bound k = value-small (l .terms .bounds) (storedAt l s k)
 
   -- the places in order
 
@@ -165,7 +167,7 @@ module _ (l : Book) (s : List ℕ) where
 
   entries-few : length (entriesOf l s) ≤ length (keep (insertAt l s) (upTo (l .used)))
   unfolding entriesOf
-  entries-few = omega (arith, put-all-length [] (byRank l s places), by-rank-inserts places, inserts-few)
+  entries-few = omega (arith, put-all-length [] (byRank l s (l .terms .places)), by-rank-inserts (l .terms .places), inserts-few)
 
   set-few : length (setOrder l s) ≤ length (keep (presentAt l s) (upTo (l .used)))
   unfolding sortedBy
@@ -188,17 +190,42 @@ module _ (l : Book) (s : List ℕ) where
   marksFor : ℕ → List Mark
   marksFor a = marksBy a (markedBy l s Fork a) (markedBy l s Fault a)
 
-  pub marks-few : length (marksOf l s) ≤ suc maxAuthor
+  pub marks-few : length (marksOf l s) ≤ l .terms .bounds .authors
   unfolding marksOf marksFor
   marks-few =
       omega (
         arith,
-        concatMap-length marksFor 1 (upTo (suc maxAuthor)) (λ a m. marks-by-few a (markedBy l s Fork a) (markedBy l s Fault a)),
-        upTo-length (suc maxAuthor),
+        concatMap-length marksFor 1 (upTo (l .terms .bounds .authors)) (λ a m. marks-by-few a (markedBy l s Fork a) (markedBy l s Fault a)),
+        upTo-length (l .terms .bounds .authors),
       )
 
-  pub mark-small : (m : Mark) → m ∈ marksOf l s → m .author ≤ maxAuthor
+  -- a mark's author, and why it is marked
+  marked-author : {m : Mark} → m ∈ marksOf l s
+      → (m .author < l .terms .bounds .authors) × ((markedBy l s Fork (m .author) ≡ true) ⊎ (markedBy l s Fault (m .author) ≡ true))
   unfolding marksOf marksFor
-  mark-small m h =
-      let f = concatMap-∈ marksFor (upTo (suc maxAuthor)) h in
-      omega (arith, marks-by-author (f .0) (markedBy l s Fork (f .0)) (markedBy l s Fault (f .0)) (f .2), upTo-∈ (suc maxAuthor) (f .1))
+  marked-author {m} h =
+      let f = concatMap-∈ marksFor (upTo (l .terms .bounds .authors)) h in
+      let e = marks-by-author (f .0) (markedBy l s Fork (f .0)) (markedBy l s Fault (f .0)) (f .2) in (
+        subst (λ (a : ℕ). a < l .terms .bounds .authors) (sym e) (upTo-∈ (l .terms .bounds .authors) (f .1)),
+        subst (λ (a : ℕ). (markedBy l s Fork a ≡ true) ⊎ (markedBy l s Fault a ≡ true)) (sym e)
+            (marks-by-some (f .0) (markedBy l s Fork (f .0)) (markedBy l s Fault (f .0)) (f .2)),
+      )
+
+  pub mark-small : (m : Mark) → m ∈ marksOf l s → m .author < l .terms .bounds .authors
+  mark-small m h = marked-author h .0
+
+  -- each is the author of a taken place
+  marked-place : (v : Evidence) (a : ℕ) → markedBy l s v a ≡ true → (a ∷ []) ∈ map (λ (k : ℕ). authorAt l s k ∷ []) (upTo (l .used))
+  unfolding markedBy
+  marked-place v a e =
+      let f = anyBelow→ (l .used) (λ (k : ℕ). eqb (authorAt l s k) a && evidenceAt l s v k) e in
+      let g = and-true→ (eqb (authorAt l s (f .0)) a) (evidenceAt l s v (f .0)) (f .2) in
+      ∈-cast (sym (ap (λ (n : ℕ). n ∷ []) (eqb-true (authorAt l s (f .0)) a (g .0)))) (∈-map (λ (k : ℕ). authorAt l s k ∷ []) (∈-upTo (l .used) (f .1)))
+
+  pub marks-used : length (marksOf l s) ≤ l .used
+  unfolding marksOf markKey
+  marks-used =
+      let keys : List (List ℕ) = map (λ (k : ℕ). authorAt l s k ∷ []) (upTo (l .used)) in
+      let n = distinct-length (ascending-distinct (author-marks-ascending (l .terms .bounds .authors) (markedBy l s Fork) (markedBy l s Fault))) keys
+      (λ m h. ⊎-elim (marked-place Fork (m .author)) (marked-place Fault (m .author)) (marked-author h .1)) in
+      omega (arith, n, length-map (upTo (l .used)) (λ (k : ℕ). authorAt l s k ∷ []), upTo-length (l .used))

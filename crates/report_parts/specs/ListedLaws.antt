@@ -34,7 +34,7 @@ use Rattle.bitset.specs.Bits.{has}
 use Rattle.bitset.specs.BitsLaws.{within→lt, count-within, count-lt}
 use Rattle.ledger_state.specs.State.{places, Book, placeAt, decodedAt}
 use Rattle.update_fields.specs.Fields.{testOf, anchorOf, anchorIn, valueIn}
-use Rattle.ledger_state.specs.Stands.{ident, updateAt, Stands}
+use Rattle.ledger_state.specs.Stands.{ident, rules, updateAt, Stands}
 use Rattle.ledger_relations.specs.PlaceTests.{idAt, heldAt, deletedAt, shownAt, idOrder, rankAt}
 use Rattle.report_parts.specs.PlaceParts.{insertAt, byRank, entriesOf, valueAt}
 use Rattle.ledger_relations.specs.PlaceLaws.{from-used, to-used, place-of, place-id, same-place, places-distinct, place-decoded, place-test, held-at→, →held-at, above-at→, →above-at}
@@ -49,35 +49,35 @@ module _ {l : Book} {s : List ℕ} {us : List Update} (stands : Stands l s us) w
   rank-count {k} h = count-within (placeAt l k .ancestors) (length us) (stands .holds .inside k h)
 
   not-above : {k : ℕ} → k < length us → heldAt l s k ≡ true → has (placeAt l k .ancestors) k ≡ false
-  not-above {k} h e = not-true→false (has (placeAt l k .ancestors) k) (λ b. held-acyclic ident us (held-at→ stands h e) (above-at→ stands h h e b))
+  not-above {k} h e = not-true→false (has (placeAt l k .ancestors) k) (λ b. held-acyclic rules us (held-at→ stands h e) (above-at→ stands h h e b))
 
-  rank-small : {k : ℕ} → k < length us → heldAt l s k ≡ true → rankAt l s k < places
+  rank-small : {k : ℕ} → k < length us → heldAt l s k ≡ true → rankAt l s k < l .terms .places
   rank-small {k} h e =
       omega (
         arith,
         rank-count h,
-        stands .holds .room,
+        stands .holds .room .few,
         countBelow-le (length us) (λ (j : ℕ). true),
         countBelow-lt (length us) (has (placeAt l k .ancestors)) (λ (j : ℕ). true) (λ j g b. refl) k h (not-above h e) refl,
       )
 
-  rank-grows : {j k : ℕ} → j < length us → k < length us → heldAt l s j ≡ true → heldAt l s k ≡ true → Ancestor ident us (updateAt us j) (updateAt us k)
+  rank-grows : {j k : ℕ} → j < length us → k < length us → heldAt l s j ≡ true → heldAt l s k ≡ true → Ancestor rules us (updateAt us j) (updateAt us k)
       → rankAt l s j < rankAt l s k
   unfolding rankAt
   rank-grows {j} {k} g h d e a =
       count-lt (length us) (within→lt (placeAt l j .ancestors) (length us) (stands .holds .inside j g))
       (within→lt (placeAt l k .ancestors) (length us) (stands .holds .inside k h))
-      (λ i f b. →above-at stands f h e (ancestor-trans ident us (above-at→ stands f g d b) a)) j (not-above g d) (→above-at stands g h e a)
+      (λ i f b. →above-at stands f h e (ancestor-trans rules us (above-at→ stands f g d b) a)) j (not-above g d) (→above-at stands g h e a)
 
-  rank-right : {k : ℕ} → k < length us → heldAt l s k ≡ true → Rank ident us (updateAt us k) (rankAt l s k)
+  rank-right : {k : ℕ} → k < length us → heldAt l s k ≡ true → Rank rules us (updateAt us k) (rankAt l s k)
   rank-right {k} h e = record {
     ids = map (idAt l s) above;
     once = distinct-keys (idAt l s) (distinct-keep (has (placeAt l k .ancestors)) (places-distinct stands));
     counts = λ x a.
-        let f = place-of stands (ancestor-stored ident us a) in
+        let f = place-of stands (ancestor-stored rules us a) in
         ∈-cast (ap ident (sym (f .2)) ∙ sym (place-id stands (f .1)))
         (∈-map (idAt l s) (∈-keep (has (placeAt l k .ancestors)) (∈-upTo (length us) (f .1))
-        (→above-at stands (f .1) h e (subst (λ (y : Update). Ancestor ident us y (updateAt us k)) (sym (f .2)) a))));
+        (→above-at stands (f .1) h e (subst (λ (y : Update). Ancestor rules us y (updateAt us k)) (sym (f .2)) a))));
     only = λ i m.
         let f = map-∈ (idAt l s) above m in
         let g = keep-∈ (has (placeAt l k .ancestors)) (upTo (length us)) (f .1) in
@@ -119,13 +119,13 @@ module _ {l : Book} {s : List ℕ} {us : List Update} (stands : Stands l s us) w
       ap valueIn (place-decoded stands (f .taken)) ∙ ap (λ (o : Operation). concatMap (λ (v : List ℕ). v) (valuesOf o)) (f .is-insert) ∙ append-nil (f .value)
 
   -- an update that is a held Insert has such a place
-  entry-of : {a : Id} {u : Update} → InsertAt ident us a u → (k : ℕ) × (f : EntryAt k) × (updateAt us k ≡ u) × (f .anchor ≡ a)
+  entry-of : {a : Id} {u : Update} → InsertAt rules us a u → (k : ℕ) × (f : EntryAt k) × (updateAt us k ≡ u) × (f .anchor ≡ a)
   entry-of {a} {u} h =
-      let g = place-of stands (held-stored ident us (h .is-held)) in (
+      let g = place-of stands (held-stored rules us (h .is-held)) in (
         g .0,
         record {
           taken = g .1;
-          is-held = →held-at stands (g .1) (subst (Held ident us) (sym (g .2)) (h .is-held));
+          is-held = →held-at stands (g .1) (subst (Held rules us) (sym (g .2)) (h .is-held));
           anchor = a;
           value = h .value;
           is-insert = ap (λ (v : Update). v .op) (g .2) ∙ h .is-insert;
@@ -134,7 +134,7 @@ module _ {l : Book} {s : List ℕ} {us : List Update} (stands : Stands l s us) w
         refl,
       )
 
-  entry-insert : {k : ℕ} (f : EntryAt k) → InsertAt ident us (f .anchor) (updateAt us k)
+  entry-insert : {k : ℕ} (f : EntryAt k) → InsertAt rules us (f .anchor) (updateAt us k)
   entry-insert f = record { is-held = held-at→ stands (f .taken) (f .is-held); value = f .value; is-insert = f .is-insert }
 
   -- in the order of their ranks and ids
@@ -181,26 +181,26 @@ module _ {l : Book} {s : List ℕ} {us : List Update} (stands : Stands l s us) w
       (λ x y m k. before-less (idAt l s x) (idAt l s y) (let h : rankAt l s x < n = by-rank-∈ n m .1 in let q : rankAt l s y ≡ n = rank-of n k in omega arith))
 
   abbrev entries : List ℕ
-  entries = byRank l s places
+  entries = byRank l s (l .terms .places)
 
   entry-at : {k : ℕ} → k ∈ entries → EntryAt k
-  entry-at m = by-rank-∈ places m .0
+  entry-at m = by-rank-∈ (l .terms .places) m .0
 
   at-entry : {k : ℕ} → EntryAt k → k ∈ entries
-  at-entry f = ∈-by-rank places f (rank-small (f .taken) (f .is-held))
+  at-entry f = ∈-by-rank (l .terms .places) f (rank-small (f .taken) (f .is-held))
 
   -- each is anchored at the beginning or at one of a lower rank
-  anchored-at : {k : ℕ} (f : EntryAt k) → InsertAncestor ident us (updateAt us k) (f .anchor)
+  anchored-at : {k : ℕ} (f : EntryAt k) → InsertAncestor rules us (updateAt us k) (f .anchor)
       → (q : ℕ) × (q ∈ entries) × (idAt l s q ≡ anchorAt l s k) × (before (key q) (key k) ≡ true)
   anchored-at {k} f x =
       let e = held-at→ stands (f .taken) (f .is-held) in
-      let g = entry-of (record { is-held = held-ancestors ident us e (x .above); value = x .value; is-insert = x .is-insert }) in
+      let g = entry-of (record { is-held = held-ancestors rules us e (x .above); value = x .value; is-insert = x .is-insert }) in
       let q : EntryAt (g .0) = g .1 in (
         g .0,
         at-entry q,
         place-id stands (q .taken) ∙ ap ident (g .2) ∙ x .has-id ∙ sym (entry-anchor f),
         before-less (idAt l s (g .0)) (idAt l s k)
-            (rank-grows (q .taken) (f .taken) (q .is-held) (f .is-held) (subst (λ (y : Update). Ancestor ident us y (updateAt us k)) (sym (g .2)) (x .above))),
+            (rank-grows (q .taken) (f .taken) (q .is-held) (f .is-held) (subst (λ (y : Update). Ancestor rules us y (updateAt us k)) (sym (g .2)) (x .above))),
       )
 
   entries-rooted : Rooted l s key entries
@@ -209,20 +209,20 @@ module _ {l : Book} {s : List ℕ} {us : List Update} (stands : Stands l s us) w
     parent = λ x m e.
         let f = entry-at m in
         ⊎-elim (λ (q : f .anchor ≡ beginning). absurd (true-false (eq→same (anchorAt l s x) beginning (entry-anchor f ∙ q)) e))
-        (λ (y : InsertAncestor ident us (updateAt us x) (f .anchor)). anchored-at f y)
-        (subst (Valid ident us (updateAt us x)) (f .is-insert) (held-fine (held-at→ stands (f .taken) (f .is-held)) .valid));
+        (λ (y : InsertAncestor rules us (updateAt us x) (f .anchor)). anchored-at f y)
+        (subst (Valid rules us (updateAt us x)) (f .is-insert) (held-fine (held-at→ stands (f .taken) (f .is-held)) .valid));
   }
 
   walk-of : IsWalk l s key entries (entriesOf l s)
   unfolding entriesOf
-  walk-of = put-all l s entries-rooted (by-rank-ascending places)
+  walk-of = put-all l s entries-rooted (by-rank-ascending (l .terms .places))
 
   -- the siblings are those of the rules
 
   abbrev updates : List ℕ → List Update
   updates ks = map (updateAt us) ks
 
-  sooner : {x y : ℕ} → EntryAt x → EntryAt y → before (key y) (key x) ≡ true → Sooner ident us (updateAt us x) (updateAt us y)
+  sooner : {x y : ℕ} → EntryAt x → EntryAt y → before (key y) (key x) ≡ true → Sooner rules us (updateAt us x) (updateAt us y)
   sooner {x} {y} f g b = record {
     rank-u = rankAt l s x;
     rank-v = rankAt l s y;
@@ -231,16 +231,16 @@ module _ {l : Book} {s : List ℕ} {us : List Update} (stands : Stands l s us) w
     larger = subst₂ (λ (i j : Id). before (rankAt l s y ∷ i) (rankAt l s x ∷ j) ≡ true) (place-id stands (g .taken)) (place-id stands (f .taken)) b;
   }
 
-  ordered : (p : ℕ → Bool) {ks : List ℕ} → Descending l s key ks → ((k : ℕ) → k ∈ ks → EntryAt k) → Ordered ident us (updates (keep p ks))
+  ordered : (p : ℕ → Bool) {ks : List ℕ} → Descending l s key ks → ((k : ℕ) → k ∈ ks → EntryAt k) → Ordered rules us (updates (keep p ks))
   unfolding keep
   ordered p descending-nil h = Ordered.none
   ordered p (descending-cons {x = x} {xs = xs} b d) h = step (p x) (ordered p d (λ k m. h k (List·Memᴰ·tail m)))
     where
-      step : (c : Bool) → Ordered ident us (updates (keep p xs)) → Ordered ident us (updates (cond c (x ∷ keep p xs) (keep p xs)))
+      step : (c : Bool) → Ordered rules us (updates (keep p xs)) → Ordered rules us (updates (cond c (x ∷ keep p xs) (keep p xs)))
       step true below =
           Ordered.first (λ v m. let f = map-∈ (updateAt us) (keep p xs) m in
           let g = keep-∈ p xs (f .1) .0 in
-          subst (Sooner ident us (updateAt us x)) (f .2) (sooner (h x (List·Memᴰ·head refl)) (h (f .0) (List·Memᴰ·tail g)) (b (f .0) g))) below
+          subst (Sooner rules us (updateAt us x)) (f .2) (sooner (h x (List·Memᴰ·head refl)) (h (f .0) (List·Memᴰ·tail g)) (b (f .0) g))) below
       step false below = below
 
   abbrev O : List ℕ
@@ -253,8 +253,8 @@ module _ {l : Book} {s : List ℕ} {us : List Update} (stands : Stands l s us) w
   unfolding entriesAt
   among-∈ p m = let f = keep-∈ (λ (k : ℕ). p (anchorAt l s k)) O m in (in-O (f .0), f .1)
 
-  siblings-right : (p : Id → Bool) (At : Update → Type 0) → ((u : Update) → At u → (a : Id) × InsertAt ident us a u × (p a ≡ true))
-      → ((a : Id) (u : Update) → InsertAt ident us a u → p a ≡ true → At u) → Siblings ident us At (updates (entriesAt l s O p))
+  siblings-right : (p : Id → Bool) (At : Update → Type 0) → ((u : Update) → At u → (a : Id) × InsertAt rules us a u × (p a ≡ true))
+      → ((a : Id) (u : Update) → InsertAt rules us a u → p a ≡ true → At u) → Siblings rules us At (updates (entriesAt l s O p))
   unfolding entriesAt
   siblings-right p At to from = record {
     ordered = ordered (λ (k : ℕ). p (anchorAt l s k)) (walk-of .descending) (λ k m. in-O m);
@@ -269,17 +269,17 @@ module _ {l : Book} {s : List ℕ} {us : List Update} (stands : Stands l s us) w
         subst At (f .2) (from (g .0 .anchor) (updateAt us (f .0)) (entry-insert (g .0)) (ap p (sym (entry-anchor (g .0))) ∙ g .1));
   }
 
-  first-right : Siblings ident us (AtBeginning ident us) (updates (entriesAt l s O (atStart l s)))
+  first-right : Siblings rules us (AtBeginning rules us) (updates (entriesAt l s O (atStart l s)))
   unfolding atStart
   first-right =
-      siblings-right (atStart l s) (AtBeginning ident us) (λ u h. (beginning, h, eq→same beginning beginning refl))
-      (λ a u h e. subst (λ (b : Id). InsertAt ident us b u) (same→eq a beginning e) h)
+      siblings-right (atStart l s) (AtBeginning rules us) (λ u h. (beginning, h, eq→same beginning beginning refl))
+      (λ a u h e. subst (λ (b : Id). InsertAt rules us b u) (same→eq a beginning e) h)
 
-  under-right : {e : ℕ} → EntryAt e → Siblings ident us (Under ident us (updateAt us e)) (updates (entriesAt l s O (underAt l s e)))
+  under-right : {e : ℕ} → EntryAt e → Siblings rules us (Under rules us (updateAt us e)) (updates (entriesAt l s O (underAt l s e)))
   unfolding underAt
   under-right {e} f =
       let i : idAt l s e ≡ ident (updateAt us e) = place-id stands (f .taken) in
-      siblings-right (underAt l s e) (Under ident us (updateAt us e))
+      siblings-right (underAt l s e) (Under rules us (updateAt us e))
       (λ u h. (
         ident (updateAt us e),
         h .0,
@@ -289,19 +289,19 @@ module _ {l : Book} {s : List ℕ} {us : List Update} (stands : Stands l s us) w
       (λ a u h t.
       let g = and-true→ (not (same a beginning)) (same a (idAt l s e)) t in
       let q : a ≡ ident (updateAt us e) = same→eq a (idAt l s e) (g .1) ∙ i in
-      (subst (λ (b : Id). InsertAt ident us b u) q h, λ z. true-false (eq→same a beginning (q ∙ z)) (not-true→ (same a beginning) (g .0))))
+      (subst (λ (b : Id). InsertAt rules us b u) q h, λ z. true-false (eq→same a beginning (q ∙ z)) (not-true→ (same a beginning) (g .0))))
 
   -- and so is the walk
 
-  walk-right : {es w : List ℕ} → Walked l s O es w → ((k : ℕ) → k ∈ es → EntryAt k) → Walk ident us (updates es) (updates w)
+  walk-right : {es w : List ℕ} → Walked l s O es w → ((k : ℕ) → k ∈ es → EntryAt k) → Walk rules us (updates es) (updates w)
   walk-right Walked.none h = Walk.none
   walk-right (Walked.entry {e = e} {es = es} {below = below} {next = next} b n) h =
-      subst (λ (w : List Update). Walk ident us (updates (e ∷ es)) (updateAt us e ∷ w)) (sym (map-append (updateAt us) below next))
+      subst (λ (w : List Update). Walk rules us (updates (e ∷ es)) (updateAt us e ∷ w)) (sym (map-append (updateAt us) below next))
       (Walk.entry (under-right (h e (List·Memᴰ·head refl))) (walk-right b (λ k m. among-∈ (underAt l s e) m .0)) (walk-right n (λ k m. h k (List·Memᴰ·tail m))))
 
   -- and what is shown
 
-  deleted→ : {k : ℕ} → k < length us → deletedAt l s (idAt l s k) ≡ true → Deleted ident us (ident (updateAt us k))
+  deleted→ : {k : ℕ} → k < length us → deletedAt l s (idAt l s k) ≡ true → Deleted rules us (ident (updateAt us k))
   unfolding deletedAt
   deleted→ {k} h e =
       let f = anyBelow→ (l .used) (λ (q : ℕ). heldAt l s q && testOf (deletes (idAt l s k)) (decodedAt l s q)) e in
@@ -313,16 +313,16 @@ module _ {l : Book} {s : List ℕ} {us : List Update} (stands : Stands l s us) w
         is-delete = deletes→ (idAt l s k) (updateAt us (f .0) .op) (sym (place-test stands (deletes (idAt l s k)) j) ∙ g .1) ∙ ap Delete (place-id stands h);
       }
 
-  →deleted : {k : ℕ} → k < length us → Deleted ident us (ident (updateAt us k)) → deletedAt l s (idAt l s k) ≡ true
+  →deleted : {k : ℕ} → k < length us → Deleted rules us (ident (updateAt us k)) → deletedAt l s (idAt l s k) ≡ true
   unfolding deletedAt
   →deleted {k} h d =
-      let f = place-of stands (held-stored ident us (d .by-held)) in
+      let f = place-of stands (held-stored rules us (d .by-held)) in
       anyBelow← (l .used) (λ (q : ℕ). heldAt l s q && testOf (deletes (idAt l s k)) (decodedAt l s q)) (f .0) (to-used stands (f .1))
       (and-true (heldAt l s (f .0)) (testOf (deletes (idAt l s k)) (decodedAt l s (f .0)))
-      (→held-at stands (f .1) (subst (Held ident us) (sym (f .2)) (d .by-held)))
+      (→held-at stands (f .1) (subst (Held rules us) (sym (f .2)) (d .by-held)))
       (place-test stands (deletes (idAt l s k)) (f .1) ∙ →deletes (ap (λ (u : Update). u .op) (f .2) ∙ d .is-delete ∙ ap Delete (sym (place-id stands h)))))
 
-  shown-right : (ks : List ℕ) → ((k : ℕ) → k ∈ ks → EntryAt k) → Shown ident us (updates ks) (map (valueAt l s) (keep (shownAt l s) ks))
+  shown-right : (ks : List ℕ) → ((k : ℕ) → k ∈ ks → EntryAt k) → Shown rules us (updates ks) (map (valueAt l s) (keep (shownAt l s) ks))
   unfolding keep shownAt
   shown-right [] h = Shown.none
   shown-right (k ∷ ks) h = step (deletedAt l s (idAt l s k)) refl (shown-right ks (λ j m. h j (List·Memᴰ·tail m)))
@@ -333,12 +333,12 @@ module _ {l : Book} {s : List ℕ} {us : List Update} (stands : Stands l s us) w
       rest : List ℕ
       rest = keep (shownAt l s) ks
 
-      step : (b : Bool) → deletedAt l s (idAt l s k) ≡ b → Shown ident us (updates ks) (map (valueAt l s) rest) → Shown ident us (updates (k ∷ ks)) (map (valueAt l s) (cond (not b) (k ∷ rest) rest))
+      step : (b : Bool) → deletedAt l s (idAt l s k) ≡ b → Shown rules us (updates ks) (map (valueAt l s) rest) → Shown rules us (updates (k ∷ ks)) (map (valueAt l s) (cond (not b) (k ∷ rest) rest))
       step true q below = Shown.left-out (deleted→ (f .taken) q) below
       step false q below =
           Shown.shown (λ d. true-false (→deleted (f .taken) d) q) (f .is-insert ∙ ap (Insert (f .anchor)) (sym (entry-value f))) below
 
-  listed : Listed ident us (map (valueAt l s) (keep (shownAt l s) (entriesOf l s)))
+  listed : Listed rules us (map (valueAt l s) (keep (shownAt l s) (entriesOf l s)))
   listed = record {
     first = updates (entriesAt l s O (atStart l s));
     walk = updates (entriesOf l s);
@@ -347,7 +347,7 @@ module _ {l : Book} {s : List ℕ} {us : List Update} (stands : Stands l s us) w
     shows = shown-right (entriesOf l s) (λ k m. in-O (walk-of .is-put .forth k m));
   }
 
-  pub values-agree : map (valueAt l s) (keep (shownAt l s) (entriesOf l s)) ≡ list (settledTable ident us)
+  pub values-agree : map (valueAt l s) (keep (shownAt l s) (entriesOf l s)) ≡ list (settledTable rules us)
   values-agree =
       let distinct = stands .holds .distinct in
-      listed-unique ident us distinct listed (list-right ident us (settledTable ident us) distinct (settled-decides ident us distinct))
+      listed-unique rules us distinct listed (list-right rules us (settledTable rules us) distinct (settled-decides rules us distinct))

@@ -6,7 +6,7 @@ use mathlib.Core.Bool.{Bool, cond, _&&_}
 use lib.Dec.{eqb}
 use Rattle.bytes_order.specs.Order.{same}
 use Rattle.bytes_order.specs.Member.{keep, concatMap}
-use Rattle.update_format.specs.Update.{Id, maxAuthor}
+use Rattle.update_format.specs.Update.{Id}
 use Rattle.rules.specs.Standing.{beginning}
 use Rattle.rules.specs.SetEntry.{SetEntry}
 use Rattle.rules.specs.Mark.{Mark, marksBy}
@@ -20,9 +20,9 @@ use Rattle.ledger_sorting.specs.PlaceLists.{sortedBy}
 use Rattle.report_parts.specs.declared.Evidence.{Evidence}
 use Rattle.report_parts.specs.declared.Evidence.the-variants.{Fork, Fault}
 
--- the marks of all authors, ascending, by two tests of an author: it has a fork; it has a fault
-abbrev pub authorMarks : (ℕ → Bool) → (ℕ → Bool) → List Mark
-authorMarks fork fault = concatMap (λ (a : ℕ). marksBy a (fork a) (fault a)) (upTo (suc maxAuthor))
+-- the marks of n authors, ascending, by two tests of an author: it has a fork; it has a fault
+abbrev pub authorMarks : ℕ → (ℕ → Bool) → (ℕ → Bool) → List Mark
+authorMarks n fork fault = concatMap (λ (a : ℕ). marksBy a (fork a) (fault a)) (upTo n)
 
 module _ (l : Book) (s : List ℕ) where
   -- marks: what of a place marks its author
@@ -35,7 +35,7 @@ module _ (l : Book) (s : List ℕ) where
   markedBy e a = anyBelow (l .used) (λ (k : ℕ). eqb (authorAt l s k) a && evidenceAt e k)
 
   unfoldable pub marksOf : List Mark
-  marksOf = authorMarks (markedBy Fork) (markedBy Fault)
+  marksOf = authorMarks (l .terms .bounds .authors) (markedBy Fork) (markedBy Fault)
 
   -- the set
   unfoldable pub setEntryAt : ℕ → SetEntry
@@ -71,7 +71,7 @@ module _ (l : Book) (s : List ℕ) where
   putAll xs (e ∷ es) = putAll (putEntry e xs) es
 
   unfoldable pub entriesOf : List ℕ
-  entriesOf = putAll [] (byRank places)
+  entriesOf = putAll [] (byRank (l .terms .places))
 
   unfoldable pub valueAt : ℕ → List ℕ
   valueAt k = valueIn (decodedAt l s k)

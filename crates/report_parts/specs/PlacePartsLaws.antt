@@ -1,6 +1,5 @@
 -- The marks and the set: what is read from the places is what is read from the settled table.
-use Prim.Native.Nat.{ℕ, suc, _≤_, _<_}
-use native.Mathlib.Omega.{arith}
+use Prim.Native.Nat.{ℕ, _<_}
 use mathlib.Core.Path.{_≡_, refl, sym, _∙_, ap, ap₂, subst}
 use mathlib.Core.List.{List, [], _∷_, map}
 use mathlib.Core.Bool.{Bool, not, _&&_}
@@ -12,7 +11,7 @@ use Rattle.bytes_order.specs.BoolLaws.{and-true→, and-true, and-agrees}
 use Rattle.bytes_order.specs.MemberLaws.{∈-cast, ∈-map, map-∈, ∈-keep, keep-∈, ∈-concatMap, concatMap-∈, concatMap-keep-map}
 use Rattle.bytes_order.specs.Ascending.{Ascending}
 use Rattle.bytes_order.specs.SortLaws.{same-sort, sort-map, ascending-concatMap}
-use Rattle.update_format.specs.Update.{Id, maxAuthor, Add, Update}
+use Rattle.update_format.specs.Update.{Id, Add, Update}
 use Rattle.rules.specs.SetEntry.{SetEntry, entryKey}
 use Rattle.rules.specs.SetEntryLaws.{entry-key-identifies}
 use Rattle.rules.specs.Mark.{Mark, markKey, marksBy}
@@ -28,7 +27,7 @@ use Rattle.bitset.specs.Below.{anyBelow, upTo}
 use Rattle.bitset.specs.BelowLaws.{upTo-∈, ∈-upTo, upTo-ascending}
 use Rattle.update_fields.specs.Fields.{testOf, isAnyAdd, tagIn}
 use Rattle.update_fields.specs.FieldLaws.{→isAnyAdd, isAnyAdd→, add-tag}
-use Rattle.ledger_state.specs.Stands.{ident, updateAt, Stands}
+use Rattle.ledger_state.specs.Stands.{rules, updateAt, Stands}
 use Rattle.ledger_state.specs.State.{Book, decodedAt}
 use Rattle.ledger_relations.specs.PlaceTests.{idAt, authorAt, heldAt, forkedAt, faultAt, removedAt, presentAt, idOrder}
 use Rattle.ledger_sorting.specs.PlaceLists.{sortedBy}
@@ -37,53 +36,53 @@ use Rattle.report_parts.specs.declared.Evidence.the-variants.{Fork, Faul
 use Rattle.ledger_relations.specs.PlaceLaws.{from-used, to-used, place-decoded, place-author, place-test}
 use Rattle.ledger_relations.specs.RowLaws.{rowAt, row-update, row-id, order-∈, ∈-order, table-rows, any-agrees, held-agrees, author-agrees, fork-agrees, fault-agrees, op-test-agrees}
 
-author-marks-ascending : (fork fault : ℕ → Bool) → Ascending markKey (authorMarks fork fault)
+pub author-marks-ascending : (n : ℕ) (fork fault : ℕ → Bool) → Ascending markKey (authorMarks n fork fault)
 unfolding markKey
-author-marks-ascending fork fault =
-    ascending-concatMap markKey (λ (a : ℕ). marksBy a (fork a) (fault a)) (upTo-ascending (suc maxAuthor)) (λ a. marks-by-ascending a (fork a) (fault a))
+author-marks-ascending n fork fault =
+    ascending-concatMap markKey (λ (a : ℕ). marksBy a (fork a) (fault a)) (upTo-ascending n) (λ a. marks-by-ascending a (fork a) (fault a))
     (λ a m h. ap (λ (b : ℕ). b ∷ []) (marks-by-author a (fork a) (fault a) h))
 
 module _ {l : Book} {s : List ℕ} {us : List Update} (stands : Stands l s us) where
   -- marks
 
-  decides : Decides ident us (settledTable ident us)
-  decides = settled-decides ident us (stands .holds .distinct)
+  decides : Decides rules us (settledTable rules us)
+  decides = settled-decides rules us (stands .holds .distinct)
 
   -- a test of some row of an author, and of some place
   by-agrees : (p : Row → Bool) (p′ : ℕ → Bool) → ((k : ℕ) → k < length us → p (rowAt us k) ≡ p′ k) → (a : ℕ)
-      → someRowBy p (settledTable ident us) a ≡ anyBelow (l .used) (λ (k : ℕ). eqb (authorAt l s k) a && p′ k)
+      → someRowBy p (settledTable rules us) a ≡ anyBelow (l .used) (λ (k : ℕ). eqb (authorAt l s k) a && p′ k)
   unfolding someRowBy
   by-agrees p p′ h a =
       any-agrees stands (λ (r : Row). eqb (r .update .author) a && p r) (λ (k : ℕ). eqb (authorAt l s k) a && p′ k)
       (λ k g. ap₂ (λ (x : ℕ) (b : Bool). eqb x a && b) (author-agrees stands g) (h k g))
 
-  marks-agree : (a : ℕ) → marksIn (settledTable ident us) a ≡ marksBy a (markedBy l s Fork a) (markedBy l s Fault a)
+  marks-agree : (a : ℕ) → marksIn (settledTable rules us) a ≡ marksBy a (markedBy l s Fork a) (markedBy l s Fault a)
   unfolding marksIn markedBy
   marks-agree a =
-      ap₂ (marksBy a) (by-agrees (forkedRow (settledTable ident us)) (forkedAt l s) (fork-agrees stands) a)
-      (by-agrees (faultRow (settledTable ident us)) (faultAt l s) (fault-agrees stands) a)
+      ap₂ (marksBy a) (by-agrees (forkedRow (settledTable rules us)) (forkedAt l s) (fork-agrees stands) a)
+      (by-agrees (faultRow (settledTable rules us)) (faultAt l s) (fault-agrees stands) a)
 
-  marks-of-places : Exactly markKey (λ (m : Mark). MarkedFor ident us (m .kind) (m .author)) (marksOf l s)
+  marks-of-places : Exactly markKey (λ (m : Mark). MarkedFor rules us (m .kind) (m .author)) (marksOf l s)
   unfolding marksOf
   marks-of-places =
       record {
         right = λ m h.
-            let f = concatMap-∈ (λ (a : ℕ). marksBy a (markedBy l s Fork a) (markedBy l s Fault a)) (upTo (suc maxAuthor)) h in
-            marks-in→ ident us (settledTable ident us) (stands .holds .distinct) decides (f .0) (subst (λ (ms : List Mark). m ∈ ms) (sym (marks-agree (f .0))) (f .2));
+            let f = concatMap-∈ (λ (a : ℕ). marksBy a (markedBy l s Fork a) (markedBy l s Fault a)) (upTo (l .terms .bounds .authors)) h in
+            marks-in→ rules us (settledTable rules us) (stands .holds .distinct) decides (f .0) (subst (λ (ms : List Mark). m ∈ ms) (sym (marks-agree (f .0))) (f .2));
         all = λ m h.
-            let f = marked-stored ident us (m .kind) (m .author) h in
-            let small : m .author ≤ maxAuthor = subst (λ (a : ℕ). a ≤ maxAuthor) (f .2) (stands .holds .bounded (f .0) (f .1) .author-small) in
-            ∈-concatMap (λ (a : ℕ). marksBy a (markedBy l s Fork a) (markedBy l s Fault a)) (∈-upTo (suc maxAuthor) (omega arith))
-            (subst (λ (ms : List Mark). m ∈ ms) (marks-agree (m .author)) (→marks-in ident us (settledTable ident us) (stands .holds .distinct) decides m h));
-        ascending = author-marks-ascending (markedBy l s Fork) (markedBy l s Fault);
+            let f = marked-stored rules us (m .kind) (m .author) h in
+            let small : m .author < l .terms .bounds .authors = subst (λ (a : ℕ). a < l .terms .bounds .authors) (f .2) (stands .holds .bounded (f .0) (f .1) .author-small) in
+            ∈-concatMap (λ (a : ℕ). marksBy a (markedBy l s Fork a) (markedBy l s Fault a)) (∈-upTo (l .terms .bounds .authors) small)
+            (subst (λ (ms : List Mark). m ∈ ms) (marks-agree (m .author)) (→marks-in rules us (settledTable rules us) (stands .holds .distinct) decides m h));
+        ascending = author-marks-ascending (l .terms .bounds .authors) (markedBy l s Fork) (markedBy l s Fault);
       }
 
-  pub marks-part : marksOf l s ≡ partsOf ident us .marks
-  marks-part = exactly-unique marks-of-places (read-right ident us (stands .holds .distinct) .marks)
+  pub marks-part : marksOf l s ≡ partsOf rules us .marks
+  marks-part = exactly-unique marks-of-places (read-right rules us (stands .holds .distinct) .marks)
 
   -- the set
   kept : Row → Bool
-  kept r = heldRow r && not (removed (settledTable ident us) (r .id))
+  kept r = heldRow r && not (removed (settledTable rules us) (r .id))
 
   keptAt : ℕ → Bool
   keptAt k = heldAt l s k && not (removedAt l s (idAt l s k))
@@ -92,7 +91,7 @@ module _ {l : Book} {s : List ℕ} {us : List Update} (stands : Stands l s us) w
   unfolding kept keptAt removed removedAt
   kept-agrees k h =
       and-agrees (heldRow (rowAt us k)) (held-agrees stands k h)
-      (λ e. ap (λ (i : Id). not (removed (settledTable ident us) i)) (row-id stands h) ∙ ap not (op-test-agrees stands (names (idAt l s k))))
+      (λ e. ap (λ (i : Id). not (removed (settledTable rules us) i)) (row-id stands h) ∙ ap not (op-test-agrees stands (names (idAt l s k))))
 
   set-entry-of : {k : ℕ} {e : SetEntry} → k < length us → updateAt us k .op ≡ Add (e .tag) → updateAt us k .author ≡ e .author → setEntryAt l s k ≡ e
   unfolding setEntryAt authorAt tagIn
@@ -127,7 +126,7 @@ module _ {l : Book} {s : List ℕ} {us : List Update} (stands : Stands l s us) w
       (∈-keep keptAt (∈-order stands h) (and-true (heldAt l s (f .0)) (not (removedAt l s (idAt l s (f .0)))) (b .0) (c .1)))
       (∈-cast (sym (f .2) ∙ set-entry-of h (o .1) refl) (∈-setEntriesFrom (updateAt us (f .0)) (o .1) refl))
 
-  pub set-entries-agree : map (setEntryAt l s) (setOrder l s) ≡ setEntries (settledTable ident us)
+  pub set-entries-agree : map (setEntryAt l s) (setOrder l s) ≡ setEntries (settledTable rules us)
   unfolding sortedBy setEntryAt setEntries kept
   set-entries-agree =
       sym (sort-map entryKey (setEntryAt l s) (keep (presentAt l s) (upTo (l .used))))

@@ -17,7 +17,7 @@ pub record PlaceAmong (o : Places) (k : ℕ) : Type 0 where
 module _ (l : Book) (s : List ℕ) where
   -- k holds a held Insert with n ancestors
   unfoldable pub rankedAt : ℕ → ℕ → Bool
-  rankedAt n k = rankedIn s n (placeAt l k) k
+  rankedAt n k = rankedIn (l .terms) s n (placeAt l k) k
 
   -- both are lists of places, and the entries have room for those of rank n
   pub record RankRoom (order : Places) (n : ℕ) (entries : Places) : Type 0 where

@@ -1,5 +1,5 @@
 -- The part of the marks, one author after the other.
-use Prim.Native.Nat.{ℕ, suc, _+_, _≤_}
+use Prim.Native.Nat.{ℕ, _+_, _≤_}
 use mathlib.Core.Path.{_≡_, refl, sym, ap, ap₂, _∙_}
 use mathlib.Core.List.{List, [], _∷_, _++_, append-nil}
 use mathlib.Core.Bool.{Bool, true, false}
@@ -8,7 +8,6 @@ use native.Mathlib.Omega.{arith}
 use Rattle.bytes_order.specs.Member.{concatMap}
 use Rattle.bytes_order.specs.MemberLaws.{concatMap-append}
 use Rattle.bytes_ascii.specs.Ascii.{codes, ascii}
-use Rattle.update_format.specs.Update.{maxAuthor}
 use Rattle.bitset.specs.Below.{upTo}
 use Rattle.rules.specs.declared.MarkKind.{MarkKind}
 use Rattle.rules.specs.declared.MarkKind.the-variants.{Fork, Fault, Both}
@@ -38,9 +37,9 @@ module _ (fork fault : ℕ → Bool) where
       ∙ ap (concatMap markLine) (sym (concatMap-append marksFor (upTo a) (a ∷ [])))
       ∙ sym (ap linesBelow (add-one a))
 
-  pub lines-all : (a : ℕ) → a ≤ suc maxAuthor → suc maxAuthor ≤ a → linesBelow a ≡ concatMap markLine (authorMarks fork fault)
+  pub lines-all : (n a : ℕ) → a ≤ n → n ≤ a → linesBelow a ≡ concatMap markLine (authorMarks n fork fault)
   unfolding linesBelow
-  lines-all a h g = let e : a ≡ suc maxAuthor = omega arith in ap (λ (m : ℕ). concatMap markLine (concatMap marksFor (upTo m))) e
+  lines-all n a h g = let e : a ≡ n = omega arith in ap (λ (m : ℕ). concatMap markLine (concatMap marksFor (upTo m))) e
 
   -- the lines of author a, by what its tests answered
   module _ (a : ℕ) {b c : Bool} (forked : b ≡ fork a) (faulty : c ≡ fault a) where

@@ -1,10 +1,10 @@
 -- The parts of the report by cases: which places have a line in one, and the line; and the part of the marks.
-use Prim.Native.Nat.{ℕ, suc, _+_, _*_, _≤_, _<_}
+use Prim.Native.Nat.{ℕ, _+_, _*_, _≤_, _<_}
 use mathlib.Core.List.{List, _++_}
 use mathlib.Core.Bool.{Bool, true}
 use Rattle.bytes_order.specs.Member.{keep, concatMap}
 use Rattle.bytes_ascii.specs.Ascii.{ascii}
-use Rattle.update_format.specs.Update.{maxAuthor}
+use Rattle.update_format.specs.Update.{documentBounds}
 use Rattle.rules.specs.Mark.{Mark}
 use Rattle.rules.specs.Report.{authorLine, setLine, bytesLine, markLine}
 use Rattle.ledger_state.specs.State.{places, Book}
@@ -34,7 +34,7 @@ maxStandings = maxReportLine + 4 * maxPart
 
 -- .. of the lines of the marks, one for each author, and of their part
 abbrev pub maxMarkLines : ℕ
-maxMarkLines = suc maxAuthor * maxReportLine
+maxMarkLines = documentBounds .authors * maxReportLine
 
 abbrev pub maxMarksPart : ℕ
 maxMarksPart = maxMarkLines + maxReportLine
@@ -51,7 +51,7 @@ pub record ShownLine (l : Book) (at k : ℕ) : Type 0 where
 
 -- the page has room for n bytes at byte `at`, for what is printed of the places of a list
 pub record ListOnPage (l : Book) (o : Places) (at n : ℕ) : Type 0 where
-  pub used-within : l .used ≤ places
+  pub used-within : l .used ≤ l .terms .places
   pub is-list : PlaceList o
   pub page-within : at + n ≤ farthest
 

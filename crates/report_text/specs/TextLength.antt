@@ -1,5 +1,6 @@
--- No text is longer than the longest report of its form: of a place at most 70 bytes by its standing, 67 as a head and 38 in the set or 35 in the list.
-use Prim.Native.Nat.{ℕ, _+_, _*_, _≤_, _<_}
+-- No text is longer than a report of as many updates may be (`reportSize`): of a place at most one line by its standing, one as a head and one in the set or the list.
+use Prim.Native.Nat.{ℕ, _+_, _*_, _≤_, _<_, min}
+use native.Mathlib.Nat.{mul-le-mul-left, le-min}
 use native.Mathlib.Omega.{arith}
 use mathlib.Core.Path.{_≡_}
 use mathlib.Core.List.{List, _++_}
@@ -8,22 +9,33 @@ use Rattle.bytes_order.specs.Member.{_∈_, keep, concatMap}
 use Rattle.bytes_order.specs.MemberLaws.{keep-∈, keep-length}
 use Rattle.bytes_order.specs.CountLaws.{concatMap-length}
 use Rattle.bytes_ascii.specs.Ascii.{codes, ascii}
-use Rattle.update_format.specs.Update.{idLength}
+use Rattle.update_format.specs.Update.{Bounds, idLength}
 use Rattle.rules.specs.declared.Form.{Form}
 use Rattle.rules.specs.declared.Form.the-variants.{Full, Short}
-use Rattle.rules.specs.Report.{setLine, bytesLine, markLine, longest}
-use Rattle.rules.specs.ReportLengthLaws.{mark-line-length, bytes-line-length, author-line-length}
-use Rattle.ledger_state.specs.State.{places, Book, placeAt}
-use Rattle.ledger_relations.specs.PlaceTests.{idAt, authorAt, headAt, idOrder}
+use Rattle.rules.specs.Report.{setLine, bytesLine, markLine, authorDigits, reportSize}
+use Rattle.rules.specs.ReportLengthLaws.{mark-line-length, bytes-line-length, author-line-length, three-lines, two-lines}
+use Rattle.ledger_state.specs.State.{Book, placeAt}
+use Rattle.ledger_relations.specs.PlaceTests.{idAt, authorAt, heldAt, waitingAt, voidAt, headAt, idOrder}
 use Rattle.report_parts.specs.PlaceParts.{marksOf, setEntryAt, setOrder, entriesOf, valueAt}
-use Rattle.report_parts.specs.LengthLaws.{author-bound, tag-bound, entry-author-bound, value-bound, order-taken, order-few, standings-few, read-offs-few, marks-few, mark-small}
+use Rattle.report_parts.specs.LengthLaws.{author-bound, tag-bound, entry-author-bound, value-bound, order-taken, order-few, standings-few, read-offs-few, marks-few, marks-used, mark-small}
 use Rattle.report_wording.specs.declared.Part.{Part}
 use Rattle.report_wording.specs.declared.Part.the-variants.{Held, Heads, Waiting, Void, Set, List as Entries}
 use Rattle.report_wording.specs.Lines.{wordOf}
 use Rattle.report_text.specs.Parts.{marksPart, updateLineAt, listedIn, lineOf, partLines, partOf}
 use Rattle.report_text.specs.Text.{standings, readOffs, textOf}
 
-module _ (l : Book) (s : List ℕ) where
+-- a ledger whose terms have authors
+module _ (l : Book) (s : List ℕ) (some : 0 < l .terms .bounds .authors) where
+  abbrev bounds : Bounds
+  bounds = l .terms .bounds
+
+  abbrev digits : ℕ
+  digits = authorDigits bounds
+
+  -- no more marked authors than there are, and than places taken
+  abbrev marked : ℕ
+  marked = min (bounds .authors) (l .used)
+
   -- a part with lines of at most n bytes
   part-length : (p : Part) (n : ℕ) (xs : List ℕ) → ((k : ℕ) → k ∈ xs → length (lineOf l s p k) ≤ n)
       → length (partOf l s p xs) ≤ length (wordOf p) + n * length (keep (listedIn l s p) xs) + 2
@@ -36,24 +48,31 @@ module _ (l : Book) (s : List ℕ) where
         concatMap-length (lineOf l s p) n (keep (listedIn l s p) xs) (λ k m. h k (keep-∈ (listedIn l s p) xs m .0)),
       )
 
-  marks-length : length (marksPart (marksOf l s)) ≤ 185
+  marks-length : length (marksPart (marksOf l s)) ≤ 9 + (9 + digits) * marked
   unfolding marksPart ascii codes
   marks-length =
       omega (
         arith,
         length-append (concatMap markLine (marksOf l s)) (ascii ")\n"),
-        concatMap-length markLine 11 (marksOf l s) (λ m h. mark-line-length m (mark-small l s m h)),
-        marks-few l s,
+        concatMap-length markLine (9 + digits) (marksOf l s) (λ m h. mark-line-length bounds m (mark-small l s m h)),
+        mul-le-mul-left (9 + digits) (le-min (marks-few l s) (marks-used l s)),
       )
 
-  set-line-length : (k : ℕ) → length (setLine (setEntryAt l s k)) ≤ 38
+  set-line-length : (k : ℕ) → length (setLine (setEntryAt l s k)) ≤ 36 + digits
   unfolding setLine
-  set-line-length k = omega (arith, author-line-length (setEntryAt l s k .tag) (setEntryAt l s k .author) (entry-author-bound l s k), tag-bound l s k)
+  set-line-length k =
+      omega (arith, author-line-length bounds (setEntryAt l s k .tag) (setEntryAt l s k .author) (entry-author-bound l s some k), tag-bound l s k)
 
   value-line-length : (k : ℕ) → length (bytesLine (valueAt l s k)) ≤ 35
   value-line-length k = omega (arith, bytes-line-length (valueAt l s k), value-bound l s k)
 
-  read-offs-length : length (readOffs l s) ≤ 202 + 38 * l .used
+  -- the lines of the set and of the list
+  shown-lines : (36 + digits) * length (keep (listedIn l s Set) (setOrder l s)) + 35 * length (keep (listedIn l s Entries) (entriesOf l s)) ≤ (36 + digits) * l .used
+  shown-lines =
+      two-lines (36 + digits) (length (keep (listedIn l s Set) (setOrder l s))) (length (keep (listedIn l s Entries) (entriesOf l s))) (omega arith)
+      (omega (arith, keep-length (listedIn l s Set) (setOrder l s), keep-length (listedIn l s Entries) (entriesOf l s), read-offs-few l s))
+
+  read-offs-length : length (readOffs l s) ≤ 26 + (9 + digits) * marked + (36 + digits) * l .used
   unfolding readOffs ascii codes
   read-offs-length =
       omega (
@@ -62,18 +81,17 @@ module _ (l : Book) (s : List ℕ) where
         length-append (partOf l s Set (setOrder l s)) (partOf l s Entries (entriesOf l s) ++ ascii ")\n"),
         length-append (partOf l s Entries (entriesOf l s)) (ascii ")\n"),
         marks-length,
-        part-length Set 38 (setOrder l s) (λ k m. set-line-length k),
+        part-length Set (36 + digits) (setOrder l s) (λ k m. set-line-length k),
         part-length Entries 35 (entriesOf l s) (λ k m. value-line-length k),
-        keep-length (listedIn l s Set) (setOrder l s),
-        keep-length (listedIn l s Entries) (entriesOf l s),
-        read-offs-few l s,
+        shown-lines,
       )
 
   -- ids have 32 bytes
   module _ (sized : (k : ℕ) → k < l .used → length (placeAt l k .id) ≡ idLength) where
-    update-line-length : (k : ℕ) → k ∈ idOrder l s → length (updateLineAt l s k) ≤ 70
+    update-line-length : (k : ℕ) → k ∈ idOrder l s → length (updateLineAt l s k) ≤ 68 + digits
     unfolding updateLineAt
-    update-line-length k m = omega (arith, author-line-length (idAt l s k) (authorAt l s k) (author-bound l s k), sized k (order-taken l s m))
+    update-line-length k m =
+        omega (arith, author-line-length bounds (idAt l s k) (authorAt l s k) (author-bound l s some k), sized k (order-taken l s m))
 
     id-line-length : (k : ℕ) → k ∈ idOrder l s → length (bytesLine (idAt l s k)) ≤ 67
     id-line-length k m = omega (arith, bytes-line-length (idAt l s k), sized k (order-taken l s m))
@@ -81,7 +99,15 @@ module _ (l : Book) (s : List ℕ) where
     abbrev P : Part → List ℕ
     P p = partOf l s p (idOrder l s)
 
-    standings-length : length (standings l s) ≤ 36 + 137 * l .used
+    -- the lines by the standing
+    update-lines :
+        (68 + digits) * length (keep (heldAt l s) (idOrder l s)) + (68 + digits) * length (keep (waitingAt l s) (idOrder l s)) + (68 + digits) * length (keep (voidAt l s) (idOrder l s))
+        ≤ (68 + digits) * l .used
+    update-lines =
+        three-lines (68 + digits) (length (keep (heldAt l s) (idOrder l s))) (length (keep (waitingAt l s) (idOrder l s))) (length (keep (voidAt l s) (idOrder l s)))
+        (standings-few l s)
+
+    standings-length : length (standings l s) ≤ 36 + (68 + digits) * l .used + 67 * l .used
     unfolding standings ascii codes
     standings-length =
         omega (
@@ -89,18 +115,19 @@ module _ (l : Book) (s : List ℕ) where
           length-append (P Held) (P Heads ++ (P Waiting ++ P Void)),
           length-append (P Heads) (P Waiting ++ P Void),
           length-append (P Waiting) (P Void),
-          part-length Held 70 (idOrder l s) update-line-length,
+          part-length Held (68 + digits) (idOrder l s) update-line-length,
           part-length Heads 67 (idOrder l s) id-line-length,
-          part-length Waiting 70 (idOrder l s) update-line-length,
-          part-length Void 70 (idOrder l s) update-line-length,
+          part-length Waiting (68 + digits) (idOrder l s) update-line-length,
+          part-length Void (68 + digits) (idOrder l s) update-line-length,
           keep-length (headAt l s) (idOrder l s),
           order-few l s,
-          standings-few l s,
+          update-lines,
         )
 
--- of every ledger with at most 64 places taken, whose ids have 32 bytes
-pub textOf-length : (form : Form) (l : Book) (s : List ℕ) → l .used ≤ places → ((k : ℕ) → k < l .used → length (placeAt l k .id) ≡ idLength)
-    → length (textOf l s form) ≤ longest form
-unfolding textOf ascii codes
-textOf-length Full l s few sized = omega (arith, length-append (standings l s) (readOffs l s), standings-length l s sized, read-offs-length l s)
-textOf-length Short l s few sized = omega (arith, read-offs-length l s)
+-- of every ledger whose ids have 32 bytes
+pub textOf-length : (form : Form) (l : Book) (s : List ℕ) → 0 < l .terms .bounds .authors → ((k : ℕ) → k < l .used → length (placeAt l k .id) ≡ idLength)
+    → length (textOf l s form) ≤ reportSize (l .terms .bounds) (l .used) form
+unfolding textOf ascii codes reportSize
+textOf-length Full l s some sized =
+    omega (arith, length-append (standings l s) (readOffs l s), standings-length l s some sized, read-offs-length l s some)
+textOf-length Short l s some sized = omega (arith, read-offs-length l s some)

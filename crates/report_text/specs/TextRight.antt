@@ -11,7 +11,7 @@ use Rattle.rules.specs.Parts.{Parts}
 use Rattle.rules.specs.Settle.{partsIn, partsOf}
 use Rattle.bytes_ascii.specs.Ascii.{ascii}
 use Rattle.rules.specs.Report.{updateLine, setLine, bytesLine, idLine, markLine, partText, standingsText, readOffsText, opening, reportText, reportOf}
-use Rattle.ledger_state.specs.Stands.{ident, Stands}
+use Rattle.ledger_state.specs.Stands.{rules, Stands}
 use Rattle.ledger_state.specs.State.{Book}
 use Rattle.ledger_relations.specs.PlaceTests.{idOrder}
 use Rattle.report_parts.specs.PlacePartsLaws.{marks-part}
@@ -34,16 +34,16 @@ regroup a b c d r = simp append-assoc
 
 module _ {l : Book} {s : List ℕ} {us : List Update} (stands : Stands l s us) where
   abbrev P : Parts
-  P = partsOf ident us
+  P = partsOf rules us
 
-  standings-right : {rest rest′ : List ℕ} → rest ≡ rest′ → standings l s ++ rest ≡ standingsText ident P rest′
+  standings-right : {rest rest′ : List ℕ} → rest ≡ rest′ → standings l s ++ rest ≡ standingsText rules P rest′
   unfolding standings partOf
   standings-right {rest} e =
       regroup (partOf l s Held (idOrder l s)) (partOf l s Heads (idOrder l s)) (partOf l s Waiting (idOrder l s)) (partOf l s Void (idOrder l s)) rest
-      ∙ part-then "(held\n" (updateLine ident) (P .held) (held-part stands)
-      (part-then "(heads\n" (idLine ident) (P .heads) (heads-part stands)
-      (part-then "(waiting\n" (updateLine ident) (P .waiting) (waiting-part stands)
-      (part-then "(void\n" (updateLine ident) (P .void) (void-part stands) e)))
+      ∙ part-then "(held\n" (updateLine rules) (P .held) (held-part stands)
+      (part-then "(heads\n" (idLine rules) (P .heads) (heads-part stands)
+      (part-then "(waiting\n" (updateLine rules) (P .waiting) (waiting-part stands)
+      (part-then "(void\n" (updateLine rules) (P .void) (void-part stands) e)))
 
   read-offs-right : readOffs l s ≡ readOffsText P
   unfolding readOffs marksPart partOf partsOf partsIn
@@ -52,7 +52,7 @@ module _ {l : Book} {s : List ℕ} {us : List Update} (stands : Stands l s us) w
       (part-then "(set\n" setLine (P .set) (set-part stands)
       (part-then "(list\n" bytesLine (P .list) (list-part stands) refl))
 
-pub text-right : (form : Form) (l : Book) (s : List ℕ) (us : List Update) → Stands l s us → textOf l s form ≡ reportOf form ident us
+pub text-right : (form : Form) (l : Book) (s : List ℕ) (us : List Update) → Stands l s us → textOf l s form ≡ reportOf form rules us
 unfolding textOf reportOf reportText
 text-right Full l s us stands = ap (λ (t : List ℕ). opening ++ t) (standings-right stands (read-offs-right stands))
 text-right Short l s us stands = ap (λ (t : List ℕ). opening ++ t) (read-offs-right stands)

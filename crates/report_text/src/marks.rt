@@ -2,6 +2,7 @@
 ghost use Prim.Native.Nat.{_+_, _≤_};
 ghost use Rattle.bytes_order.specs.Member.{concatMap};
 ghost use Rattle.bitset.specs.Bits.{has};
+ghost use Rattle.update_format.specs.Update.{documentBounds};
 ghost use Rattle.rules.specs.Mark.{marksBy};
 ghost use Rattle.rules.specs.Report.{markLine};
 ghost use Rattle.report_parts.specs.PlaceParts.{authorMarks};
@@ -39,7 +40,7 @@ fn shown_line(forked: Set, faulty: Set, a: usize, page: &mut [u8], at: usize) ->
 // The lines of the authors in the sets, ascending.
 fn lines(forked: Set, faulty: Set, page: &mut [u8], at: usize) -> usize
     requires { ⌜ at + maxMarkLines ≤ farthest ⌝ }
-    ensures prints { λ r. ⌜ Prints (now (page .entry)) at (concatMap markLine (authorMarks (has forked) (has faulty))) (now (page .exit)) r ⌝ }
+    ensures prints { λ r. ⌜ Prints (now (page .entry)) at (concatMap markLine (authorMarks (documentBounds .authors) (has forked) (has faulty))) (now (page .exit)) r ⌝ }
     ensures small { λ r. ⌜ r ≤ at + maxMarkLines ⌝ }
 {
     let mut end = at;
@@ -54,7 +55,7 @@ fn lines(forked: Set, faulty: Set, page: &mut [u8], at: usize) -> usize
 // Prints the part: its word, its lines, the closing bracket.
 pub fn print(forked: Set, faulty: Set, page: &mut [u8], at: usize) -> usize
     requires { ⌜ at + maxMarksPart ≤ farthest ⌝ }
-    ensures prints { λ r. ⌜ Prints (now (page .entry)) at (marksPart (authorMarks (has forked) (has faulty))) (now (page .exit)) r ⌝ }
+    ensures prints { λ r. ⌜ Prints (now (page .entry)) at (marksPart (authorMarks (documentBounds .authors) (has forked) (has faulty))) (now (page .exit)) r ⌝ }
     ensures small { λ r. ⌜ r ≤ at + maxMarksPart ⌝ }
 {
     let opened = put(page, at, b"(marks\n");

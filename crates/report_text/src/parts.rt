@@ -4,7 +4,7 @@ ghost use mathlib.Core.Bool.{cond};
 ghost use mathlib.Core.List.{[]};
 ghost use Prim.Native.Nat.{_+_, _≤_};
 ghost use Rattle.bytes_print.specs.Page.{Prints};
-ghost use Rattle.ledger_state.specs.State.{decodedIn};
+ghost use Rattle.ledger_state.specs.State.{decodedIn, documentTerms};
 ghost use Rattle.ledger_state.specs.View.{placeOf, bookOf};
 ghost use Rattle.ledger_state.specs.Bounds.{PlaceIn};
 ghost use Rattle.report_text.specs.Parts.{maxLines, maxPart, LineAt, ShownLine, ListOnPage, listedIn, lineOf, partLines, partOf};
@@ -22,7 +22,7 @@ use report_wording::Part;
 // The line in a part of the place, k.
 fn line(p: Place, store: &[u8], part: Part, k: usize, page: &mut [u8], at: usize) -> usize
     requires { ⌜ LineAt at k ⌝ }
-    ensures prints { λ r. ⌜ Prints (now (page .entry)) at (lineBy part (p .id) (decodedIn (now (store .entry)) (placeOf p) k)) (now (page .exit)) r ⌝ }
+    ensures prints { λ r. ⌜ Prints (now (page .entry)) at (lineBy part (p .id) (decodedIn documentTerms (now (store .entry)) (placeOf p) k)) (now (page .exit)) r ⌝ }
     ensures small { λ r. ⌜ r ≤ at + maxReportLine ⌝ }
 {
     let id = p.id;

@@ -1,10 +1,10 @@
 -- The first line of each part of the report that shows updates, the lines in it, and the end of a mark's line.
-use Prim.Native.Nat.{ℕ, _+_, _≤_}
+use Prim.Native.Nat.{ℕ, _+_, _≤_, _<_}
 use lib.ListN.{length}
 use mathlib.Core.List.{List, _++_}
-use Rattle.update_format.specs.Update.{Id, idLength, maxAuthor}
+use Rattle.update_format.specs.Update.{Id, idLength}
 use Rattle.update_format.specs.Decode.{Decoded}
-use Rattle.bytes_ascii.specs.Ascii.{ascii}
+use Rattle.bytes_ascii.specs.Ascii.{ascii, decimalLimit}
 use Rattle.rules.specs.declared.MarkKind.{MarkKind}
 use Rattle.rules.specs.Report.{authorLine, setLine, bytesLine, markWord}
 use Rattle.update_fields.specs.Fields.{authorIn, setEntryIn, valueIn}
@@ -12,7 +12,7 @@ use Rattle.report_wording.specs.declared.Part.{Part}
 use Rattle.report_wording.specs.declared.Part.the-variants.{Held, Heads, Waiting, Void, Set, List as Entries}
 use Rattle.bytes_print.specs.Page.{farthest}
 
--- no line and no word of the report has more bytes: the longest line is `(`, 64 digits, a space, two digits, `)` and the newline
+-- no line and no word of the report has more bytes: the longest line is `(`, 64 digits, a space, four digits, `)` and the newline
 abbrev pub maxReportLine : ℕ
 maxReportLine = 100
 
@@ -21,10 +21,10 @@ pub record LineOf (at : ℕ) (bytes : List ℕ) : Type 0 where
   pub line-within : at + maxReportLine ≤ farthest
   pub bytes-within : length bytes ≤ idLength
 
--- the page has room for a line at byte `at`, and a is an author
+-- the page has room for a line at byte `at`, and the author a can be printed
 pub record MarkLineOf (at a : ℕ) : Type 0 where
   pub line-within : at + maxReportLine ≤ farthest
-  pub author-within : a ≤ maxAuthor
+  pub author-within : a < decimalLimit
 
 -- the first line of a part
 abbrev pub wordOf : Part → List ℕ

@@ -1,7 +1,7 @@
 // The words and the lines of the report, printed on a page that the caller lends.
 ghost use Prim.Native.Nat.{_+_, _*_, _≤_};
 ghost use mathlib.Core.List.{_++_};
-ghost use Rattle.update_format.specs.Update.{idLength};
+ghost use Rattle.update_format.specs.Update.{documentBounds, idLength};
 ghost use Rattle.update_format.specs.Decode.{decode};
 ghost use Rattle.bytes_ascii.specs.Ascii.{ascii, hex};
 ghost use Rattle.rules.specs.Report.{bytesLine, markLine};
@@ -60,13 +60,13 @@ fn bytes_line(bytes: &[u8], page: &mut [u8], at: usize) -> usize
 // A line of bytes and of the author of an update's bytes, b.
 fn author_line(bytes: &[u8], b: &[u8], page: &mut [u8], at: usize) -> usize
     requires { ⌜ LineOf at (now bytes) ⌝ }
-    ensures prints { λ r. ⌜ Prints (now (page .entry)) at (authorLineBy (now (bytes .entry)) (decode (now (b .entry)))) (now (page .exit)) r ⌝ }
+    ensures prints { λ r. ⌜ Prints (now (page .entry)) at (authorLineBy (now (bytes .entry)) (decode documentBounds (now (b .entry)))) (now (page .exit)) r ⌝ }
     ensures small { λ r. ⌜ r ≤ at + maxReportLine ⌝ }
 {
     let author = update_fields::author_of(b);
     let shown = open_bytes(bytes, page, at);
     let spaced = put(page, shown, b" ");
-    let named = digits::decimal(page, spaced, author);
+    let named = digits::decimal(page, spaced, author as usize);
     put(page, named, b")\n")
 }
 
@@ -90,14 +90,14 @@ pub fn mark_line(author: usize, kind: MarkKind, page: &mut [u8], at: usize) -> u
     ensures small { λ r. ⌜ r ≤ at + maxReportLine ⌝ }
 {
     let opened = put(page, at, b"(");
-    let named = digits::decimal(page, opened, author as u8);
+    let named = digits::decimal(page, opened, author);
     mark_end(kind, page, named)
 }
 
 // The line in a part of an update with this id and these bytes.
 pub fn line_by(id: &[u8], b: &[u8], part: Part, page: &mut [u8], at: usize) -> usize
     requires { ⌜ LineOf at (now id) ⌝ }
-    ensures prints { λ r. ⌜ Prints (now (page .entry)) at (lineBy part (now (id .entry)) (decode (now (b .entry)))) (now (page .exit)) r ⌝ }
+    ensures prints { λ r. ⌜ Prints (now (page .entry)) at (lineBy part (now (id .entry)) (decode documentBounds (now (b .entry)))) (now (page .exit)) r ⌝ }
     ensures small { λ r. ⌜ r ≤ at + maxReportLine ⌝ }
 {
     match part {

@@ -5,7 +5,7 @@ use mathlib.Core.Path.{_≡_, refl}
 use mathlib.Core.List.{[], _∷_, _++_, map}
 use mathlib.Core.Bool.{true, false}
 use lib.ListN.{length}
-use lib.Dec.{leb}
+use lib.Dec.{ltb, leb}
 use Rattle.bytes_order.specs.Order.{same, before}
 use Rattle.bytes_order.specs.Member.{member, keep, any, all, concatMap}
 use Rattle.bytes_order.specs.Sort.{insert, sort}
@@ -17,16 +17,17 @@ use Rattle.rules.specs.SetEntry.{entryKey}
 use Rattle.rules.specs.Mark.{markKey, kindsBy, marksBy}
 use Rattle.rules.specs.CausalOrder.{orderBy, isBefore, isApart, beforeOrAfter, sameOrBefore}
 use Rattle.rules.specs.Settle.{isHeld, isWaiting, isVoid, isAdd, isInsert, heldIn, voidIn, addIn, insertIn, aboveIn, orderIn, ancestorsOf, antichain, validOp, fineBy, ruled, judgeFine, judgeKnown, judgeBy, judgeFrom, judge, round, rounds, start, startAll, settledTable, heldRow, covered, heads, forkedBy, forkedRow, faultRow, someRowBy, marksIn, marks, names, removed, tagsOf, setEntriesFrom, setEntries, rank, anchored, siblings, under, walk, entries, deletes, deleted, valuesOf, list, partsIn, partsOf, causalOrder}
-use Rattle.rules.specs.Report.{updateLine, setLine, bytesLine, idLine, markWord, markLine, partText, readOffsText, opening, reportText, reportOf, places, maxShortReport}
-use Rattle.rules.specs.Small.{Small, SmallChoice, nameIn, by, namedUpdates, added, marked, expect, #a, #b, a, b, a′, d, e, e′, e″, r, r′, r″, c, c′, n, n′, o, o′, p, q, q′, i, x, m, f, g, w, z, y, i′, x′, v, u, k, identOf, smallSet, sixteen, further, smallLedgers, apart, orderNamed, crossedRows, oneAdd, twoAdds, addIdent, addShort, whole, wholeIdent, wholeSet, wholeFull, wholeShort, choiceIdent, choiceSet, leftIn, root, next, ids, elevenHeads, smallChoices, longestShort, booked, bookedBy}
+use Rattle.rules.specs.Terms.{places}
+use Rattle.rules.specs.Report.{updateLine, setLine, bytesLine, idLine, markWord, markLine, partText, readOffsText, opening, reportText, reportOf, maxShortReport}
+use Rattle.rules.specs.Small.{Small, SmallChoice, nameIn, naming, byBytes, by, namedUpdates, added, marked, expect, #a, #b, a, b, a′, d, e, e′, e″, r, r′, r″, c, c′, n, n′, o, o′, p, q, q′, i, x, m, f, g, w, z, y, i′, x′, v, u, k, rulesOf, smallSet, sixteen, further, smallLedgers, apart, orderNamed, crossedRows, oneAdd, twoAdds, addRules, addShort, whole, wholeRules, wholeSet, wholeFull, wholeShort, choiceRules, choiceSet, leftIn, root, next, ids, elevenHeads, smallChoices, longestShort, booked, bookedBy}
 use Rattle.rules.specs.Writing.{heldBy, ranked, atOrAbove, firstHeads, others, chosenFrom, chosen, writtenIn, writableIn, writtenOf, writableOf}
 
-pub computed : map (λ (c : Small). partsOf (identOf c) (smallSet c)) smallLedgers ≡ map (λ (c : Small). c .gives) smallLedgers
+pub computed : map (λ (c : Small). partsOf (rulesOf c) (smallSet c)) smallLedgers ≡ map (λ (c : Small). c .gives) smallLedgers
 unfolding sixteen further expect added marked by nameIn encode encodeOperation same before member keep any all concatMap insert sort isHeld isWaiting isVoid isAdd isInsert heldIn voidIn addIn insertIn aboveIn orderIn orderBy isBefore isApart beforeOrAfter ancestorsOf antichain validOp fineBy ruled judgeFine judgeKnown judgeBy judgeFrom judge round rounds start startAll settledTable heldRow covered heads forkedBy forkedRow faultRow someRowBy kindsBy marksBy markKey marksIn marks names removed tagsOf setEntriesFrom setEntries entryKey rank anchored siblings under walk entries deletes deleted valuesOf list partsIn partsOf a b a′ d e e′ e″ r r′ r″ c c′ n n′ o o′ p q q′ i x m f g w z y i′ x′ v u k
 computed = refl
 
 -- no id stands twice
-pub ids-apart : all (λ (c : Small). apart (map (identOf c) (smallSet c))) smallLedgers ≡ true
+pub ids-apart : all (λ (c : Small). apart (map (rulesOf c .ident) (smallSet c))) smallLedgers ≡ true
 unfolding sixteen further by nameIn encode encodeOperation same member all concatMap apart a b a′ d e e′ e″ r r′ r″ c c′ n n′ o o′ p q q′ i x m f g w z y i′ x′ v u k
 ids-apart = refl
 
@@ -40,33 +41,38 @@ unfolding same member any aboveIn orderIn orderBy
 orders-crossed = refl
 
 -- Document 02, E10: one short report of two sets, but the full one has the second Add's id
-pub forms-computed : (reportOf Short addIdent oneAdd ≡ addShort) × (reportOf Short addIdent twoAdds ≡ addShort)
-    × (same (reportOf Full addIdent oneAdd) (reportOf Full addIdent twoAdds) ≡ false)
+pub forms-computed : (reportOf Short addRules oneAdd ≡ addShort) × (reportOf Short addRules twoAdds ≡ addShort)
+    × (same (reportOf Full addRules oneAdd) (reportOf Full addRules twoAdds) ≡ false)
 unfolding by nameIn encode encodeOperation same before member keep any all concatMap insert sort isHeld isWaiting isVoid isAdd isInsert heldIn voidIn addIn insertIn aboveIn orderIn orderBy isBefore isApart beforeOrAfter ancestorsOf antichain validOp fineBy ruled judgeFine judgeKnown judgeBy judgeFrom judge round rounds start startAll settledTable heldRow covered heads forkedBy forkedRow faultRow someRowBy kindsBy marksBy markKey marksIn marks names removed tagsOf setEntriesFrom setEntries entryKey rank anchored siblings under walk entries deletes deleted valuesOf list partsIn partsOf a c codes ascii digit hexByte hex decimalIn decimal updateLine idLine setLine bytesLine markWord markLine partText reportText reportOf
 forms-computed = (refl, refl, refl)
 
 -- the whole reports of one set
-pub whole-computed : (reportOf Full wholeIdent wholeSet ≡ wholeFull) × (reportOf Short wholeIdent wholeSet ≡ wholeShort)
+pub whole-computed : (reportOf Full wholeRules wholeSet ≡ wholeFull) × (reportOf Short wholeRules wholeSet ≡ wholeShort)
 unfolding whole by nameIn encode encodeOperation same before member keep any all concatMap insert sort isHeld isWaiting isVoid isAdd isInsert heldIn voidIn addIn insertIn aboveIn orderIn orderBy isBefore isApart beforeOrAfter ancestorsOf antichain validOp fineBy ruled judgeFine judgeKnown judgeBy judgeFrom judge round rounds start startAll settledTable heldRow covered heads forkedBy forkedRow faultRow someRowBy kindsBy marksBy markKey marksIn marks names removed tagsOf setEntriesFrom setEntries entryKey rank anchored siblings under walk entries deletes deleted valuesOf list partsIn partsOf codes ascii digit hexByte hex decimalIn decimal updateLine idLine setLine bytesLine markWord markLine partText reportText reportOf
 whole-computed = (refl, refl)
 
 -- what the writer names and leaves behind
-pub choices-computed : (map (λ (c : SmallChoice). writtenOf (choiceIdent c) (choiceSet c) (c .writer) (Add []) .preds) smallChoices ≡ map (λ (c : SmallChoice). c .names) smallChoices)
-    × (map (λ (c : SmallChoice). leftIn (settledTable (choiceIdent c) (choiceSet c)) (c .writer)) smallChoices ≡ map (λ (c : SmallChoice). c .leaves) smallChoices)
+pub choices-computed : (map (λ (c : SmallChoice). writtenOf (choiceRules c) (c .most) (choiceSet c) (c .writer) (Add []) .preds) smallChoices ≡ map (λ (c : SmallChoice). c .names) smallChoices)
+    × (map (λ (c : SmallChoice). leftIn (c .most) (settledTable (choiceRules c) (choiceSet c)) (c .writer)) smallChoices ≡ map (λ (c : SmallChoice). c .leaves) smallChoices)
 unfolding smallChoices leftIn root next by nameIn encode encodeOperation same before member keep any all concatMap insert sort isHeld isWaiting isVoid isAdd isInsert heldIn voidIn addIn insertIn aboveIn orderIn orderBy isBefore isApart beforeOrAfter ancestorsOf antichain validOp fineBy ruled judgeFine judgeKnown judgeBy judgeFrom judge round rounds start startAll settledTable heldRow covered heads sameOrBefore rank heldBy ranked atOrAbove firstHeads others chosenFrom chosen writtenIn writtenOf
 choices-computed = (refl, refl)
 
-pub choice-ids-apart : all (λ (c : SmallChoice). apart (map (choiceIdent c) (choiceSet c))) smallChoices ≡ true
+pub choice-ids-apart : all (λ (c : SmallChoice). apart (map (choiceRules c .ident) (choiceSet c))) smallChoices ≡ true
 unfolding smallChoices root next by nameIn encode encodeOperation same member all concatMap apart
 choice-ids-apart = refl
 
--- row 12, of author 5 with eleven heads: a Remove of 18, which is not named, would be void, and one of 17 would not
-pub row-12-computed : (writableOf (nameIn elevenHeads) (namedUpdates elevenHeads) 5 (Remove (18 ∷ []) (ids (18 ∷ []))) ≡ false)
-    × (writableOf (nameIn elevenHeads) (namedUpdates elevenHeads) 5 (Remove (17 ∷ []) (ids (17 ∷ []))) ≡ true)
+pub choices-some : all (λ (c : SmallChoice). ltb 0 (c .most)) smallChoices ≡ true
+unfolding smallChoices all
+choices-some = refl
+
+-- row 12, of author 5 with eleven heads: a Remove of 18, which is not named, would be void, and one of 17 would not; nor would one of 18 where nine heads are named
+pub row-12-computed : (writableOf (naming elevenHeads) 8 (namedUpdates elevenHeads) 5 (Remove (18 ∷ []) (ids (18 ∷ []))) ≡ false)
+    × (writableOf (naming elevenHeads) 8 (namedUpdates elevenHeads) 5 (Remove (17 ∷ []) (ids (17 ∷ []))) ≡ true)
+    × (writableOf (naming elevenHeads) 9 (namedUpdates elevenHeads) 5 (Remove (18 ∷ []) (ids (18 ∷ []))) ≡ true)
 unfolding root next by nameIn encode encodeOperation same before member keep any all concatMap insert sort isHeld isWaiting isVoid isAdd isInsert heldIn voidIn addIn insertIn aboveIn orderIn orderBy isBefore isApart beforeOrAfter ancestorsOf antichain validOp fineBy ruled judgeFine judgeKnown judgeBy judgeFrom judge round rounds start startAll settledTable heldRow covered heads sameOrBefore rank heldBy ranked atOrAbove firstHeads others chosenFrom chosen writtenIn writableIn writableOf
-row-12-computed = (refl, refl)
+row-12-computed = (refl, refl, refl)
 
 -- the longest short report, and that it is within its bound (`longest-short-report`, `SmallLaws`)
-pub longest-computed : (length (opening ++ readOffsText (partsOf encode (booked places))) ≡ longestShort) × (leb longestShort maxShortReport ≡ true)
+pub longest-computed : (length (opening ++ readOffsText (partsOf byBytes (booked places))) ≡ longestShort) × (leb longestShort maxShortReport ≡ true)
 unfolding booked bookedBy encode encodeOperation same before member keep any all concatMap insert sort isHeld isWaiting isVoid isAdd isInsert heldIn voidIn addIn insertIn aboveIn orderIn orderBy isBefore isApart beforeOrAfter ancestorsOf antichain validOp fineBy ruled judgeFine judgeKnown judgeBy judgeFrom judge round rounds start startAll settledTable heldRow covered heads forkedBy forkedRow faultRow someRowBy kindsBy marksBy markKey marksIn marks names removed tagsOf setEntriesFrom setEntries entryKey rank anchored siblings under walk entries deletes deleted valuesOf list partsIn partsOf codes ascii digit hexByte hex decimalIn decimal setLine bytesLine markWord markLine partText
 longest-computed = (refl, refl)

@@ -1,28 +1,28 @@
 -- Document 02, E4, "How two updates stand to each other": the causal order of two updates, by Ancestor alone; the pair turned round; and the answer as it is
--- computed from three tests. `ident` and `S` are those of `Standing`.
+-- computed from three tests. `rules` and `S` are those of `Standing`.
 use mathlib.Core.Path.{_≡_}
 use mathlib.Core.List.{List}
 use Prim.Native.Nat.{ℕ}
 use mathlib.Core.Bool.{Bool, true, false}
 use Rattle.bytes_order.specs.Member.{_∈_}
-use Rattle.update_format.specs.Update.{Id, Update}
+use Rattle.update_format.specs.Update.{Update}
 use Rattle.rules.specs.declared.CausalOrder.{CausalOrder}
 use Rattle.rules.specs.declared.CausalOrder.the-variants.{Same, Before, After, Apart}
-use Rattle.rules.specs.Standing.{Ancestor, Held}
+use Rattle.rules.specs.Standing.{Rules, Ancestor, Held}
 
-module _ (ident : Update → Id) (S : List Update) where
+module _ (rules : Rules) (S : List Update) where
   -- "apart otherwise" (the field's word is concurrent)
   pub record Concurrent (u v : Update) : Type 0 where
     pub not-same : u ≡ v → ⊥
-    pub not-before : Ancestor ident S u v → ⊥
-    pub not-after : Ancestor ident S v u → ⊥
+    pub not-before : Ancestor rules S u v → ⊥
+    pub not-after : Ancestor rules S v u → ⊥
 
   -- "same exactly for one and the same update, before exactly when the first is an ancestor of the second, after the other way round, apart otherwise": u stands so
   -- to v
   abbrev pub Causal : CausalOrder → Update → Update → Type 0
   Causal Same u v = u ≡ v
-  Causal Before u v = Ancestor ident S u v
-  Causal After u v = Ancestor ident S v u
+  Causal Before u v = Ancestor rules S u v
+  Causal After u v = Ancestor rules S v u
   Causal Apart u v = Concurrent u v
 
   -- The answer is that of u and v: "exactly", so each of the four is so where it is the answer and is the answer where it is so; and no two of them are so.
@@ -35,23 +35,23 @@ module _ (ident : Update → Id) (S : List Update) where
 
   -- a head: no held update is after it
   pub record HeadByOrder (u : Update) : Type 0 where
-    pub is-held : Held ident S u
-    pub none-after : (v : Update) → Held ident S v → Causal After v u → ⊥
+    pub is-held : Held rules S u
+    pub none-after : (v : Update) → Held rules S v → Causal After v u → ⊥
 
   -- a fork: two held updates of the author are apart
   pub record ForkedByOrder (author : ℕ) : Type 0 where
     pub one : Update
     pub other : Update
-    pub one-held : Held ident S one
-    pub other-held : Held ident S other
+    pub one-held : Held rules S one
+    pub other-held : Held rules S other
     pub one-by : one .author ≡ author
     pub other-by : other .author ≡ author
     pub are-apart : Causal Apart one other
 
   -- the antichain rule: of two predecessors none is before or after the other
   pub record AntichainByOrder (u : Update) : Type 0 where
-    pub none-before : (x y : Update) → x ∈ S → y ∈ S → ident x ∈ u .preds → ident y ∈ u .preds → (x ≡ y → ⊥) → Causal Before x y → ⊥
-    pub none-after : (x y : Update) → x ∈ S → y ∈ S → ident x ∈ u .preds → ident y ∈ u .preds → (x ≡ y → ⊥) → Causal After x y → ⊥
+    pub none-before : (x y : Update) → x ∈ S → y ∈ S → rules .ident x ∈ u .preds → rules .ident y ∈ u .preds → (x ≡ y → ⊥) → Causal Before x y → ⊥
+    pub none-after : (x y : Update) → x ∈ S → y ∈ S → rules .ident x ∈ u .preds → rules .ident y ∈ u .preds → (x ≡ y → ⊥) → Causal After x y → ⊥
 
 -- "For the same pair turned round, before and after change places and the other two stay."
 unfoldable pub turned : CausalOrder → CausalOrder

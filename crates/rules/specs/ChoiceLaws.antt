@@ -1,5 +1,5 @@
--- The choice of predecessors from a settled table: at most eight heads, ascending, one of which is at or above each held update of an author
--- without a fork; above eight heads the author's own head and the lowest others. In order: fronts of lists; the candidates and what is chosen of them, of any lists; the same of
+-- The choice of predecessors from a settled table: at most as many heads as an update may name, ascending, one of which is at or above each held update of an author
+-- without a fork; above that number the author's own head and the lowest others. In order: fronts of lists; the candidates and what is chosen of them, of any lists; the same of
 -- the heads of a table (`chosen-all` to `chosen-lowest`); the author's own rows (`OwnRows`). Main laws, of a table that decides its set: `some-head`, `own-rows`, `chosen-own`,
 -- `named`. What they come to by the rules' definitions is in `ChosenLaws`.
 use mathlib.Core.Path.{_≡_, refl, sym, _∙_, ap, subst}
@@ -22,9 +22,9 @@ use Rattle.bytes_order.specs.DistinctLaws.{distinct-identifies, distinct-keep, 
 use Rattle.bytes_order.specs.Ascending.{Ascending, ascending-nil, ascending-cons}
 use Rattle.bytes_order.specs.Sort.{sort}
 use Rattle.bytes_order.specs.SortLaws.{ascending-head, ascending-distinct, ascending-identifies, ascending-keep, sort-∈, ∈-sort, sort-ascending, sort-same, sort-distinct, sort-length, sort-key, greatest-first}
-use Rattle.update_format.specs.Update.{Id, maxPredecessors, Update}
+use Rattle.update_format.specs.Update.{Id, Update}
 use Rattle.rules.specs.declared.CausalOrder.the-variants.{Same, Before}
-use Rattle.rules.specs.Standing.{Ancestor}
+use Rattle.rules.specs.Standing.{Rules, Ancestor}
 use Rattle.rules.specs.ReadOff.{Forked}
 use Rattle.rules.specs.CausalOrder.{isBefore, sameOrBefore}
 use Rattle.rules.specs.Settle.{Row, Table, orderIn, heldRow, covered, heads, rank, rankKey}
@@ -73,25 +73,30 @@ module _ (T : Table) where
   first-heads-∈ hs [] m = absurd (List·Memᴰ·not-nil m)
   first-heads-∈ hs (t ∷ ts) m = keep-∈ (atOrAbove T t) hs (take-∈ 1 (keep (atOrAbove T t) hs) m) .0
 
-  first-heads-few : (hs ts : Table) → length (firstHeads T hs ts) ≤ maxPredecessors
+  first-heads-few : (hs ts : Table) → length (firstHeads T hs ts) ≤ 1
   unfolding firstHeads
   first-heads-few hs [] = omega arith
   first-heads-few hs (t ∷ ts) =
       let n = length (keep (atOrAbove T t) hs) in
-      le-trans (subst (λ (k : ℕ). k ≤ 1) (sym (length-take 1 (keep (atOrAbove T t) hs))) (min-le-left 1 n)) (omega arith)
+      subst (λ (k : ℕ). k ≤ 1) (sym (length-take 1 (keep (atOrAbove T t) hs))) (min-le-left 1 n)
 
   first-heads-distinct : (hs ts : Table) → Distinct rowId hs → Distinct rowId (firstHeads T hs ts)
   unfolding firstHeads
   first-heads-distinct hs [] d = distinct-nil
   first-heads-distinct hs (t ∷ ts) d = distinct-take 1 (distinct-keep (atOrAbove T t) d)
 
--- what is chosen of the heads hs
-module _ (hs first : Table) (among : (r : Row) → r ∈ first → r ∈ hs) where
+-- the front of a list that has a member has one, if it is not empty
+some-front : {A : Type 0} (n : ℕ) → 0 < n → {xs : List A} {x : A} → x ∈ xs → (y : A) × (y ∈ take n xs)
+some-front zero h m = absurd (omega arith)
+some-front (suc n) h m = some-taken n m
+
+-- what is chosen of the heads hs, `most` at most
+module _ (most : ℕ) (hs first : Table) (among : (r : Row) → r ∈ first → r ∈ hs) where
   abbrev candidates : Table
   candidates = first ++ others hs first
 
   abbrev taken : Table
-  taken = take maxPredecessors candidates
+  taken = take most candidates
 
   candidates-∈ : (r : Row) → r ∈ candidates → r ∈ hs
   unfolding others
@@ -124,65 +129,65 @@ module _ (hs first : Table) (among : (r : Row) → r ∈ first → r ∈ hs) whe
       (not-true→ (member (y .id) (map rowId first)) (keep-∈ (λ (h : Row). not (member (h .id) (map rowId first))) hs j .1)))
 
   taken-identified : Identifies rowId hs → Identifies rowId taken
-  taken-identified one x y i j = one x y (candidates-∈ x (take-∈ maxPredecessors candidates i)) (candidates-∈ y (take-∈ maxPredecessors candidates j))
+  taken-identified one x y i j = one x y (candidates-∈ x (take-∈ most candidates i)) (candidates-∈ y (take-∈ most candidates j))
 
-  -- the heads themselves where they are at most eight, else eight of the candidates
-  chosen-cases : (P : Table → Type 0) → (length hs ≤ maxPredecessors → P hs) → (maxPredecessors < length hs → P (sort rowId taken)) → P (chosenFrom hs first)
+  -- the heads themselves where they are at most as many, else as many of the candidates
+  chosen-cases : (P : Table → Type 0) → (length hs ≤ most → P hs) → (most < length hs → P (sort rowId taken)) → P (chosenFrom most hs first)
   unfolding chosenFrom
-  chosen-cases P all eight = step (leb (length hs) maxPredecessors) refl
+  chosen-cases P all many = step (leb (length hs) most) refl
     where
-      step : (b : Bool) → leb (length hs) maxPredecessors ≡ b → P (cond b hs (sort rowId taken))
-      step true e = all (leb-true (length hs) maxPredecessors e)
-      step false e = eight (leb-false (length hs) maxPredecessors e)
+      step : (b : Bool) → leb (length hs) most ≡ b → P (cond b hs (sort rowId taken))
+      step true e = all (leb-true (length hs) most e)
+      step false e = many (leb-false (length hs) most e)
 
-  from-all : length hs ≤ maxPredecessors → chosenFrom hs first ≡ hs
+  from-all : length hs ≤ most → chosenFrom most hs first ≡ hs
   from-all few = chosen-cases (λ (rs : Table). rs ≡ hs) (λ h. refl) (λ l. absurd (not-le-of-lt l few))
 
-  from-few : length (chosenFrom hs first) ≤ maxPredecessors
+  from-few : length (chosenFrom most hs first) ≤ most
   from-few =
-      chosen-cases (λ (rs : Table). length rs ≤ maxPredecessors) (λ h. h)
+      chosen-cases (λ (rs : Table). length rs ≤ most) (λ h. h)
       (λ l. le-trans (sort-length rowId taken)
-      (subst (λ (n : ℕ). n ≤ maxPredecessors) (sym (length-take maxPredecessors candidates)) (min-le-left maxPredecessors (length candidates))))
+      (subst (λ (n : ℕ). n ≤ most) (sym (length-take most candidates)) (min-le-left most (length candidates))))
 
-  from-ascending : Ascending rowId hs → Ascending rowId (chosenFrom hs first)
+  from-ascending : Ascending rowId hs → Ascending rowId (chosenFrom most hs first)
   from-ascending a = chosen-cases (Ascending rowId) (λ h. a) (λ l. sort-ascending rowId taken)
 
-  from-∈ : {r : Row} → r ∈ chosenFrom hs first → r ∈ hs
+  from-∈ : {r : Row} → r ∈ chosenFrom most hs first → r ∈ hs
   from-∈ {r} =
       chosen-cases (λ (rs : Table). r ∈ rs → r ∈ hs) (λ h m. m)
-      (λ l m. candidates-∈ r (take-∈ maxPredecessors candidates (sort-∈ rowId taken m)))
+      (λ l m. candidates-∈ r (take-∈ most candidates (sort-∈ rowId taken m)))
 
-  from-first : Identifies rowId hs → length first ≤ maxPredecessors → {r : Row} → r ∈ first → r ∈ chosenFrom hs first
+  from-first : Identifies rowId hs → length first ≤ most → {r : Row} → r ∈ first → r ∈ chosenFrom most hs first
   from-first one few {r} m =
       chosen-cases (λ (rs : Table). r ∈ rs) (λ h. among r m)
-      (λ l. ∈-sort rowId (taken-identified one) (front-∈ maxPredecessors first (others hs first) few m))
+      (λ l. ∈-sort rowId (taken-identified one) (front-∈ most first (others hs first) few m))
 
-  from-number : Distinct rowId hs → Distinct rowId first → maxPredecessors < length hs → length (chosenFrom hs first) ≡ maxPredecessors
+  from-number : Distinct rowId hs → Distinct rowId first → most < length hs → length (chosenFrom most hs first) ≡ most
   from-number d c many =
-      chosen-cases (λ (rs : Table). length rs ≡ maxPredecessors) (λ few. absurd (not-le-of-lt many few))
+      chosen-cases (λ (rs : Table). length rs ≡ most) (λ few. absurd (not-le-of-lt many few))
       (λ l.
       let enough : length hs ≤ length candidates = distinct-subset-length d candidates (λ h m. ∈-candidates (distinct-identifies d) m) in
-      distinct-same-length (sort-distinct rowId taken) (distinct-take maxPredecessors (candidates-distinct d c))
+      distinct-same-length (sort-distinct rowId taken) (distinct-take most (candidates-distinct d c))
       (sort-same rowId taken (taken-identified (distinct-identifies d)))
-      ∙ length-take maxPredecessors candidates ∙ min-eq-left (omega arith))
+      ∙ length-take most candidates ∙ min-eq-left (omega arith))
 
   -- a head that is left out has a larger id than each that is chosen, but for the first
-  from-lowest : Ascending rowId hs → length first ≤ maxPredecessors → {h g : Row} → h ∈ chosenFrom hs first → (h ∈ first → ⊥) → g ∈ hs
-      → (g ∈ chosenFrom hs first → ⊥) → before (h .id) (g .id) ≡ true
+  from-lowest : Ascending rowId hs → length first ≤ most → {h g : Row} → h ∈ chosenFrom most hs first → (h ∈ first → ⊥) → g ∈ hs
+      → (g ∈ chosenFrom most hs first → ⊥) → before (h .id) (g .id) ≡ true
   unfolding others
   from-lowest a few {h} {g} i n j =
       chosen-cases (λ (rs : Table). h ∈ rs → (g ∈ rs → ⊥) → before (h .id) (g .id) ≡ true) (λ l p out. absurd (out j))
       (λ l p out.
       let one : Identifies rowId hs = ascending-identifies a in
       let untaken : g ∈ taken → ⊥ = λ t. out (∈-sort rowId (taken-identified one) t) in
-      front-lowest maxPredecessors first (ascending-keep (λ (q : Row). not (member (q .id) (map rowId first))) a) (sort-∈ rowId taken p) n
-      (⊎-elim (λ (k : g ∈ first). absurd (untaken (front-∈ maxPredecessors first (others hs first) few k))) (λ (k : g ∈ others hs first). k)
+      front-lowest most first (ascending-keep (λ (q : Row). not (member (q .id) (map rowId first))) a) (sort-∈ rowId taken p) n
+      (⊎-elim (λ (k : g ∈ first). absurd (untaken (front-∈ most first (others hs first) few k))) (λ (k : g ∈ others hs first). k)
       (append-∈ first (∈-candidates one j))) untaken) i
 
-  from-some : {h : Row} → h ∈ hs → (r : Row) × (r ∈ chosenFrom hs first)
-  from-some {h} m =
+  from-some : 0 < most → {h : Row} → h ∈ hs → (r : Row) × (r ∈ chosenFrom most hs first)
+  from-some one {h} m =
       chosen-cases (λ (rs : Table). (r : Row) × (r ∈ rs)) (λ l. (h, m))
-      (λ l. let q = sort-key rowId (some-taken 7 (some-candidate m .1) .1) in (q .0, q .1))
+      (λ l. let q = sort-key rowId (some-front most one (some-candidate m .1) .1) in (q .0, q .1))
 
 -- the same, of the heads of a table
 module _ (T : Table) (a : ℕ) where
@@ -193,43 +198,44 @@ module _ (T : Table) (a : ℕ) where
   first-among : (r : Row) → r ∈ ownHeads → r ∈ heads T
   first-among r = first-heads-∈ T (heads T) (ranked (heldBy T a))
 
-  first-few : length ownHeads ≤ maxPredecessors
+  first-few : length ownHeads ≤ 1
   first-few = first-heads-few T (heads T) (ranked (heldBy T a))
 
   heads-ascending : Ascending rowId T → Ascending rowId (heads T)
   unfolding heads
   heads-ascending k = ascending-keep (λ (r : Row). heldRow r && not (covered T r)) k
 
-  pub chosen-all : length (heads T) ≤ maxPredecessors → chosen T a ≡ heads T
+module _ (most : ℕ) (T : Table) (a : ℕ) where
+  pub chosen-all : length (heads T) ≤ most → chosen most T a ≡ heads T
   unfolding chosen
-  chosen-all = from-all (heads T) ownHeads first-among
+  chosen-all = from-all most (heads T) (ownHeads T a) (first-among T a)
 
-  pub chosen-few : length (chosen T a) ≤ maxPredecessors
+  pub chosen-few : length (chosen most T a) ≤ most
   unfolding chosen
-  chosen-few = from-few (heads T) ownHeads first-among
+  chosen-few = from-few most (heads T) (ownHeads T a) (first-among T a)
 
-  pub chosen-ascending : Ascending rowId T → Ascending rowId (chosen T a)
+  pub chosen-ascending : Ascending rowId T → Ascending rowId (chosen most T a)
   unfolding chosen
-  chosen-ascending k = from-ascending (heads T) ownHeads first-among (heads-ascending k)
+  chosen-ascending k = from-ascending most (heads T) (ownHeads T a) (first-among T a) (heads-ascending T a k)
 
-  pub chosen-head : {r : Row} → r ∈ chosen T a → r ∈ heads T
+  pub chosen-head : {r : Row} → r ∈ chosen most T a → r ∈ heads T
   unfolding chosen
-  chosen-head = from-∈ (heads T) ownHeads first-among
+  chosen-head = from-∈ most (heads T) (ownHeads T a) (first-among T a)
 
-  pub chosen-some : {h : Row} → h ∈ heads T → (r : Row) × (r ∈ chosen T a)
+  pub chosen-some : 0 < most → {h : Row} → h ∈ heads T → (r : Row) × (r ∈ chosen most T a)
   unfolding chosen
-  chosen-some = from-some (heads T) ownHeads first-among
+  chosen-some = from-some most (heads T) (ownHeads T a) (first-among T a)
 
-  pub chosen-number : Ascending rowId T → maxPredecessors < length (heads T) → length (chosen T a) ≡ maxPredecessors
+  pub chosen-number : Ascending rowId T → most < length (heads T) → length (chosen most T a) ≡ most
   unfolding chosen
   chosen-number k =
-      let d = ascending-distinct (heads-ascending k) in
-      from-number (heads T) ownHeads first-among d (first-heads-distinct T (heads T) (ranked (heldBy T a)) d)
+      let d = ascending-distinct (heads-ascending T a k) in
+      from-number most (heads T) (ownHeads T a) (first-among T a) d (first-heads-distinct T (heads T) (ranked (heldBy T a)) d)
 
-  pub chosen-lowest : Ascending rowId T → {h g : Row} → h ∈ chosen T a → (h ∈ ownHeads → ⊥) → g ∈ heads T → (g ∈ chosen T a → ⊥)
+  pub chosen-lowest : 0 < most → Ascending rowId T → {h g : Row} → h ∈ chosen most T a → (h ∈ ownHeads T a → ⊥) → g ∈ heads T → (g ∈ chosen most T a → ⊥)
       → before (h .id) (g .id) ≡ true
   unfolding chosen
-  chosen-lowest k = from-lowest (heads T) ownHeads first-among (heads-ascending k) first-few
+  chosen-lowest one k = from-lowest most (heads T) (ownHeads T a) (first-among T a) (heads-ascending T a k) (le-trans (first-few T a) one)
 
 -- the held row h is that of t, or of an update with t's as an ancestor
 abbrev pub RowAtOrAbove : Row → Row → Type 0
@@ -246,7 +252,7 @@ pub record OwnRows (T : Table) (a : ℕ) (t h : Row) : Type 0 where
   pub is-own : ownHeads T a ≡ h ∷ []
 
 -- the choice from a table that decides its set
-module _ {ident : Update → Id} {S : List Update} {T : Table} (distinct : Distinct ident S) (decides : Decides ident S T) where
+module _ {rules : Rules} {S : List Update} {T : Table} (distinct : Distinct (rules .ident) S) (decides : Decides rules S T) where
   pub head-row : {r : Row} → r ∈ heads T → HeldRow T r
   unfolding heads
   head-row m = keep-held→ T (λ (q : Row). not (covered T q)) m .0
@@ -256,7 +262,7 @@ module _ {ident : Update → Id} {S : List Update} {T : Table} (distinct : Disti
   atOrAbove→ {t} {h} k l e =
       ⊎-elim
       (λ (o : orderIn T (t .id) (h .id) ≡ Same).
-      inl (row-id distinct decides l ∙ ap ident (sym (row-order distinct decides k l .right Same o)) ∙ sym (row-id distinct decides k)))
+      inl (row-id distinct decides l ∙ ap (rules .ident) (sym (row-order distinct decides k l .right Same o)) ∙ sym (row-id distinct decides k)))
       (λ (o : orderIn T (t .id) (h .id) ≡ Before). inr (ancestor→above distinct decides k l (row-order distinct decides k l .right Before o)))
       (sameOrBefore→ (orderIn T (t .id) (h .id)) e)
 
@@ -317,11 +323,11 @@ module _ {ident : Update → Id} {S : List Update} {T : Table} (distinct : Disti
         ∈-sort rankKey (λ x y m n q. row-eq distinct decides (held-by→ m .0 .row-in) (held-by→ n .0 .row-in) (tail-eq-of-cons-eq q)) (→held-by k e)
 
     -- of two held updates of an author without a fork, that of higher rank is at or above the other
-    unforked : (Forked ident S a → ⊥) → {r t : Row} → HeldRow T r → HeldRow T t → r .update .author ≡ a → t .update .author ≡ a
+    unforked : (Forked rules S a → ⊥) → {r t : Row} → HeldRow T r → HeldRow T t → r .update .author ≡ a → t .update .author ≡ a
         → rank r ≤ rank t → (r .id ≡ t .id → ⊥) → r .id ∈ t .above
     unforked n {r} {t} k l by-r by-t le ne = step (member (r .id) (t .above)) refl
       where
-        apart : (x y : Row) → HeldRow T x → HeldRow T y → (x .id ∈ y .above → ⊥) → Ancestor ident S (x .update) (y .update) → ⊥
+        apart : (x y : Row) → HeldRow T x → HeldRow T y → (x .id ∈ y .above → ⊥) → Ancestor rules S (x .update) (y .update) → ⊥
         apart x y kx ky not-above b = not-above (ancestor→above distinct decides kx ky b)
 
         step : (b : Bool) → member (r .id) (t .above) ≡ b → r .id ∈ t .above
@@ -383,15 +389,15 @@ module _ {ident : Update → Id} {S : List Update} {T : Table} (distinct : Disti
             (f .0, subst (OwnRows T a (f .0)) (sym (∈-singleton (subst (λ (rs : Table). r ∈ rs) (f .2 .is-own) m))) (f .2))
 
     -- it is chosen
-    pub chosen-own : {t h : Row} → OwnRows T a t h → h ∈ chosen T a
+    pub chosen-own : (most : ℕ) → 0 < most → {t h : Row} → OwnRows T a t h → h ∈ chosen most T a
     unfolding chosen
-    chosen-own {t} {h} o =
-        from-first (heads T) (ownHeads T a) (first-among T a) heads-one (first-few T a)
+    chosen-own most one {t} {h} o =
+        from-first most (heads T) (ownHeads T a) (first-among T a) heads-one (le-trans (first-few T a) one)
         (subst (λ (rs : Table). h ∈ rs) (sym (o .is-own)) (List·Memᴰ·head refl))
 
     -- a head at or above each held update of an author without a fork is named
-    pub named : (Forked ident S a → ⊥) → {r : Row} → HeldRow T r → r .update .author ≡ a → (h : Row) × (h ∈ chosen T a) × HeldRow T h × RowAtOrAbove r h
-    named n {r} k e =
+    pub named : (most : ℕ) → 0 < most → (Forked rules S a → ⊥) → {r : Row} → HeldRow T r → r .update .author ≡ a → (h : Row) × (h ∈ chosen most T a) × HeldRow T h × RowAtOrAbove r h
+    named most one n {r} k e =
         let f = own-rows k e in
         let t : Row = f .0 in
         let o = f .2 in
@@ -402,4 +408,4 @@ module _ {ident : Update → Id} {S : List Update} {T : Table} (distinct : Disti
         ⊎-elim (λ (q : r ≡ t). inl (ap rowId (sym q)))
         (λ (b : before (rankKey r) (rankKey t) ≡ true).
         inr (unforked n k l e (o .top-by) (before-first (rank r) (rank t) (r .id) (t .id) b) (ne b))) (o .top r k e) in
-        (f .1, chosen-own o, head-row (o .is-head), atOrAbove-trans r l (head-row (o .is-head)) below (o .is-above))
+        (f .1, chosen-own most one o, head-row (o .is-head), atOrAbove-trans r l (head-row (o .is-head)) below (o .is-above))

@@ -17,7 +17,8 @@ use Rattle.bytes_order.specs.Distinct.{Distinct}
 use Rattle.bytes_order.specs.DistinctLaws.{distinct-eq, distinct-length-lt}
 use Rattle.bytes_order.specs.Ascending.{Ascending}
 use Rattle.bytes_order.specs.SortLaws.{ascending-distinct, ascending-unique, ascending-map}
-use Rattle.update_format.specs.Update.{Id, maxPredecessors, Operation, Update}
+use Rattle.update_format.specs.Update.{Id, Operation, Update}
+use Rattle.rules.specs.Standing.{Rules}
 use Rattle.rules.specs.ReadOff.{Head, Rank, Sooner}
 use Rattle.rules.specs.Choice.{Higher, by-rank, by-id, Highest, AtOrAbove, OwnHead, OwnThenLowest, Chosen}
 use Rattle.rules.specs.Settle.{Row, Table, settledTable, heads, rank, rankKey, updatesIn, partsIn}
@@ -39,74 +40,74 @@ use Rattle.rules.specs.Writing.{chosen, writtenIn, writtenOf}
 
 -- there is one choice
 
-module _ (ident : Update → Id) (S : List Update) (distinct : Distinct ident S) where
-  higher→sooner : {u v : Update} → Higher ident S u v → Sooner ident S u v
+module _ (rules : Rules) (S : List Update) (distinct : Distinct (rules .ident) S) where
+  higher→sooner : {u v : Update} → Higher rules S u v → Sooner rules S u v
   higher→sooner {u} {v} (by-rank r q l) =
-      record { rank-u = _; rank-v = _; is-rank-u = r; is-rank-v = q; larger = before-less (ident v) (ident u) l }
+      record { rank-u = _; rank-v = _; is-rank-u = r; is-rank-v = q; larger = before-less (rules .ident v) (rules .ident u) l }
   higher→sooner {u} {v} (by-id r q l) =
-      record { rank-u = _; rank-v = _; is-rank-u = r; is-rank-v = q; larger = before-equal (ident v) (ident u) refl l }
+      record { rank-u = _; rank-v = _; is-rank-u = r; is-rank-v = q; larger = before-equal (rules .ident v) (rules .ident u) refl l }
 
-  pub highest-unique : {a : ℕ} {u v : Update} → Highest ident S a u → Highest ident S a v → u ≡ v
+  pub highest-unique : {a : ℕ} {u v : Update} → Highest rules S a u → Highest rules S a v → u ≡ v
   highest-unique {a} {u} {v} h k = step (h .highest v (k .is-held) (k .held-by)) (k .highest u (h .is-held) (h .held-by))
     where
-      step : (v ≡ u) ⊎ Higher ident S u v → (u ≡ v) ⊎ Higher ident S v u → u ≡ v
+      step : (v ≡ u) ⊎ Higher rules S u v → (u ≡ v) ⊎ Higher rules S v u → u ≡ v
       step (inl e) y = sym e
       step (inr x) (inl e) = e
       step (inr x) (inr y) = absurd (sooner-asym (higher→sooner x) (higher→sooner y))
 
-  pub own-head-unique : {a : ℕ} {g h : Update} → OwnHead ident S a g → OwnHead ident S a h → g ≡ h
+  pub own-head-unique : {a : ℕ} {g h : Update} → OwnHead rules S a g → OwnHead rules S a h → g ≡ h
   own-head-unique {a} {g} {h} p q =
       let e : p .update ≡ q .update = highest-unique (p .is-highest) (q .is-highest) in
       ⊎-elim
-      (λ (b : before (ident g) (ident h) ≡ true).
-      absurd (true-false b (q .lowest g (p .is-head) (subst (λ (u : Update). AtOrAbove ident S u g) e (p .is-above)))))
-      (⊎-elim (λ (i : ident g ≡ ident h). distinct-eq distinct (held-stored ident S (p .is-head .is-held)) (held-stored ident S (q .is-head .is-held)) i)
-      (λ (b : before (ident h) (ident g) ≡ true).
-      absurd (true-false b (p .lowest h (q .is-head) (subst (λ (u : Update). AtOrAbove ident S u h) (sym e) (q .is-above))))))
-      (trichotomy (ident g) (ident h))
+      (λ (b : before (rules .ident g) (rules .ident h) ≡ true).
+      absurd (true-false b (q .lowest g (p .is-head) (subst (λ (u : Update). AtOrAbove rules S u g) e (p .is-above)))))
+      (⊎-elim (λ (i : rules .ident g ≡ rules .ident h). distinct-eq distinct (held-stored rules S (p .is-head .is-held)) (held-stored rules S (q .is-head .is-held)) i)
+      (λ (b : before (rules .ident h) (rules .ident g) ≡ true).
+      absurd (true-false b (p .lowest h (q .is-head) (subst (λ (u : Update). AtOrAbove rules S u h) (sym e) (q .is-above))))))
+      (trichotomy (rules .ident g) (rules .ident h))
 
-  module _ {a : ℕ} where
-    own-named : {ids : List Id} → OwnThenLowest ident S a ids → {h : Update} → OwnHead ident S a h → ident h ∈ ids
+  module _ {most a : ℕ} where
+    own-named : {ids : List Id} → OwnThenLowest rules most S a ids → {h : Update} → OwnHead rules S a h → rules .ident h ∈ ids
     own-named {ids} c {h} o =
         let f = c .own (o .update) (o .is-highest .is-held) (o .is-highest .held-by) in
-        subst (λ (u : Update). ident u ∈ ids) (own-head-unique (f .1) o) (f .2)
+        subst (λ (u : Update). rules .ident u ∈ ids) (own-head-unique (f .1) o) (f .2)
 
     -- what one choice names, another does: otherwise the other would name a head that the first does not, and each of the two heads would be the lower
-    named-too : {is js : List Id} (c : Chosen ident S a is) (d : Chosen ident S a js) → OwnThenLowest ident S a is → OwnThenLowest ident S a js → (i : Id) → i ∈ is → i ∈ js
-    named-too {is} {js} c d few most i m = ∈-stable i js (λ out. missed out)
+    named-too : {is js : List Id} (c : Chosen rules most S a is) (d : Chosen rules most S a js) → OwnThenLowest rules most S a is → OwnThenLowest rules most S a js → (i : Id) → i ∈ is → i ∈ js
+    named-too {is} {js} c d x y i m = ∈-stable i js (λ out. missed out)
       where
         missed : (i ∈ js → ⊥) → ⊥
         missed out =
             let h = c .only-heads i m in
-            let hm : ident (h .0) ∈ is = ∈-cast (h .2) m in
-            let ho : ident (h .0) ∈ js → ⊥ = λ k. out (∈-cast (sym (h .2)) k) in
+            let hm : rules .ident (h .0) ∈ is = ∈-cast (h .2) m in
+            let ho : rules .ident (h .0) ∈ js → ⊥ = λ k. out (∈-cast (sym (h .2)) k) in
             let within : (j : Id) → j ∈ js → j ∈ is = λ j k.
             ∈-stable j is (λ left.
             let g = d .only-heads j k in
-            let gm : ident (g .0) ∈ js = ∈-cast (g .2) k in
-            let go : ident (g .0) ∈ is → ⊥ = λ n. left (∈-cast (sym (g .2)) n) in
-            true-false (few .lowest (h .0) (g .0) (h .1) (g .1) hm (λ o. ho (own-named most o)) go)
-            (before-asym (ident (g .0)) (ident (h .0)) (most .lowest (g .0) (h .0) (g .1) (h .1) gm (λ o. go (own-named few o)) ho))) in
+            let gm : rules .ident (g .0) ∈ js = ∈-cast (g .2) k in
+            let go : rules .ident (g .0) ∈ is → ⊥ = λ n. left (∈-cast (sym (g .2)) n) in
+            true-false (x .lowest (h .0) (g .0) (h .1) (g .1) hm (λ o. ho (own-named y o)) go)
+            (before-asym (rules .ident (g .0)) (rules .ident (h .0)) (y .lowest (g .0) (h .0) (g .1) (h .1) gm (λ o. go (own-named x o)) ho))) in
             let less : length js < length is = distinct-length-lt (ascending-distinct (d .ascending)) is within m (λ j k e. out (∈-cast (sym e) k)) in
-            lt-irrefl maxPredecessors (subst₂ (λ (x y : ℕ). x < y) (most .number) (few .number) less)
+            lt-irrefl most (subst₂ (λ (x y : ℕ). x < y) (y .number) (x .number) less)
 
-    pub choice-unique : {is js : List Id} → Chosen ident S a is → Chosen ident S a js → is ≡ js
-    choice-unique {is} {js} c d = ascending-unique (c .ascending) (d .ascending) (step (leb (length (c .heads)) maxPredecessors) refl)
+    pub choice-unique : {is js : List Id} → Chosen rules most S a is → Chosen rules most S a js → is ≡ js
+    choice-unique {is} {js} c d = ascending-unique (c .ascending) (d .ascending) (step (leb (length (c .heads)) most) refl)
       where
         same-number : length (c .heads) ≡ length (d .heads)
         same-number = ap length (exactly-unique (c .heads-exactly) (d .heads-exactly))
 
-        all-of : {ks ls : List Id} → Chosen ident S a ks → (e : Chosen ident S a ls) → length (e .heads) ≤ maxPredecessors → (i : Id) → i ∈ ks → i ∈ ls
+        all-of : {ks ls : List Id} → Chosen rules most S a ks → (e : Chosen rules most S a ls) → length (e .heads) ≤ most → (i : Id) → i ∈ ks → i ∈ ls
         all-of k e few i m = let h = k .only-heads i m in ∈-cast (sym (h .2)) (e .all-heads few (h .0) (h .1))
 
-        step : (b : Bool) → leb (length (c .heads)) maxPredecessors ≡ b → SameMembers is js
+        step : (b : Bool) → leb (length (c .heads)) most ≡ b → SameMembers is js
         step true e =
-            let few = leb-true (length (c .heads)) maxPredecessors e in
-            record { forth = all-of c d (subst (λ (n : ℕ). n ≤ maxPredecessors) same-number few); back = all-of d c few }
+            let few = leb-true (length (c .heads)) most e in
+            record { forth = all-of c d (subst (λ (n : ℕ). n ≤ most) same-number few); back = all-of d c few }
         step false e =
-            let many = leb-false (length (c .heads)) maxPredecessors e in
+            let many = leb-false (length (c .heads)) most e in
             let x = c .above-most many in
-            let y = d .above-most (subst (λ (n : ℕ). maxPredecessors < n) same-number many) in
+            let y = d .above-most (subst (λ (n : ℕ). most < n) same-number many) in
             record { forth = named-too c d x y; back = named-too d c y x }
 
 -- a greater key is a higher rank, or the same and a larger id
@@ -119,102 +120,102 @@ higher-cases m n xs ys e =
 
 -- what is computed is that choice
 
-module _ (ident : Update → Id) (S : List Update) (distinct : Distinct ident S) (a : ℕ) where
+module _ (rules : Rules) (most : ℕ) (one : 0 < most) (S : List Update) (distinct : Distinct (rules .ident) S) (a : ℕ) where
   abbrev table : Table
-  table = settledTable ident S
+  table = settledTable rules S
 
-  decides : Decides ident S table
-  decides = settled-decides ident S distinct
+  decides : Decides rules S table
+  decides = settled-decides rules S distinct
 
   ordered : Ascending rowId table
-  ordered = settled-ascending ident S
+  ordered = settled-ascending rules S
 
-  head-id : {r : Row} → r ∈ heads table → r .id ≡ ident (r .update)
+  head-id : {r : Row} → r ∈ heads table → r .id ≡ rules .ident (r .update)
   head-id m = row-id distinct decides (head-row distinct decides m)
 
-  key-higher : {t q : Row} → HeldRow table t → HeldRow table q → before (rankKey q) (rankKey t) ≡ true → Higher ident S (t .update) (q .update)
+  key-higher : {t q : Row} → HeldRow table t → HeldRow table q → before (rankKey q) (rankKey t) ≡ true → Higher rules S (t .update) (q .update)
   key-higher {t} {q} h k b =
       ⊎-elim (λ (l : rank q < rank t). by-rank (row-rank distinct decides h) (row-rank distinct decides k) l)
       (λ (l : (rank q ≡ rank t) × (before (q .id) (t .id) ≡ true)).
-      by-id (row-rank distinct decides h) (subst (λ (n : ℕ). Rank ident S (q .update) n) (l .0) (row-rank distinct decides k))
+      by-id (row-rank distinct decides h) (subst (λ (n : ℕ). Rank rules S (q .update) n) (l .0) (row-rank distinct decides k))
       (subst₂ (λ (i j : Id). before i j ≡ true) (row-id distinct decides k) (row-id distinct decides h) (l .1)))
       (higher-cases (rank q) (rank t) (q .id) (t .id) b)
 
-  top-highest : {t h : Row} → OwnRows table a t h → Highest ident S a (t .update)
+  top-highest : {t h : Row} → OwnRows table a t h → Highest rules S a (t .update)
   top-highest {t} o =
       record {
         is-held = row-held distinct decides (o .top-held);
         held-by = o .top-by;
         highest = λ v k e.
             let f = held-row distinct decides k in
-            subst (λ (w : Update). (w ≡ t .update) ⊎ Higher ident S (t .update) w) (f .2)
+            subst (λ (w : Update). (w ≡ t .update) ⊎ Higher rules S (t .update) w) (f .2)
             (⊎-elim (λ (q : f .0 ≡ t). inl (ap (λ (r : Row). r .update) q)) (λ (b : before (rankKey (f .0)) (rankKey t) ≡ true). inr (key-higher (o .top-held) (f .1) b))
             (o .top (f .0) (f .1) (ap (λ (w : Update). w .author) (f .2) ∙ e)));
       }
 
-  row→above : {t h : Row} → HeldRow table t → HeldRow table h → RowAtOrAbove t h → AtOrAbove ident S (t .update) (h .update)
+  row→above : {t h : Row} → HeldRow table t → HeldRow table h → RowAtOrAbove t h → AtOrAbove rules S (t .update) (h .update)
   row→above kt kh =
       ⊎-elim (λ e. inl (ap (λ (r : Row). r .update) (row-eq distinct decides (kh .row-in) (kt .row-in) e)))
       (λ m. inr (above→ancestor distinct decides kt kh m))
 
-  above→row : {t h : Row} → HeldRow table t → HeldRow table h → AtOrAbove ident S (t .update) (h .update) → RowAtOrAbove t h
+  above→row : {t h : Row} → HeldRow table t → HeldRow table h → AtOrAbove rules S (t .update) (h .update) → RowAtOrAbove t h
   above→row kt kh =
-      ⊎-elim (λ e. inl (row-id distinct decides kh ∙ ap ident e ∙ sym (row-id distinct decides kt))) (λ m. inr (ancestor→above distinct decides kt kh m))
+      ⊎-elim (λ e. inl (row-id distinct decides kh ∙ ap (rules .ident) e ∙ sym (row-id distinct decides kt))) (λ m. inr (ancestor→above distinct decides kt kh m))
 
-  own-right : {t h : Row} → OwnRows table a t h → OwnHead ident S a (h .update)
+  own-right : {t h : Row} → OwnRows table a t h → OwnHead rules S a (h .update)
   own-right {t} {h} o =
       let kh = head-row distinct decides (o .is-head) in
       record {
         update = t .update;
         is-highest = top-highest o;
-        is-head = head-right ident S table distinct decides h (o .is-head);
+        is-head = head-right rules S table distinct decides h (o .is-head);
         is-above = row→above (o .top-held) kh (o .is-above);
         lowest = λ g k c.
-            let f = head-all ident S table distinct decides g k in
+            let f = head-all rules S table distinct decides g k in
             let kf = head-row distinct decides (f .1) in
-            subst (λ (u : Update). before (ident u) (ident (h .update)) ≡ false) (f .2)
+            subst (λ (u : Update). before (rules .ident u) (rules .ident (h .update)) ≡ false) (f .2)
             (subst₂ (λ (i j : Id). before i j ≡ false) (head-id (f .1)) (head-id (o .is-head))
             (⊎-elim (λ (q : f .0 ≡ h). ap (λ (r : Row). before (r .id) (h .id)) q ∙ before-irrefl (h .id))
             (λ (b : before (h .id) (f .0 .id) ≡ true). before-asym (h .id) (f .0 .id) b)
-            (o .lowest (f .0) (f .1) (above→row (o .top-held) kf (subst (AtOrAbove ident S (t .update)) (sym (f .2)) c)))));
+            (o .lowest (f .0) (f .1) (above→row (o .top-held) kf (subst (AtOrAbove rules S (t .update)) (sym (f .2)) c)))));
       }
 
-  named-row : {h : Update} → Head ident S h → ident h ∈ map rowId (chosen table a) → (r : Row) × (r ∈ chosen table a) × (r .update ≡ h)
+  named-row : {h : Update} → Head rules S h → rules .ident h ∈ map rowId (chosen most table a) → (r : Row) × (r ∈ chosen most table a) × (r .update ≡ h)
   named-row {h} k m =
-      let f = map-∈ rowId (chosen table a) m in
-      let i = chosen-head table a (f .1) in
-      let s = head-right ident S table distinct decides (f .0) i in
-      (f .0, f .1, distinct-eq distinct (held-stored ident S (s .is-held)) (held-stored ident S (k .is-held)) (sym (head-id i) ∙ f .2))
+      let f = map-∈ rowId (chosen most table a) m in
+      let i = chosen-head most table a (f .1) in
+      let s = head-right rules S table distinct decides (f .0) i in
+      (f .0, f .1, distinct-eq distinct (held-stored rules S (s .is-held)) (held-stored rules S (k .is-held)) (sym (head-id i) ∙ f .2))
 
-  own-then-lowest : maxPredecessors < length (heads table) → OwnThenLowest ident S a (map rowId (chosen table a))
+  own-then-lowest : most < length (heads table) → OwnThenLowest rules most S a (map rowId (chosen most table a))
   own-then-lowest many =
       record {
-        number = length-map (chosen table a) rowId ∙ chosen-number table a ordered many;
+        number = length-map (chosen most table a) rowId ∙ chosen-number most table a ordered many;
         own = λ u k e.
             let r = held-row distinct decides k in
             let f = own-rows distinct decides ordered a (r .1) (ap (λ (v : Update). v .author) (r .2) ∙ e) in
             let h : Row = f .1 in
-            (h .update, own-right (f .2), ∈-cast (sym (head-id (f .2 .is-head))) (∈-map rowId (chosen-own distinct decides ordered a (f .2))));
+            (h .update, own-right (f .2), ∈-cast (sym (head-id (f .2 .is-head))) (∈-map rowId (chosen-own distinct decides ordered a most one (f .2))));
         lowest = λ h g kh kg m not-own out.
             let p = named-row kh m in
-            let q = head-all ident S table distinct decides g kg in
+            let q = head-all rules S table distinct decides g kg in
             let other : p .0 ∈ ownHeads table a → ⊥ = λ i.
-            not-own (subst (OwnHead ident S a) (p .2) (own-right (own-∈ distinct decides ordered a i .1))) in
-            let left : q .0 ∈ chosen table a → ⊥ = λ i. out (∈-cast (sym (head-id (q .1) ∙ ap ident (q .2))) (∈-map rowId i)) in
-            subst₂ (λ (i j : Id). before i j ≡ true) (head-id (chosen-head table a (p .1)) ∙ ap ident (p .2)) (head-id (q .1) ∙ ap ident (q .2))
-            (chosen-lowest table a ordered (p .1) other (q .1) left);
+            not-own (subst (OwnHead rules S a) (p .2) (own-right (own-∈ distinct decides ordered a i .1))) in
+            let left : q .0 ∈ chosen most table a → ⊥ = λ i. out (∈-cast (sym (head-id (q .1) ∙ ap (rules .ident) (q .2))) (∈-map rowId i)) in
+            subst₂ (λ (i j : Id). before i j ≡ true) (head-id (chosen-head most table a (p .1)) ∙ ap (rules .ident) (p .2)) (head-id (q .1) ∙ ap (rules .ident) (q .2))
+            (chosen-lowest most table a one ordered (p .1) other (q .1) left);
       }
 
   -- the predecessors of the update that the author writes, with any operation
-  pub choice-right : (o : Operation) → Chosen ident S a (writtenOf ident S a o .preds)
+  pub choice-right : (o : Operation) → Chosen rules most S a (writtenOf rules most S a o .preds)
   unfolding writtenOf writtenIn partsIn
   choice-right o =
       let n : length (updatesIn (heads table)) ≡ length (heads table) = length-map (heads table) (λ (r : Row). r .update) in
       record {
         heads = updatesIn (heads table);
         heads-exactly = parts-right distinct decides ordered .heads;
-        ascending = ascending-map (λ (i : Id). i) rowId (chosen-ascending table a ordered) (λ r. refl);
-        only-heads = written-heads ident S distinct a o;
-        all-heads = λ few. written-all-heads ident S distinct a o (subst (λ (k : ℕ). k ≤ maxPredecessors) n few);
-        above-most = λ many. own-then-lowest (subst (λ (k : ℕ). maxPredecessors < k) n many);
+        ascending = ascending-map (λ (i : Id). i) rowId (chosen-ascending most table a ordered) (λ r. refl);
+        only-heads = written-heads rules most S distinct a o;
+        all-heads = λ few. written-all-heads rules most S distinct a o (subst (λ (k : ℕ). k ≤ most) n few);
+        above-most = λ many. own-then-lowest (subst (λ (k : ℕ). most < k) n many);
       }

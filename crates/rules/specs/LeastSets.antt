@@ -5,8 +5,8 @@ use mathlib.Core.Logic.{_⊎_, inl, inr, ⊎-elim}
 use mathlib.Core.Bool.{true≢false}
 use mathlib.Core.List.{List}
 use Rattle.bytes_order.specs.Member.{_∈_}
-use Rattle.update_format.specs.Update.{Id, Update}
-use Rattle.rules.specs.Standing.{Ancestor, Known, Held, Void, Waiting}
+use Rattle.update_format.specs.Update.{Update}
+use Rattle.rules.specs.Standing.{Rules, Ancestor, Known, Held, Void, Waiting}
 use Rattle.rules.specs.Settle.{Standing, held, waiting, void, isWaiting}
 
 -- the verdicts differ
@@ -18,52 +18,52 @@ void≢waiting : void ≡ waiting → ⊥
 unfolding isWaiting
 void≢waiting e = true≢false (sym (ap isWaiting e))
 
-module _ (ident : Update → Id) (S : List Update) where
-  pub ancestor-stored : {x y : Update} → Ancestor ident S x y → x ∈ S
+module _ (rules : Rules) (S : List Update) where
+  pub ancestor-stored : {x y : Update} → Ancestor rules S x y → x ∈ S
   ancestor-stored (Ancestor.direct m p) = m
   ancestor-stored (Ancestor.further m p a) = ancestor-stored a
 
-  pub ancestor-trans : {x y z : Update} → Ancestor ident S x y → Ancestor ident S y z → Ancestor ident S x z
+  pub ancestor-trans : {x y z : Update} → Ancestor rules S x y → Ancestor rules S y z → Ancestor rules S x z
   ancestor-trans a (Ancestor.direct m p) = Ancestor.further m p a
   ancestor-trans a (Ancestor.further m p b) = Ancestor.further m p (ancestor-trans a b)
 
   -- an ancestor is a predecessor or an ancestor of one
-  pub ancestor-cases : {x z : Update} → Ancestor ident S x z
-      → ((x ∈ S) × (ident x ∈ z .preds)) ⊎ ((y : Update) × (y ∈ S) × (ident y ∈ z .preds) × Ancestor ident S x y)
+  pub ancestor-cases : {x z : Update} → Ancestor rules S x z
+      → ((x ∈ S) × (rules .ident x ∈ z .preds)) ⊎ ((y : Update) × (y ∈ S) × (rules .ident y ∈ z .preds) × Ancestor rules S x y)
   ancestor-cases (Ancestor.direct m p) = inl (m, p)
   ancestor-cases (Ancestor.further {y = y} m p a) = inr (y, m, p, a)
 
-  pub held-stored : {u : Update} → Held ident S u → u ∈ S
+  pub held-stored : {u : Update} → Held rules S u → u ∈ S
   held-stored (Held.held m k hs f) = m
 
-  pub void-stored : {u : Update} → Void ident S u → u ∈ S
+  pub void-stored : {u : Update} → Void rules S u → u ∈ S
   void-stored (Void.after m n p v) = m
   void-stored (Void.broken m k hs f) = m
 
   -- the ancestors of a held update are held
-  pub held-ancestors : {x u : Update} → Held ident S u → Ancestor ident S x u → Held ident S x
+  pub held-ancestors : {x u : Update} → Held rules S u → Ancestor rules S x u → Held rules S x
   held-ancestors {x} (Held.held m k hs f) (Ancestor.direct n p) = hs x n p
   held-ancestors (Held.held m k hs f) (Ancestor.further {y = y} n p a) = held-ancestors (hs y n p) a
 
   -- a held update is not its own ancestor
-  pub held-acyclic : {u : Update} → Held ident S u → Ancestor ident S u u → ⊥
+  pub held-acyclic : {u : Update} → Held rules S u → Ancestor rules S u u → ⊥
   held-acyclic {u} (Held.held m k hs f) a =
       ⊎-elim
-      (λ (d : (u ∈ S) × (ident u ∈ u .preds)). held-acyclic (hs u (d .0) (d .1)) a)
-      (λ (d : (y : Update) × (y ∈ S) × (ident y ∈ u .preds) × Ancestor ident S u y).
+      (λ (d : (u ∈ S) × (rules .ident u ∈ u .preds)). held-acyclic (hs u (d .0) (d .1)) a)
+      (λ (d : (y : Update) × (y ∈ S) × (rules .ident y ∈ u .preds) × Ancestor rules S u y).
       held-acyclic (hs (d .0) (d .1) (d .2)) (ancestor-trans (Ancestor.direct (d .1) (d .2)) (d .3)))
       (ancestor-cases a)
 
   -- held and void exclude each other
-  pub held-not-void : {u : Update} → Held ident S u → Void ident S u → ⊥
+  pub held-not-void : {u : Update} → Held rules S u → Void rules S u → ⊥
   held-not-void (Held.held m k hs f) (Void.after {v = v} _ n p w) = held-not-void (hs v n p) w
   held-not-void (Held.held m k hs f) (Void.broken _ _ _ bad) = bad f
 
   -- what a verdict says of an update, and that an update has only one
   abbrev pub VerdictSays : Standing → Update → Type 0
-  VerdictSays held u = Held ident S u
-  VerdictSays waiting u = Waiting ident S u
-  VerdictSays void u = Void ident S u
+  VerdictSays held u = Held rules S u
+  VerdictSays waiting u = Waiting rules S u
+  VerdictSays void u = Void rules S u
 
   pub says-stored : (v : Standing) (u : Update) → VerdictSays v u → u ∈ S
   says-stored held u h = held-stored h
@@ -84,24 +84,24 @@ module _ (ident : Update → Id) (S : List Update) where
   -- Any assignment of verdicts to the updates of S that is sound, and that leaves waiting only what the rules do not yet decide from the
   -- verdicts of its predecessors, is right. It says nothing of the order in which verdicts were found.
   pub record SoundVerdicts (verdict : Update → Standing) : Type 0 where
-    pub held-sound : (u : Update) → u ∈ S → verdict u ≡ held → Held ident S u
-    pub void-sound : (u : Update) → u ∈ S → verdict u ≡ void → Void ident S u
+    pub held-sound : (u : Update) → u ∈ S → verdict u ≡ held → Held rules S u
+    pub void-sound : (u : Update) → u ∈ S → verdict u ≡ void → Void rules S u
 
   pub record Stable (verdict : Update → Standing) : Type 0 where
-    pub no-void : (u v : Update) → u ∈ S → v ∈ S → verdict u ≡ waiting → ident v ∈ u .preds → verdict v ≡ void → ⊥
-    pub not-ready : (u : Update) → u ∈ S → verdict u ≡ waiting → Known ident S u
-        → ((v : Update) → v ∈ S → ident v ∈ u .preds → verdict v ≡ held) → ⊥
+    pub no-void : (u v : Update) → u ∈ S → v ∈ S → verdict u ≡ waiting → rules .ident v ∈ u .preds → verdict v ≡ void → ⊥
+    pub not-ready : (u : Update) → u ∈ S → verdict u ≡ waiting → Known rules S u
+        → ((v : Update) → v ∈ S → rules .ident v ∈ u .preds → verdict v ≡ held) → ⊥
 
-  pub settled-held : (verdict : Update → Standing) → SoundVerdicts verdict → Stable verdict → {u : Update} → Held ident S u → verdict u ≡ held
+  pub settled-held : (verdict : Update → Standing) → SoundVerdicts verdict → Stable verdict → {u : Update} → Held rules S u → verdict u ≡ held
   settled-held verdict sound stable {u} (Held.held m k hs f) =
       step (verdict u) refl (λ v n p. settled-held verdict sound stable (hs v n p))
     where
-      step : (x : Standing) → verdict u ≡ x → ((v : Update) → v ∈ S → ident v ∈ u .preds → verdict v ≡ held) → verdict u ≡ held
+      step : (x : Standing) → verdict u ≡ x → ((v : Update) → v ∈ S → rules .ident v ∈ u .preds → verdict v ≡ held) → verdict u ≡ held
       step held e below = e
       step waiting e below = absurd (stable .not-ready u m e k below)
       step void e below = absurd (held-not-void (Held.held m k hs f) (sound .void-sound u m e))
 
-  pub settled-void : (verdict : Update → Standing) → SoundVerdicts verdict → Stable verdict → {u : Update} → Void ident S u → verdict u ≡ void
+  pub settled-void : (verdict : Update → Standing) → SoundVerdicts verdict → Stable verdict → {u : Update} → Void rules S u → verdict u ≡ void
   settled-void verdict sound stable (Void.after {u = u} {v = v} m n p w) = step (verdict u) refl (settled-void verdict sound stable w)
     where
       step : (x : Standing) → verdict u ≡ x → verdict v ≡ void → verdict u ≡ void
@@ -115,7 +115,7 @@ module _ (ident : Update → Id) (S : List Update) where
       step waiting e = absurd (stable .not-ready u m e k (λ v n p. settled-held verdict sound stable (hs v n p)))
       step void e = e
 
-  pub settled-waiting : (verdict : Update → Standing) → SoundVerdicts verdict → Stable verdict → (u : Update) → u ∈ S → verdict u ≡ waiting → Waiting ident S u
+  pub settled-waiting : (verdict : Update → Standing) → SoundVerdicts verdict → Stable verdict → (u : Update) → u ∈ S → verdict u ≡ waiting → Waiting rules S u
   settled-waiting verdict sound stable u m e =
       record {
         stored = m;

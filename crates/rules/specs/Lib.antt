@@ -1,3 +1,5 @@
+pub mod Terms
+pub mod Room
 pub mod Standing
 pub mod SetEntry
 pub mod Mark
@@ -10,6 +12,8 @@ pub mod Report
 pub mod Writing
 pub mod Small
 pub mod Cases
+pub mod TermsLaws
+pub mod RoomLaws
 pub mod Decides
 pub mod LeastSets
 pub mod CausalLaws

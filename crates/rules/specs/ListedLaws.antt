@@ -16,17 +16,17 @@ use Rattle.bytes_order.specs.DistinctLaws.{distinct-same-length}
 use Rattle.bytes_order.specs.Ascending.{Ascending, ascending-nil, ascending-cons}
 use Rattle.bytes_order.specs.SortLaws.{sort-∈, sort-ascending}
 use Rattle.update_format.specs.Update.{Id, Delete, Update}
-use Rattle.rules.specs.Standing.{beginning}
+use Rattle.rules.specs.Standing.{Rules, beginning}
 use Rattle.rules.specs.ReadOff.{Deleted, Rank, InsertAt, Sooner, Ordered, Siblings, AtBeginning, Under, Walk, Shown}
 use Rattle.rules.specs.Settle.{Row, Table, heldRow, rank, anchored, siblings, under, walk, deletes, deleted, valuesOf, siblingKey, updatesIn}
 use Rattle.rules.specs.Decides.{Decides}
 use Rattle.rules.specs.TableLaws.{deletes→, →deletes, insert-value, insert-values, HeldRow, any-held→, →any-held, keep-held→, row-held, row-id, row-rank, held-row, rank-bound}
 use Rattle.rules.specs.WalkLaws.{Entry, atBeginning, firstRows, siblings-∈, ∈-siblings, child-held, child-rank, under→, →under}
 
-module _ {ident : Update → Id} {S : List Update} {T : Table} (distinct : Distinct ident S) (decides : Decides ident S T) where
+module _ {rules : Rules} {S : List Update} {T : Table} (distinct : Distinct (rules .ident) S) (decides : Decides rules S T) where
   -- siblings are in order
 
-  sooner : {r q : Row} → HeldRow T r → HeldRow T q → before (siblingKey q) (siblingKey r) ≡ true → Sooner ident S (r .update) (q .update)
+  sooner : {r q : Row} → HeldRow T r → HeldRow T q → before (siblingKey q) (siblingKey r) ≡ true → Sooner rules S (r .update) (q .update)
   sooner {r} {q} h k e = record {
     rank-u = rank r;
     rank-v = rank q;
@@ -35,20 +35,20 @@ module _ {ident : Update → Id} {S : List Update} {T : Table} (distinct : Disti
     larger = subst₂ (λ (i j : Id). before (rank q ∷ i) (rank r ∷ j) ≡ true) (row-id distinct decides k) (row-id distinct decides h) e;
   }
 
-  ordered-reverseAux : {xs : Table} → Ascending siblingKey xs → (es : Table) → Ordered ident S (updatesIn es)
+  ordered-reverseAux : {xs : Table} → Ascending siblingKey xs → (es : Table) → Ordered rules S (updatesIn es)
       → ((r : Row) → r ∈ xs → HeldRow T r) → ((r : Row) → r ∈ es → HeldRow T r)
-      → ((r q : Row) → r ∈ xs → q ∈ es → before (siblingKey q) (siblingKey r) ≡ true) → Ordered ident S (updatesIn (reverseAux xs es))
+      → ((r q : Row) → r ∈ xs → q ∈ es → before (siblingKey q) (siblingKey r) ≡ true) → Ordered rules S (updatesIn (reverseAux xs es))
   ordered-reverseAux ascending-nil es o h k l = o
   ordered-reverseAux (ascending-cons {x = x} {xs = xs} b a) es o h k l =
       let hx : HeldRow T x = h x (List·Memᴰ·head refl) in
       ordered-reverseAux a (x ∷ es)
       (Ordered.first (λ v m. let f = map-∈ (λ (r : Row). r .update) es m in
-      subst (Sooner ident S (x .update)) (f .2) (sooner hx (k (f .0) (f .1)) (l x (f .0) (List·Memᴰ·head refl) (f .1)))) o)
+      subst (Sooner rules S (x .update)) (f .2) (sooner hx (k (f .0) (f .1)) (l x (f .0) (List·Memᴰ·head refl) (f .1)))) o)
       (λ r i. h r (List·Memᴰ·tail i)) (λ r i. ⊎-elim (λ (q : r ≡ x). subst (HeldRow T) (sym q) hx) (λ (j : r ∈ es). k r j) (∈-cases i))
       (λ r q i j. ⊎-elim (λ (e : q ≡ x). subst (λ (y : Row). before (siblingKey y) (siblingKey r) ≡ true) (sym e) (b r i))
       (λ (m : q ∈ es). l r q (List·Memᴰ·tail i) m) (∈-cases j))
 
-  siblings-ordered : (p : Id → Bool) → Ordered ident S (updatesIn (siblings T p))
+  siblings-ordered : (p : Id → Bool) → Ordered rules S (updatesIn (siblings T p))
   unfolding siblings
   siblings-ordered p =
       let P : Row → Bool = λ (q : Row). anchored p (q .update .op) in
@@ -56,8 +56,8 @@ module _ {ident : Update → Id} {S : List Update} {T : Table} (distinct : Disti
       ordered-reverseAux (sort-ascending siblingKey K) [] Ordered.none
       (λ r i. keep-held→ T P (sort-∈ siblingKey K i) .0) (λ r i. absurd (List·Memᴰ·not-nil i)) (λ r q i j. absurd (List·Memᴰ·not-nil j))
 
-  siblings-right : (p : Id → Bool) (At : Update → Type 0) → ((u : Update) → At u → (a : Id) × InsertAt ident S a u × (p a ≡ true))
-      → ((a : Id) (u : Update) → InsertAt ident S a u → p a ≡ true → At u) → Siblings ident S At (updatesIn (siblings T p))
+  siblings-right : (p : Id → Bool) (At : Update → Type 0) → ((u : Update) → At u → (a : Id) × InsertAt rules S a u × (p a ≡ true))
+      → ((a : Id) (u : Update) → InsertAt rules S a u → p a ≡ true → At u) → Siblings rules S At (updatesIn (siblings T p))
   siblings-right p At to from = record {
     ordered = siblings-ordered p;
     all-in = λ u h.
@@ -71,29 +71,29 @@ module _ {ident : Update → Id} {S : List Update} {T : Table} (distinct : Disti
         subst At (f .2) (from (k .0 .anchor) (f .0 .update) (record { is-held = row-held distinct decides (k .0 .row); value = k .0 .value; is-insert = k .0 .is-insert }) (k .1));
   }
 
-  pub first-right : Siblings ident S (AtBeginning ident S) (updatesIn (firstRows T))
+  pub first-right : Siblings rules S (AtBeginning rules S) (updatesIn (firstRows T))
   first-right =
-      siblings-right atBeginning (AtBeginning ident S) (λ u h. (beginning, h, eq→same beginning beginning refl))
-      (λ a u h e. subst (λ (b : Id). InsertAt ident S b u) (same→eq a beginning e) h)
+      siblings-right atBeginning (AtBeginning rules S) (λ u h. (beginning, h, eq→same beginning beginning refl))
+      (λ a u h e. subst (λ (b : Id). InsertAt rules S b u) (same→eq a beginning e) h)
 
-  under-right : {e : Row} → HeldRow T e → Siblings ident S (Under ident S (e .update)) (updatesIn (siblings T (under e)))
+  under-right : {e : Row} → HeldRow T e → Siblings rules S (Under rules S (e .update)) (updatesIn (siblings T (under e)))
   under-right {e} h =
-      let i : e .id ≡ ident (e .update) = row-id distinct decides h in
-      siblings-right (under e) (Under ident S (e .update)) (λ u k. (ident (e .update), k .0, →under e (k .1) (sym i)))
-      (λ a u k t. let g = under→ e a t in (subst (λ (b : Id). InsertAt ident S b u) (g .1 ∙ i) k, λ q. g .0 (g .1 ∙ i ∙ q)))
+      let i : e .id ≡ rules .ident (e .update) = row-id distinct decides h in
+      siblings-right (under e) (Under rules S (e .update)) (λ u k. (rules .ident (e .update), k .0, →under e (k .1) (sym i)))
+      (λ a u k t. let g = under→ e a t in (subst (λ (b : Id). InsertAt rules S b u) (g .1 ∙ i) k, λ q. g .0 (g .1 ∙ i ∙ q)))
 
   -- the walk
 
-  blocks-right : (n : ℕ) → ((x : Row) → HeldRow T x → length T ≤ rank x + suc n → Walk ident S (updatesIn (siblings T (under x))) (updatesIn (walk n T (siblings T (under x)))))
-      → (es : Table) → ((e : Row) → e ∈ es → HeldRow T e) → ((e : Row) → e ∈ es → length T ≤ rank e + suc n) → Walk ident S (updatesIn es) (updatesIn (walk (suc n) T es))
+  blocks-right : (n : ℕ) → ((x : Row) → HeldRow T x → length T ≤ rank x + suc n → Walk rules S (updatesIn (siblings T (under x))) (updatesIn (walk n T (siblings T (under x)))))
+      → (es : Table) → ((e : Row) → e ∈ es → HeldRow T e) → ((e : Row) → e ∈ es → length T ≤ rank e + suc n) → Walk rules S (updatesIn es) (updatesIn (walk (suc n) T es))
   unfolding walk concatMap
   blocks-right n below [] h l = Walk.none
   blocks-right n below (e ∷ es) h l =
       let k : HeldRow T e = h e (List·Memᴰ·head refl) in
-      subst (λ (w : List Update). Walk ident S (updatesIn (e ∷ es)) (e .update ∷ w)) (sym (map-append (λ (r : Row). r .update) (walk n T (siblings T (under e))) (walk (suc n) T es)))
+      subst (λ (w : List Update). Walk rules S (updatesIn (e ∷ es)) (e .update ∷ w)) (sym (map-append (λ (r : Row). r .update) (walk n T (siblings T (under e))) (walk (suc n) T es)))
       (Walk.entry (under-right k) (below e k (l e (List·Memᴰ·head refl))) (blocks-right n below es (λ x i. h x (List·Memᴰ·tail i)) (λ x i. l x (List·Memᴰ·tail i))))
 
-  pub walk-right : (n : ℕ) (es : Table) → ((e : Row) → e ∈ es → HeldRow T e) → ((e : Row) → e ∈ es → length T ≤ rank e + n) → Walk ident S (updatesIn es) (updatesIn (walk n T es))
+  pub walk-right : (n : ℕ) (es : Table) → ((e : Row) → e ∈ es → HeldRow T e) → ((e : Row) → e ∈ es → length T ≤ rank e + n) → Walk rules S (updatesIn es) (updatesIn (walk n T es))
   unfolding walk
   walk-right zero [] h l = Walk.none
   walk-right zero (e ∷ es) h l =
@@ -107,7 +107,7 @@ module _ {ident : Update → Id} {S : List Update} {T : Table} (distinct : Disti
 
   -- the values
 
-  deleted→ : {r : Row} → HeldRow T r → deleted T (r .id) ≡ true → Deleted ident S (ident (r .update))
+  deleted→ : {r : Row} → HeldRow T r → deleted T (r .id) ≡ true → Deleted rules S (rules .ident (r .update))
   unfolding deleted
   deleted→ {r} h e =
       let f = any-held→ T (λ (q : Row). deletes (r .id) (q .update .op)) e in
@@ -117,7 +117,7 @@ module _ {ident : Update → Id} {S : List Update} {T : Table} (distinct : Disti
         is-delete = subst (λ (i : Id). f .0 .update .op ≡ Delete i) (row-id distinct decides h) (deletes→ (r .id) (f .0 .update .op) (f .2));
       }
 
-  →deleted : {r : Row} → HeldRow T r → Deleted ident S (ident (r .update)) → deleted T (r .id) ≡ true
+  →deleted : {r : Row} → HeldRow T r → Deleted rules S (rules .ident (r .update)) → deleted T (r .id) ≡ true
   unfolding deleted
   →deleted {r} h k =
       let f = held-row distinct decides (k .by-held) in
@@ -125,7 +125,7 @@ module _ {ident : Update → Id} {S : List Update} {T : Table} (distinct : Disti
       (→deletes (ap (λ (u : Update). u .op) (f .2) ∙ k .is-delete ∙ ap Delete (sym (row-id distinct decides h))))
 
   pub shown-right : (es : Table) → ((e : Row) → e ∈ es → Entry T e)
-      → Shown ident S (updatesIn es) (concatMap (λ (r : Row). valuesOf (r .update .op)) (keep (λ (r : Row). not (deleted T (r .id))) es))
+      → Shown rules S (updatesIn es) (concatMap (λ (r : Row). valuesOf (r .update .op)) (keep (λ (r : Row). not (deleted T (r .id))) es))
   unfolding keep concatMap
   shown-right [] h = Shown.none
   shown-right (e ∷ es) h = step (deleted T (e .id)) refl (shown-right es (λ x i. h x (List·Memᴰ·tail i)))
@@ -139,26 +139,26 @@ module _ {ident : Update → Id} {S : List Update} {T : Table} (distinct : Disti
       k : Entry T e
       k = h e (List·Memᴰ·head refl)
 
-      step : (b : Bool) → deleted T (e .id) ≡ b → Shown ident S (updatesIn es) (concatMap F K) → Shown ident S (updatesIn (e ∷ es)) (concatMap F (cond (not b) (e ∷ K) K))
+      step : (b : Bool) → deleted T (e .id) ≡ b → Shown rules S (updatesIn es) (concatMap F K) → Shown rules S (updatesIn (e ∷ es)) (concatMap F (cond (not b) (e ∷ K) K))
       step true q s = Shown.left-out (deleted→ (k .row) q) s
       step false q s =
-          subst (λ (l : List (List ℕ)). Shown ident S (updatesIn (e ∷ es)) (l ++ concatMap F K)) (sym (insert-values (k .is-insert)))
+          subst (λ (l : List (List ℕ)). Shown rules S (updatesIn (e ∷ es)) (l ++ concatMap F K)) (sym (insert-values (k .is-insert)))
           (Shown.shown (λ d. true-false (→deleted (k .row) d) q) (k .is-insert) s)
 
 -- one list
-module _ {ident : Update → Id} {S : List Update} where
-  rank-ids : {u : Update} {m n : ℕ} (r : Rank ident S u m) (q : Rank ident S u n) (i : Id) → i ∈ r .ids → i ∈ q .ids
+module _ {rules : Rules} {S : List Update} where
+  rank-ids : {u : Update} {m n : ℕ} (r : Rank rules S u m) (q : Rank rules S u n) (i : Id) → i ∈ r .ids → i ∈ q .ids
   rank-ids r q i k = let f = r .only i k in ∈-cast (sym (f .2)) (q .counts (f .0) (f .1))
 
-  rank-unique : {u : Update} {m n : ℕ} → Rank ident S u m → Rank ident S u n → m ≡ n
+  rank-unique : {u : Update} {m n : ℕ} → Rank rules S u m → Rank rules S u n → m ≡ n
   rank-unique r q = sym (r .number) ∙ distinct-same-length (r .once) (q .once) (record { forth = rank-ids r q; back = rank-ids q r }) ∙ q .number
 
-  pub sooner-asym : {u v : Update} → Sooner ident S u v → Sooner ident S v u → ⊥
+  pub sooner-asym : {u v : Update} → Sooner rules S u v → Sooner rules S v u → ⊥
   sooner-asym {u} {v} s t =
-      true-false (subst₂ (λ (m n : ℕ). before (m ∷ ident u) (n ∷ ident v) ≡ true) (rank-unique (t .is-rank-v) (s .is-rank-u)) (rank-unique (t .is-rank-u) (s .is-rank-v)) (t .larger))
-      (before-asym (s .rank-v ∷ ident v) (s .rank-u ∷ ident u) (s .larger))
+      true-false (subst₂ (λ (m n : ℕ). before (m ∷ rules .ident u) (n ∷ rules .ident v) ≡ true) (rank-unique (t .is-rank-v) (s .is-rank-u)) (rank-unique (t .is-rank-u) (s .is-rank-v)) (t .larger))
+      (before-asym (s .rank-v ∷ rules .ident v) (s .rank-u ∷ rules .ident u) (s .larger))
 
-  ordered-head-eq : {u v : Update} {us vs : List Update} → ((w : Update) → w ∈ us → Sooner ident S u w) → ((w : Update) → w ∈ vs → Sooner ident S v w)
+  ordered-head-eq : {u v : Update} {us vs : List Update} → ((w : Update) → w ∈ us → Sooner rules S u w) → ((w : Update) → w ∈ vs → Sooner rules S v w)
       → SameMembers (u ∷ us) (v ∷ vs) → u ≡ v
   ordered-head-eq {u} {v} {us} {vs} f g s = step (∈-cases (s .forth u (List·Memᴰ·head refl))) (∈-cases (s .back v (List·Memᴰ·head refl)))
     where
@@ -167,11 +167,11 @@ module _ {ident : Update → Id} {S : List Update} where
       step (inr m) (inl q) = sym q
       step (inr m) (inr k) = absurd (sooner-asym (f v k) (g u m))
 
-  ordered-tail : {u v : Update} {us vs : List Update} → ((w : Update) → w ∈ us → Sooner ident S u w) → u ≡ v → ((w : Update) → w ∈ u ∷ us → w ∈ v ∷ vs) → (w : Update) → w ∈ us → w ∈ vs
+  ordered-tail : {u v : Update} {us vs : List Update} → ((w : Update) → w ∈ us → Sooner rules S u w) → u ≡ v → ((w : Update) → w ∈ u ∷ us → w ∈ v ∷ vs) → (w : Update) → w ∈ us → w ∈ vs
   ordered-tail {u} {v} {us} {vs} f p h w m =
-      ⊎-elim (λ (q : w ≡ v). let s : Sooner ident S u u = subst (Sooner ident S u) (q ∙ sym p) (f w m) in absurd (sooner-asym s s)) (λ (k : w ∈ vs). k) (∈-cases (h w (List·Memᴰ·tail m)))
+      ⊎-elim (λ (q : w ≡ v). let s : Sooner rules S u u = subst (Sooner rules S u) (q ∙ sym p) (f w m) in absurd (sooner-asym s s)) (λ (k : w ∈ vs). k) (∈-cases (h w (List·Memᴰ·tail m)))
 
-  ordered-unique : {us vs : List Update} → Ordered ident S us → Ordered ident S vs → SameMembers us vs → us ≡ vs
+  ordered-unique : {us vs : List Update} → Ordered rules S us → Ordered rules S vs → SameMembers us vs → us ≡ vs
   ordered-unique Ordered.none Ordered.none s = refl
   ordered-unique Ordered.none (Ordered.first {u = v} g e) s = absurd (List·Memᴰ·not-nil (s .back v (List·Memᴰ·head refl)))
   ordered-unique (Ordered.first {u = u} f d) Ordered.none s = absurd (List·Memᴰ·not-nil (s .forth u (List·Memᴰ·head refl)))
@@ -181,17 +181,17 @@ module _ {ident : Update → Id} {S : List Update} where
       let r : us ≡ vs = ordered-unique d e t in
       λ i. p i ∷ r i
 
-  pub siblings-unique : {At : Update → Type 0} {us vs : List Update} → Siblings ident S At us → Siblings ident S At vs → us ≡ vs
+  pub siblings-unique : {At : Update → Type 0} {us vs : List Update} → Siblings rules S At us → Siblings rules S At vs → us ≡ vs
   siblings-unique s t = ordered-unique (s .ordered) (t .ordered) (record { forth = λ u m. t .all-in u (s .only u m); back = λ u m. s .all-in u (t .only u m) })
 
-  pub walk-unique : {es us vs : List Update} → Walk ident S es us → Walk ident S es vs → us ≡ vs
+  pub walk-unique : {es us vs : List Update} → Walk rules S es us → Walk rules S es vs → us ≡ vs
   walk-unique Walk.none Walk.none = refl
   walk-unique (Walk.entry {e = e} s w n) (Walk.entry {below = below} t x m) =
-      let p = walk-unique w (subst (λ (us : List Update). Walk ident S us below) (siblings-unique t s) x) in
+      let p = walk-unique w (subst (λ (us : List Update). Walk rules S us below) (siblings-unique t s) x) in
       let q = walk-unique n m in
       λ i. e ∷ (p i ++ q i)
 
-  pub shown-unique : {es : List Update} {vs ws : List (List ℕ)} → Shown ident S es vs → Shown ident S es ws → vs ≡ ws
+  pub shown-unique : {es : List Update} {vs ws : List (List ℕ)} → Shown rules S es vs → Shown rules S es ws → vs ≡ ws
   shown-unique Shown.none Shown.none = refl
   shown-unique (Shown.left-out d s) (Shown.left-out c t) = shown-unique s t
   shown-unique (Shown.left-out d s) (Shown.shown n o t) = absurd (n d)

@@ -3,8 +3,8 @@ use Prim.Native.Nat.{ℕ}
 use mathlib.Core.List.{List}
 use Rattle.bytes_order.specs.Member.{_∈_}
 use Rattle.bytes_order.specs.Ascending.{Ascending}
-use Rattle.update_format.specs.Update.{Id, Update}
-use Rattle.rules.specs.Standing.{Held, Void, Waiting}
+use Rattle.update_format.specs.Update.{Update}
+use Rattle.rules.specs.Standing.{Rules, Held, Void, Waiting}
 use Rattle.rules.specs.SetEntry.{SetEntry, entryKey}
 use Rattle.rules.specs.Mark.{Mark, markKey}
 use Rattle.rules.specs.ReadOff.{Head, MarkedFor, Present, Listed}
@@ -26,11 +26,11 @@ pub record Exactly {A : Type 0} (key : A → List ℕ) (P : A → Type 0) (xs : 
   pub ascending : Ascending key xs
 
 -- the parts are those that the rules give for the set S
-pub record ReadFrom (ident : Update → Id) (S : List Update) (parts : Parts) : Type 0 where
-  pub held : Exactly ident (Held ident S) (parts .held)
-  pub heads : Exactly ident (Head ident S) (parts .heads)
-  pub waiting : Exactly ident (Waiting ident S) (parts .waiting)
-  pub void : Exactly ident (Void ident S) (parts .void)
-  pub marks : Exactly markKey (λ (m : Mark). MarkedFor ident S (m .kind) (m .author)) (parts .marks)
-  pub set : Exactly entryKey (λ (e : SetEntry). Present ident S (e .tag) (e .author)) (parts .set)
-  pub list : Listed ident S (parts .list)
+pub record ReadFrom (rules : Rules) (S : List Update) (parts : Parts) : Type 0 where
+  pub held : Exactly (rules .ident) (Held rules S) (parts .held)
+  pub heads : Exactly (rules .ident) (Head rules S) (parts .heads)
+  pub waiting : Exactly (rules .ident) (Waiting rules S) (parts .waiting)
+  pub void : Exactly (rules .ident) (Void rules S) (parts .void)
+  pub marks : Exactly markKey (λ (m : Mark). MarkedFor rules S (m .kind) (m .author)) (parts .marks)
+  pub set : Exactly entryKey (λ (e : SetEntry). Present rules S (e .tag) (e .author)) (parts .set)
+  pub list : Listed rules S (parts .list)

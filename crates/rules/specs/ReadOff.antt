@@ -11,31 +11,31 @@ use Rattle.bytes_order.specs.Distinct.{Distinct}
 use Rattle.update_format.specs.Update.{Id, Add, Remove, Insert, Delete, Update}
 use Rattle.rules.specs.declared.MarkKind.{MarkKind}
 use Rattle.rules.specs.declared.MarkKind.the-variants.{Fork as IsFork, Fault as IsFault, Both as IsBoth}
-use Rattle.rules.specs.Standing.{beginning, Ancestor, Known, Held, PredsHeld, Void}
+use Rattle.rules.specs.Standing.{Rules, beginning, Ancestor, Known, Held, PredsHeld, Void}
 
-module _ (ident : Update → Id) (S : List Update) where
+module _ (rules : Rules) (S : List Update) where
   -- "Heads: held updates that are no held update's ancestor."
   pub record Head (u : Update) : Type 0 where
-    pub is-held : Held ident S u
-    pub on-top : (v : Update) → Held ident S v → Ancestor ident S u v → ⊥
+    pub is-held : Held rules S u
+    pub on-top : (v : Update) → Held rules S v → Ancestor rules S u v → ⊥
 
   -- "Forks are found as before": "an author with two held updates, neither an ancestor of the other." (An equivocation.)
   pub record Forked (author : ℕ) : Type 0 where
     pub one : Update
     pub other : Update
-    pub one-held : Held ident S one
-    pub other-held : Held ident S other
+    pub one-held : Held rules S one
+    pub other-held : Held rules S other
     pub one-by : one .author ≡ author
     pub other-by : other .author ≡ author
-    pub two : ident one ≡ ident other → ⊥
-    pub one-apart : Ancestor ident S one other → ⊥
-    pub other-apart : Ancestor ident S other one → ⊥
+    pub two : rules .ident one ≡ rules .ident other → ⊥
+    pub one-apart : Ancestor rules S one other → ⊥
+    pub other-apart : Ancestor rules S other one → ⊥
 
   -- "void while all its predecessors are held"
   pub record Fault (u : Update) : Type 0 where
-    pub is-void : Void ident S u
-    pub preds-known : Known ident S u
-    pub preds-held : PredsHeld ident S u
+    pub is-void : Void rules S u
+    pub preds-known : Known rules S u
+    pub preds-held : PredsHeld rules S u
 
   -- "An author is marked for a fault if an update of theirs is void while all its predecessors are held."
   pub record Faulty (author : ℕ) : Type 0 where
@@ -52,7 +52,7 @@ module _ (ident : Update → Id) (S : List Update) where
   -- a held Remove names the id
   pub record Removed (i : Id) : Type 0 where
     pub by : Update
-    pub by-held : Held ident S by
+    pub by-held : Held rules S by
     pub tag : List ℕ
     pub named : List Id
     pub is-remove : by .op ≡ Remove tag named
@@ -62,28 +62,28 @@ module _ (ident : Update → Id) (S : List Update) where
   -- tag by the author that no held Remove names
   pub record Present (tag : List ℕ) (author : ℕ) : Type 0 where
     pub add : Update
-    pub add-held : Held ident S add
+    pub add-held : Held rules S add
     pub is-add : add .op ≡ Add tag
     pub added-by : add .author ≡ author
-    pub kept : Removed (ident add) → ⊥
+    pub kept : Removed (rules .ident add) → ⊥
 
   -- a held Delete of the id
   pub record Deleted (i : Id) : Type 0 where
     pub by : Update
-    pub by-held : Held ident S by
+    pub by-held : Held rules S by
     pub is-delete : by .op ≡ Delete i
 
   -- "For an update, its rank is the number of its ancestors": n, counted by a list that has each ancestor's id once.
   pub record Rank (u : Update) (n : ℕ) : Type 0 where
     pub ids : List Id
     pub once : Distinct (λ (i : Id). i) ids
-    pub counts : (x : Update) → Ancestor ident S x u → ident x ∈ ids
-    pub only : (i : Id) → i ∈ ids → (x : Update) × Ancestor ident S x u × (ident x ≡ i)
+    pub counts : (x : Update) → Ancestor rules S x u → rules .ident x ∈ ids
+    pub only : (i : Id) → i ∈ ids → (x : Update) × Ancestor rules S x u × (rules .ident x ≡ i)
     pub number : length ids ≡ n
 
   -- u is a held Insert with this anchor
   pub record InsertAt (anchor : Id) (u : Update) : Type 0 where
-    pub is-held : Held ident S u
+    pub is-held : Held rules S u
     pub value : List ℕ
     pub is-insert : u .op ≡ Insert anchor value
 
@@ -93,7 +93,7 @@ module _ (ident : Update → Id) (S : List Update) where
     pub rank-v : ℕ
     pub is-rank-u : Rank u rank-u
     pub is-rank-v : Rank v rank-v
-    pub larger : before (rank-v ∷ ident v) (rank-u ∷ ident u) ≡ true
+    pub larger : before (rank-v ∷ rules .ident v) (rank-u ∷ rules .ident u) ≡ true
 
   pub data Ordered : List Update → Type 0 where
     none : Ordered []
@@ -111,7 +111,7 @@ module _ (ident : Update → Id) (S : List Update) where
   AtBeginning u = InsertAt beginning u
 
   abbrev pub Under : Update → Update → Type 0
-  Under e u = InsertAt (ident e) u × (ident e ≡ beginning → ⊥)
+  Under e u = InsertAt (rules .ident e) u × (rules .ident e ≡ beginning → ⊥)
 
   -- "List: a tree, each Insert under its anchor, walked parent first, all that hangs under an entry before its next sibling." The walk of
   -- siblings is the second list.
@@ -123,8 +123,8 @@ module _ (ident : Update → Id) (S : List Update) where
   -- "Deleted entries are left out of the list, their children stay." The values of a walk's entries that no held Delete names.
   pub data Shown : List Update → List (List ℕ) → Type 0 where
     none : Shown [] []
-    left-out : {e : Update} {es : List Update} {vs : List (List ℕ)} → Deleted (ident e) → Shown es vs → Shown (e ∷ es) vs
-    shown : {e : Update} {es : List Update} {a : Id} {v : List ℕ} {vs : List (List ℕ)} → (Deleted (ident e) → ⊥) → e .op ≡ Insert a v
+    left-out : {e : Update} {es : List Update} {vs : List (List ℕ)} → Deleted (rules .ident e) → Shown es vs → Shown (e ∷ es) vs
+    shown : {e : Update} {es : List Update} {a : Id} {v : List ℕ} {vs : List (List ℕ)} → (Deleted (rules .ident e) → ⊥) → e .op ≡ Insert a v
         → Shown es vs → Shown (e ∷ es) (v ∷ vs)
 
   -- the list: the values shown by the walk of what stands at the beginning

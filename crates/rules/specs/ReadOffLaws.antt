@@ -13,7 +13,7 @@ use Rattle.bytes_order.specs.SortLaws.{sort-∈, ∈-sort}
 use Rattle.bytes_order.specs.Distinct.{Distinct}
 use Rattle.update_format.specs.Update.{Id, Update}
 use Rattle.rules.specs.declared.CausalOrder.the-variants.{Before}
-use Rattle.rules.specs.Standing.{beginning, Ancestor, Held}
+use Rattle.rules.specs.Standing.{Rules, beginning, Ancestor, Held}
 use Rattle.rules.specs.SetEntry.{SetEntry, entryKey}
 use Rattle.rules.specs.ReadOff.{Head, Removed, Present, Rank, InsertAt, Walk, Shown, Listed}
 use Rattle.rules.specs.CausalOrder.{isBefore}
@@ -25,55 +25,55 @@ use Rattle.rules.specs.TableLaws.{not-true→, not-true, setEntriesFrom-
 use Rattle.rules.specs.WalkLaws.{Entry, atBeginning, firstRows, siblings-∈, walk-entry, walk-all, walk-distinct}
 use Rattle.rules.specs.ListedLaws.{first-right, walk-right, shown-right, siblings-unique, walk-unique, shown-unique}
 
-module _ (ident : Update → Id) (S : List Update) (T : Table) (distinct : Distinct ident S) (decides : Decides ident S T) where
+module _ (rules : Rules) (S : List Update) (T : Table) (distinct : Distinct (rules .ident) S) (decides : Decides rules S T) where
   -- heads
 
-  covered→ : (r : Row) → HeldRow T r → covered T r ≡ true → (v : Update) × Held ident S v × Ancestor ident S (r .update) v
+  covered→ : (r : Row) → HeldRow T r → covered T r ≡ true → (v : Update) × Held rules S v × Ancestor rules S (r .update) v
   unfolding covered
   covered→ r h e =
       let f = any-held→ T (λ (q : Row). isBefore (orderIn T (r .id) (q .id))) e in
       (f .0 .update, row-held distinct decides (f .1), row-order distinct decides h (f .1) .right Before (isBefore→ (orderIn T (r .id) (f .0 .id)) (f .2)))
 
-  →covered : (r : Row) → HeldRow T r → (v : Update) → Held ident S v → Ancestor ident S (r .update) v → covered T r ≡ true
+  →covered : (r : Row) → HeldRow T r → (v : Update) → Held rules S v → Ancestor rules S (r .update) v → covered T r ≡ true
   unfolding covered isBefore
   →covered r h v k a =
       let f = held-row distinct decides k in
       →any-held T (λ (q : Row). isBefore (orderIn T (r .id) (q .id))) (f .1)
-      (ap isBefore (row-order distinct decides h (f .1) .all Before (subst (Ancestor ident S (r .update)) (sym (f .2)) a)))
+      (ap isBefore (row-order distinct decides h (f .1) .all Before (subst (Ancestor rules S (r .update)) (sym (f .2)) a)))
 
-  pub head-right : (r : Row) → r ∈ heads T → Head ident S (r .update)
+  pub head-right : (r : Row) → r ∈ heads T → Head rules S (r .update)
   unfolding heads
   head-right r m =
       let f = keep-held→ T (λ (q : Row). not (covered T q)) m in
       record { is-held = row-held distinct decides (f .0); on-top = λ v k a. true-false (→covered r (f .0) v k a) (not-true→ (covered T r) (f .1)) }
 
-  pub head-all : (u : Update) → Head ident S u → (r : Row) × (r ∈ heads T) × (r .update ≡ u)
+  pub head-all : (u : Update) → Head rules S u → (r : Row) × (r ∈ heads T) × (r .update ≡ u)
   unfolding heads
   head-all u h =
       let f = held-row distinct decides (h .is-held) in (
         f .0,
         →keep-held T (λ (q : Row). not (covered T q)) (f .1)
-            (not-true (covered T (f .0)) (λ e. let c = covered→ (f .0) (f .1) e in h .on-top (c .0) (c .1) (subst (λ (x : Update). Ancestor ident S x (c .0)) (f .2) (c .2)))),
+            (not-true (covered T (f .0)) (λ e. let c = covered→ (f .0) (f .1) e in h .on-top (c .0) (c .1) (subst (λ (x : Update). Ancestor rules S x (c .0)) (f .2) (c .2)))),
         f .2,
       )
 
   -- the set
 
-  removed→ : {r : Row} → HeldRow T r → removed T (r .id) ≡ true → Removed ident S (ident (r .update))
+  removed→ : {r : Row} → HeldRow T r → removed T (r .id) ≡ true → Removed rules S (rules .ident (r .update))
   unfolding removed
   removed→ {r} h e =
       let f = any-held→ T (λ (q : Row). names (r .id) (q .update .op)) e in
       let g = names→ (r .id) (f .0 .update .op) (f .2) in
       record { by = f .0 .update; by-held = row-held distinct decides (f .1); tag = g .0; named = g .1; is-remove = g .2; names = ∈-cast (sym (row-id distinct decides h)) (g .3) }
 
-  →removed : {r : Row} → HeldRow T r → Removed ident S (ident (r .update)) → removed T (r .id) ≡ true
+  →removed : {r : Row} → HeldRow T r → Removed rules S (rules .ident (r .update)) → removed T (r .id) ≡ true
   unfolding removed
   →removed {r} h k =
       let f = held-row distinct decides (k .by-held) in
       →any-held T (λ (q : Row). names (r .id) (q .update .op)) (f .1)
       (→names (ap (λ (u : Update). u .op) (f .2) ∙ k .is-remove) (∈-cast (row-id distinct decides h) (k .names)))
 
-  pub set-entry-right : (e : SetEntry) → e ∈ setEntries T → Present ident S (e .tag) (e .author)
+  pub set-entry-right : (e : SetEntry) → e ∈ setEntries T → Present rules S (e .tag) (e .author)
   unfolding setEntries
   set-entry-right e m =
       let p : Row → Bool = λ (r : Row). not (removed T (r .id)) in
@@ -89,18 +89,18 @@ module _ (ident : Update → Id) (S : List Update) (T : Table) (distinct : Disti
         kept = λ x. true-false (→removed (f .0) x) (not-true→ (removed T (k .0 .id)) (f .1));
       }
 
-  pub set-entry-all : (e : SetEntry) → Present ident S (e .tag) (e .author) → e ∈ setEntries T
+  pub set-entry-all : (e : SetEntry) → Present rules S (e .tag) (e .author) → e ∈ setEntries T
   unfolding setEntries
   set-entry-all e h =
       let f = held-row distinct decides (h .add-held) in
       ∈-sort entryKey (entry-key-identifies _)
       (∈-concatMap (λ (r : Row). setEntriesFrom (r .update))
-      (→keep-held T (λ (r : Row). not (removed T (r .id))) (f .1) (not-true (removed T (f .0 .id)) (λ e. h .kept (subst (λ (u : Update). Removed ident S (ident u)) (f .2) (removed→ (f .1) e)))))
+      (→keep-held T (λ (r : Row). not (removed T (r .id))) (f .1) (not-true (removed T (f .0 .id)) (λ e. h .kept (subst (λ (u : Update). Removed rules S (rules .ident u)) (f .2) (removed→ (f .1) e)))))
       (∈-setEntriesFrom (f .0 .update) (ap (λ (u : Update). u .op) (f .2) ∙ h .is-add) (ap (λ (u : Update). u .author) (f .2) ∙ h .added-by)))
 
   -- the list
 
-  pub rank-right : (r : Row) → r ∈ T → r .verdict ≡ held → Rank ident S (r .update) (rank r)
+  pub rank-right : (r : Row) → r ∈ T → r .verdict ≡ held → Rank rules S (r .update) (rank r)
   rank-right r m e = row-rank distinct decides (record { row-in = m; ruled-held = e })
 
   first-entry : (r : Row) → r ∈ firstRows T → Entry T r
@@ -111,12 +111,12 @@ module _ (ident : Update → Id) (S : List Update) (T : Table) (distinct : Disti
   entries-∈ r m = walk-entry distinct decides (length T) (firstRows T) first-entry m
 
   -- each held Insert is met exactly once
-  pub entry-right : (r : Row) → r ∈ entries T → (r ∈ T) × (a : Id) × InsertAt ident S a (r .update)
+  pub entry-right : (r : Row) → r ∈ entries T → (r ∈ T) × (a : Id) × InsertAt rules S a (r .update)
   entry-right r m =
       let e = entries-∈ r m in
       (e .row .row-in, e .anchor, record { is-held = row-held distinct decides (e .row); value = e .value; is-insert = e .is-insert })
 
-  pub entry-all : (a : Id) (u : Update) → InsertAt ident S a u → (r : Row) × (r ∈ entries T) × (r .update ≡ u)
+  pub entry-all : (a : Id) (u : Update) → InsertAt rules S a u → (r : Row) × (r ∈ entries T) × (r .update ≡ u)
   unfolding entries
   entry-all a u h =
       let f = held-row distinct decides (h .is-held) in
@@ -127,7 +127,7 @@ module _ (ident : Update → Id) (S : List Update) (T : Table) (distinct : Disti
   unfolding entries
   entry-once = walk-distinct distinct decides (length T) atBeginning (λ a b p q. same→eq a beginning p ∙ sym (same→eq b beginning q))
 
-  pub list-right : Listed ident S (list T)
+  pub list-right : Listed rules S (list T)
   unfolding list entries
   list-right = record {
     first = updatesIn (firstRows T);
@@ -138,7 +138,7 @@ module _ (ident : Update → Id) (S : List Update) (T : Table) (distinct : Disti
   }
 
 -- the definition determines the list
-pub listed-unique : (ident : Update → Id) (S : List Update) → Distinct ident S → {vs ws : List (List ℕ)} → Listed ident S vs → Listed ident S ws → vs ≡ ws
-listed-unique ident S distinct {vs} l m =
-    let w = walk-unique (subst (λ (es : List Update). Walk ident S es (l .walk)) (siblings-unique (l .siblings) (m .siblings)) (l .walked)) (m .walked) in
-    shown-unique (subst (λ (es : List Update). Shown ident S es vs) w (l .shows)) (m .shows)
+pub listed-unique : (rules : Rules) (S : List Update) → Distinct (rules .ident) S → {vs ws : List (List ℕ)} → Listed rules S vs → Listed rules S ws → vs ≡ ws
+listed-unique rules S distinct {vs} l m =
+    let w = walk-unique (subst (λ (es : List Update). Walk rules S es (l .walk)) (siblings-unique (l .siblings) (m .siblings)) (l .walked)) (m .walked) in
+    shown-unique (subst (λ (es : List Update). Shown rules S es vs) w (l .shows)) (m .shows)

@@ -1,13 +1,15 @@
 -- Document 01, "Command and report", with the set lines of document 02, E5, the mark lines of E7 and the two forms of E10: the report's text, byte for byte, from a
 -- set alone.
-use Prim.Native.Nat.{ℕ}
+use Prim.Native.Nat.{ℕ, _+_, _-_, _*_, min}
 use Prim.Native.String.{String}
 use mathlib.Core.List.{List, [], _∷_, _++_}
 use mathlib.Core.Bool.{Bool, true, false, cond, _&&_}
+use lib.ListN.{length}
 use lib.Dec.{eqb}
 use Rattle.bytes_order.specs.Member.{concatMap}
 use Rattle.bytes_ascii.specs.Ascii.{ascii, hex, decimal}
-use Rattle.update_format.specs.Update.{Id, Update}
+use Rattle.update_format.specs.Update.{Bounds, Update}
+use Rattle.rules.specs.Standing.{Rules}
 use Rattle.rules.specs.declared.Form.{Form}
 use Rattle.rules.specs.declared.Form.the-variants.{Full, Short}
 use Rattle.rules.specs.declared.MarkKind.{MarkKind}
@@ -27,8 +29,8 @@ pairLine x y = ascii "(" ++ (x ++ (ascii " " ++ (y ++ ascii ")\n")))
 abbrev pub authorLine : List ℕ → ℕ → List ℕ
 authorLine bs a = pairLine (hex bs) (decimal a)
 
-unfoldable pub updateLine : (Update → Id) → Update → List ℕ
-updateLine ident u = authorLine (ident u) (u .author)
+unfoldable pub updateLine : Rules → Update → List ℕ
+updateLine rules u = authorLine (rules .ident u) (u .author)
 
 unfoldable pub setLine : SetEntry → List ℕ
 setLine e = authorLine (e .tag) (e .author)
@@ -36,8 +38,8 @@ setLine e = authorLine (e .tag) (e .author)
 unfoldable pub bytesLine : List ℕ → List ℕ
 bytesLine bs = ascii "(" ++ (hex bs ++ ascii ")\n")
 
-unfoldable pub idLine : (Update → Id) → Update → List ℕ
-idLine ident u = bytesLine (ident u)
+unfoldable pub idLine : Rules → Update → List ℕ
+idLine rules u = bytesLine (rules .ident u)
 
 unfoldable pub markWord : MarkKind → List ℕ
 markWord Fork = ascii "fork"
@@ -52,18 +54,18 @@ unfoldable pub partText : {A : Type 0} → String → (A → List ℕ) → List 
 partText word line xs rest = ascii word ++ (concatMap line xs ++ (ascii ")\n" ++ rest))
 
 -- the seven parts, each with what follows it
-module _ (ident : Update → Id) (parts : Parts) where
+module _ (rules : Rules) (parts : Parts) where
   abbrev pub heldText : List ℕ → List ℕ
-  heldText = partText "(held\n" (updateLine ident) (parts .held)
+  heldText = partText "(held\n" (updateLine rules) (parts .held)
 
   abbrev pub headsText : List ℕ → List ℕ
-  headsText = partText "(heads\n" (idLine ident) (parts .heads)
+  headsText = partText "(heads\n" (idLine rules) (parts .heads)
 
   abbrev pub waitingText : List ℕ → List ℕ
-  waitingText = partText "(waiting\n" (updateLine ident) (parts .waiting)
+  waitingText = partText "(waiting\n" (updateLine rules) (parts .waiting)
 
   abbrev pub voidText : List ℕ → List ℕ
-  voidText = partText "(void\n" (updateLine ident) (parts .void)
+  voidText = partText "(void\n" (updateLine rules) (parts .void)
 
 module _ (parts : Parts) where
   abbrev pub marksText : List ℕ → List ℕ
@@ -76,8 +78,8 @@ module _ (parts : Parts) where
   listText = partText "(list\n" bytesLine (parts .list)
 
 -- those that go by standing; and marks, set and list, with the closing bracket
-abbrev pub standingsText : (Update → Id) → Parts → List ℕ → List ℕ
-standingsText ident parts rest = heldText ident parts (headsText ident parts (waitingText ident parts (voidText ident parts rest)))
+abbrev pub standingsText : Rules → Parts → List ℕ → List ℕ
+standingsText rules parts rest = heldText rules parts (headsText rules parts (waitingText rules parts (voidText rules parts rest)))
 
 abbrev pub readOffsText : Parts → List ℕ
 readOffsText parts = marksText parts (setText parts (listText parts (ascii ")\n")))
@@ -87,14 +89,14 @@ abbrev pub opening : List ℕ
 opening = ascii "(ledger 1\n"
 
 -- The text laid out from the parts. The short form has "only those three parts, in the old order, between the same outer brackets".
-unfoldable pub reportText : Form → (Update → Id) → Parts → List ℕ
-reportText Full ident parts = opening ++ standingsText ident parts (readOffsText parts)
-reportText Short ident parts = opening ++ readOffsText parts
+unfoldable pub reportText : Form → Rules → Parts → List ℕ
+reportText Full rules parts = opening ++ standingsText rules parts (readOffsText parts)
+reportText Short rules parts = opening ++ readOffsText parts
 
 -- "The report that the rules give for a set is the text laid out below, each part worked out from that set alone." (`read-right` of `PartsLaws`: the
 -- parts are exactly those of the definitions.)
-unfoldable pub reportOf : Form → (Update → Id) → List Update → List ℕ
-reportOf form ident S = reportText form ident (partsOf ident S)
+unfoldable pub reportOf : Form → Rules → List Update → List ℕ
+reportOf form rules S = reportText form rules (partsOf rules S)
 
 -- whether the text begins with the word
 unfoldable pub startsWith : List ℕ → List ℕ → Bool
@@ -111,15 +113,21 @@ fromMarks (b ∷ bs) = cond (startsWith (ascii "(marks\n") (b ∷ bs)) (b ∷ bs
 abbrev pub defaultForm : Form
 defaultForm = Short
 
--- "There are 64 places.": a ledger's set has no more updates
-abbrev pub places : ℕ
-places = 64
+-- how many digits the largest author of all has
+unfoldable pub authorDigits : Bounds → ℕ
+authorDigits b = length (decimal (b .authors - 1))
 
--- "none passes 12,000": the bound of `report-length` (`ReportLaws`)
+-- No report of n updates is longer (`report-length`, `ReportLaws`): the opening, the words and the brackets; for each update its own line, one as a head and one as an
+-- entry of the set, which is longer than one of the list; and a line for each marked author, of which there are no more than updates.
+unfoldable pub reportSize : Bounds → ℕ → Form → ℕ
+reportSize b n Full = 72 + (68 + authorDigits b) * n + 67 * n + (36 + authorDigits b) * n + (9 + authorDigits b) * min (b .authors) n
+reportSize b n Short = 36 + (36 + authorDigits b) * n + (9 + authorDigits b) * min (b .authors) n
+
+-- document 01: "none passes 12,000" (`document-size`, `ReportLaws`)
 abbrev pub maxReport : ℕ
 maxReport = 12000
 
--- .. and that of the short form: 212 bytes, and 38 for each of 64 updates
+-- .. and that of the short form: 36 bytes, 38 for each of 64 updates, and 11 for each of 16 authors
 abbrev pub maxShortReport : ℕ
 maxShortReport = 2644
 

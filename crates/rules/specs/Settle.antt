@@ -10,7 +10,7 @@ use Rattle.bytes_order.specs.Member.{member, keep, any, all, concatMap}
 use Rattle.bytes_order.specs.Sort.{sort}
 use Rattle.update_format.specs.Update.{Id, Operation, Add, Remove, Insert, Delete, Update}
 use Rattle.rules.specs.declared.CausalOrder.{CausalOrder}
-use Rattle.rules.specs.Standing.{beginning}
+use Rattle.rules.specs.Standing.{Rules, beginning}
 use Rattle.rules.specs.CausalOrder.{orderBy, isBefore, isApart, beforeOrAfter}
 use Rattle.rules.specs.SetEntry.{SetEntry, entryKey}
 use Rattle.rules.specs.Mark.{Mark, markKey, marksBy}
@@ -134,15 +134,15 @@ unfoldable pub rounds : ℕ → Table → Table
 rounds zero T = T
 rounds (suc n) T = round (rounds n T)
 
-unfoldable pub start : (Update → Id) → Update → Row
-start ident u = record { id = ident u; update = u; verdict = waiting; above = [] }
+unfoldable pub start : Rules → Update → Row
+start rules u = record { id = rules .ident u; update = u; verdict = waiting; above = [] }
 
 -- the settled table of a set, ascending by id
-unfoldable pub startAll : (Update → Id) → List Update → Table
-startAll ident S = map (start ident) (sort ident S)
+unfoldable pub startAll : Rules → List Update → Table
+startAll rules S = map (start rules) (sort (rules .ident) S)
 
-unfoldable pub settledTable : (Update → Id) → List Update → Table
-settledTable ident S = rounds (length S) (startAll ident S)
+unfoldable pub settledTable : Rules → List Update → Table
+settledTable rules S = rounds (length S) (startAll rules S)
 
 -- what is read from a settled table
 
@@ -273,9 +273,9 @@ partsIn T =
       list = list T;
     }
 
-unfoldable pub partsOf : (Update → Id) → List Update → Parts
-partsOf ident S = partsIn (settledTable ident S)
+unfoldable pub partsOf : Rules → List Update → Parts
+partsOf rules S = partsIn (settledTable rules S)
 
 -- document 02, E4: how two updates of a set stand to each other
-unfoldable pub causalOrder : (Update → Id) → List Update → Update → Update → CausalOrder
-causalOrder ident S u v = orderIn (settledTable ident S) (ident u) (ident v)
+unfoldable pub causalOrder : Rules → List Update → Update → Update → CausalOrder
+causalOrder rules S u v = orderIn (settledTable rules S) (rules .ident u) (rules .ident v)

@@ -17,11 +17,11 @@ use Rattle.bytes_order.specs.MemberLaws.{∈-cases, ∈-cast, ∈-map, map-∈,
 use Rattle.bytes_order.specs.DistinctLaws.{distinct-eq, distinct-identifies, distinct-map}
 use Rattle.bytes_order.specs.SortLaws.{sort-∈, ∈-sort, sort-ascending, sort-distinct, sort-length, ascending-map}
 use Rattle.update_format.specs.Update.{Id, Update}
-use Rattle.rules.specs.Standing.{Held, Void, Waiting}
+use Rattle.rules.specs.Standing.{Rules, Held, Void, Waiting}
 use Rattle.rules.specs.Settle.{Standing, held, waiting, void, Row, Table, isWaiting, heldIn, voidIn, ruled, judge, round, rounds, start, startAll, settledTable}
 use Rattle.rules.specs.Decides.{Decides}
 use Rattle.rules.specs.LeastSets.{SoundVerdicts, Stable, settled-waiting}
-use Rattle.rules.specs.SettlingTable.{SoundRow, SoundTable, Undecided, RowOutcome, stays, rules, judge-outcome, judge-id, round-sound, held-in, void-in, row-of, right-as}
+use Rattle.rules.specs.SettlingTable.{SoundRow, SoundTable, Undecided, RowOutcome, stays, is-ruled, judge-outcome, judge-id, round-sound, held-in, void-in, row-of, right-as}
 use Rattle.bytes_order.specs.CountLaws.{countMembers, map-lowers}
 
 -- the verdict of the row with an id
@@ -42,15 +42,15 @@ verdict-in {r = r} (distinct-cons {x = q} {xs = T} n d) m = step (∈-cases m) (
     step (inr k) below = ap here (ne→same-false (q .id) (r .id) (n r k)) ∙ below k
 
 -- a sound table, as an assignment of verdicts
-module _ {ident : Update → Id} {S : List Update} {T : Table} (sound : SoundTable ident S T) where
+module _ {rules : Rules} {S : List Update} {T : Table} (sound : SoundTable rules S T) where
   verdict : Update → Standing
-  verdict u = verdictIn T (ident u)
+  verdict u = verdictIn T (rules .ident u)
 
-  verdict-of : {r : Row} {u : Update} → r ∈ T → r .id ≡ ident u → r .verdict ≡ verdict u
+  verdict-of : {r : Row} {u : Update} → r ∈ T → r .id ≡ rules .ident u → r .verdict ≡ verdict u
   unfolding verdict
   verdict-of m e = sym (verdict-in (sound .once) m) ∙ ap (verdictIn T) e
 
-  table-sound : SoundVerdicts ident S verdict
+  table-sound : SoundVerdicts rules S verdict
   table-sound =
       record {
         held-sound = λ u m e. let r = row-of sound m in right-as sound held (r .1) (r .3) (verdict-of (r .1) (r .2) ∙ e) .0;
@@ -61,7 +61,7 @@ module _ {ident : Update → Id} {S : List Update} {T : Table} (sound : SoundTab
     undecided : {u : Update} → u ∈ S → verdict u ≡ waiting → Undecided T u
     undecided m e = let r = row-of sound m in subst (Undecided T) (r .3) (stuck (r .0) (r .1) (verdict-of (r .1) (r .2) ∙ e))
 
-    table-stable : Stable ident S verdict
+    table-stable : Stable rules S verdict
     table-stable =
         record {
           no-void = λ u v m k w p e.
@@ -76,7 +76,7 @@ module _ {ident : Update → Id} {S : List Update} {T : Table} (sound : SoundTab
         }
 
     -- a sound table whose waiting rows are all undecided by it decides, whatever way it was found
-    pub undecided-decides : Decides ident S T
+    pub undecided-decides : Decides rules S T
     undecided-decides =
         record {
           of-set = λ r m. sound .rows r m .of-set;
@@ -87,14 +87,14 @@ module _ {ident : Update → Id} {S : List Update} {T : Table} (sound : SoundTab
           void-right = λ r m e. right-as sound void m refl e;
           waiting-right = λ r m e.
               let s = sound .rows r m in
-              settled-waiting ident S verdict table-sound table-stable (r .update) (s .of-set) (sym (verdict-of m (s .has-id)) ∙ e);
+              settled-waiting rules S verdict table-sound table-stable (r .update) (s .of-set) (sym (verdict-of m (s .has-id)) ∙ e);
           above-right = λ r m e. right-as sound held m refl e .1 .only;
           above-all = λ r m e. right-as sound held m refl e .1 .each;
           above-once = λ r m e. right-as sound held m refl e .1 .once;
         }
 
   -- and so does one that a further round leaves as it is
-  pub stable-decides : round T ≡ T → Decides ident S T
+  pub stable-decides : round T ≡ T → Decides rules S T
   unfolding round isWaiting ruled
   stable-decides fixed = undecided-decides (λ r m w. step (judge-outcome T r) (kept m) w)
     where
@@ -103,7 +103,7 @@ module _ {ident : Update → Id} {S : List Update} {T : Table} (sound : SoundTab
 
       step : {r : Row} → RowOutcome T r (judge T r) → judge T r ≡ r → r .verdict ≡ waiting → Undecided T (r .update)
       step (stays e h) k w = h w
-      step (rules e v up s q) k w = absurd (true-false (ap isWaiting w) (ap (λ (q : Row). isWaiting (q .verdict)) (sym k ∙ q) ∙ s))
+      step (is-ruled e v up s q) k w = absurd (true-false (ap isWaiting w) (ap (λ (q : Row). isWaiting (q .verdict)) (sym k ∙ q) ∙ s))
 
 -- the rounds reach such a table: the number of waiting rows
 waitings : Table → ℕ
@@ -115,7 +115,7 @@ round-lowers T = map-lowers (λ (r : Row). isWaiting (r .verdict)) (judge T) (λ
   where
     step : {r : Row} → RowOutcome T r (judge T r) → (judge T r ≡ r) ⊎ ((isWaiting (r .verdict) ≡ true) × (isWaiting (judge T r .verdict) ≡ false))
     step (stays e w) = inl e
-    step (rules w v up s e) = inr (ap isWaiting w, ap (λ (q : Row). isWaiting (q .verdict)) e ∙ s)
+    step (is-ruled w v up s e) = inr (ap isWaiting w, ap (λ (q : Row). isWaiting (q .verdict)) e ∙ s)
 
 -- a further round changes nothing, or each so far has lowered the number of waiting rows
 rounds-lower : (T : Table) (n : ℕ) → (round (rounds n T) ≡ rounds n T) ⊎ (waitings (round (rounds n T)) + suc n ≤ waitings T)
@@ -138,30 +138,30 @@ rounds-fixed T n few =
     (λ (h : waitings (round (rounds n T)) + suc n ≤ waitings T). absurd (omega (arith, keep-length (λ (r : Row). isWaiting (r .verdict)) T)))
     (rounds-lower T n)
 
-rounds-sound : {ident : Update → Id} {S : List Update} {T : Table} → SoundTable ident S T → (n : ℕ) → SoundTable ident S (rounds n T)
+rounds-sound : {rules : Rules} {S : List Update} {T : Table} → SoundTable rules S T → (n : ℕ) → SoundTable rules S (rounds n T)
 unfolding rounds
 rounds-sound sound zero = sound
 rounds-sound sound (suc n) = round-sound (rounds-sound sound n)
 
-module _ (ident : Update → Id) (S : List Update) where
-  start-sound : Distinct ident S → SoundTable ident S (startAll ident S)
+module _ (rules : Rules) (S : List Update) where
+  start-sound : Distinct (rules .ident) S → SoundTable rules S (startAll rules S)
   unfolding startAll start
   start-sound distinct =
       record {
-        rows = λ r m. let q = map-∈ (start ident) (sort ident S) m in
-            subst (SoundRow ident S) (q .2) (record { of-set = sort-∈ ident S (q .1); has-id = refl; right = tt });
-        row-for = λ u m. (start ident u, ∈-map (start ident) (∈-sort ident (distinct-identifies distinct) m), refl);
-        once = distinct-map (λ (r : Row). r .id) (start ident) (sort-distinct ident S) (λ u v m k e. e);
+        rows = λ r m. let q = map-∈ (start rules) (sort (rules .ident) S) m in
+            subst (SoundRow rules S) (q .2) (record { of-set = sort-∈ (rules .ident) S (q .1); has-id = refl; right = tt });
+        row-for = λ u m. (start rules u, ∈-map (start rules) (∈-sort (rules .ident) (distinct-identifies distinct) m), refl);
+        once = distinct-map (λ (r : Row). r .id) (start rules) (sort-distinct (rules .ident) S) (λ u v m k e. e);
       }
 
-  start-few : length (startAll ident S) ≤ length S
+  start-few : length (startAll rules S) ≤ length S
   unfolding startAll
-  start-few = subst (λ (n : ℕ). n ≤ length S) (sym (length-map (sort ident S) (start ident))) (sort-length ident S)
+  start-few = subst (λ (n : ℕ). n ≤ length S) (sym (length-map (sort (rules .ident) S) (start rules))) (sort-length (rules .ident) S)
 
-pub settled-decides : (ident : Update → Id) (S : List Update) → Distinct ident S → Decides ident S (settledTable ident S)
+pub settled-decides : (rules : Rules) (S : List Update) → Distinct (rules .ident) S → Decides rules S (settledTable rules S)
 unfolding settledTable
-settled-decides ident S distinct =
-    stable-decides (rounds-sound (start-sound ident S distinct) (length S)) (rounds-fixed (startAll ident S) (length S) (start-few ident S))
+settled-decides rules S distinct =
+    stable-decides (rounds-sound (start-sound rules S distinct) (length S)) (rounds-fixed (startAll rules S) (length S) (start-few rules S))
 
 -- the settled table is ascending by id
 rounds-ascending : {T : Table} → Ascending (λ (r : Row). r .id) T → (n : ℕ) → Ascending (λ (r : Row). r .id) (rounds n T)
@@ -169,23 +169,23 @@ unfolding rounds round
 rounds-ascending a zero = a
 rounds-ascending {T} a (suc n) = ascending-map (λ (r : Row). r .id) (judge (rounds n T)) (rounds-ascending a n) (judge-id (rounds n T))
 
-pub settled-ascending : (ident : Update → Id) (S : List Update) → Ascending (λ (r : Row). r .id) (settledTable ident S)
+pub settled-ascending : (rules : Rules) (S : List Update) → Ascending (λ (r : Row). r .id) (settledTable rules S)
 unfolding settledTable startAll start
-settled-ascending ident S =
-    rounds-ascending (ascending-map (λ (r : Row). r .id) (start ident) (sort-ascending ident S) (λ u. refl)) (length S)
+settled-ascending rules S =
+    rounds-ascending (ascending-map (λ (r : Row). r .id) (start rules) (sort-ascending (rules .ident) S) (λ u. refl)) (length S)
 
 -- held, waiting and void cover the set
-pub covers : (ident : Update → Id) (S : List Update) → Distinct ident S → (u : Update) → u ∈ S
-    → Held ident S u ⊎ (Waiting ident S u ⊎ Void ident S u)
-covers ident S distinct u m =
+pub covers : (rules : Rules) (S : List Update) → Distinct (rules .ident) S → (u : Update) → u ∈ S
+    → Held rules S u ⊎ (Waiting rules S u ⊎ Void rules S u)
+covers rules S distinct u m =
     let r = d .row-for u m in
-    subst (λ (x : Update). Held ident S x ⊎ (Waiting ident S x ⊎ Void ident S x)) (r .2) (by (r .0) (r .1) (r .0 .verdict) refl)
+    subst (λ (x : Update). Held rules S x ⊎ (Waiting rules S x ⊎ Void rules S x)) (r .2) (by (r .0) (r .1) (r .0 .verdict) refl)
   where
-    d : Decides ident S (settledTable ident S)
-    d = settled-decides ident S distinct
+    d : Decides rules S (settledTable rules S)
+    d = settled-decides rules S distinct
 
-    by : (r : Row) → r ∈ settledTable ident S → (v : Standing) → r .verdict ≡ v
-        → Held ident S (r .update) ⊎ (Waiting ident S (r .update) ⊎ Void ident S (r .update))
+    by : (r : Row) → r ∈ settledTable rules S → (v : Standing) → r .verdict ≡ v
+        → Held rules S (r .update) ⊎ (Waiting rules S (r .update) ⊎ Void rules S (r .update))
     by r k held e = inl (d .held-right r k e)
     by r k waiting e = inr (inl (d .waiting-right r k e))
     by r k void e = inr (inr (d .void-right r k e))

@@ -5,14 +5,15 @@ use Prim.Native.String.{String}
 use native.Mathlib.Omega.{arith}
 use mathlib.Core.Path.{_≡_, refl, sym, _∙_, ap}
 use mathlib.Core.List.{List, [], _∷_, _++_, append-assoc, List·Memᴰ·head, List·Memᴰ·tail}
-use mathlib.Core.Bool.{Bool, true, false, cond, _&&_}
+use mathlib.Core.Bool.{Bool, false, cond, _&&_}
 use lib.Dec.{eqb}
 use borrow.Author.Tests.{ne-eqb}
 use Rattle.bytes_order.specs.BoolLaws.{and-false-right}
 use Rattle.bytes_order.specs.Member.{concatMap}
 use Rattle.bytes_ascii.specs.Ascii.{codes, ascii, digit, hexByte, hex, decimal}
 use Rattle.bytes_ascii.specs.AsciiLaws.{Digits, digit-small, hex-digits, decimal-digits}
-use Rattle.update_format.specs.Update.{Id, Update}
+use Rattle.update_format.specs.Update.{Update}
+use Rattle.rules.specs.Standing.{Rules}
 use Rattle.rules.specs.declared.Form.the-variants.{Full, Short}
 use Rattle.rules.specs.Parts.{Parts}
 use Rattle.rules.specs.Report.{authorLine, updateLine, bytesLine, idLine, partText, headsText, waitingText, voidText, standingsText, readOffsText, opening, reportText, startsWith, fromMarks}
@@ -93,28 +94,28 @@ unfolding partText ascii codes
 part-passed word line xs rest w p =
     w .passes (concatMap line xs ++ (41 ∷ 10 ∷ rest)) ∙ lines-passed line p xs .passes (41 ∷ 10 ∷ rest) ∙ passed-end .passes rest
 
-module _ (ident : Update → Id) (P : Parts) where
-  update-passed : (u : Update) → Passed (updateLine ident u)
+module _ (rules : Rules) (P : Parts) where
+  update-passed : (u : Update) → Passed (updateLine rules u)
   unfolding updateLine
-  update-passed u = author-line-passed (ident u) (u .author)
+  update-passed u = author-line-passed (rules .ident u) (u .author)
 
-  id-passed : (u : Update) → Passed (idLine ident u)
+  id-passed : (u : Update) → Passed (idLine rules u)
   unfolding idLine
-  id-passed u = bytes-line-passed (ident u)
+  id-passed u = bytes-line-passed (rules .ident u)
 
-  standings-passed : (rest : List ℕ) → fromMarks (opening ++ standingsText ident P rest) ≡ fromMarks rest
+  standings-passed : (rest : List ℕ) → fromMarks (opening ++ standingsText rules P rest) ≡ fromMarks rest
   unfolding fromMarks startsWith ascii codes
   standings-passed rest =
-      part-passed "(held\n" (updateLine ident) (P .held) (headsText ident P (waitingText ident P (voidText ident P rest))) (record { passes = λ r. refl }) update-passed
-      ∙ part-passed "(heads\n" (idLine ident) (P .heads) (waitingText ident P (voidText ident P rest)) (record { passes = λ r. refl }) id-passed
-      ∙ part-passed "(waiting\n" (updateLine ident) (P .waiting) (voidText ident P rest) (record { passes = λ r. refl }) update-passed
-      ∙ part-passed "(void\n" (updateLine ident) (P .void) rest (record { passes = λ r. refl }) update-passed
+      part-passed "(held\n" (updateLine rules) (P .held) (headsText rules P (waitingText rules P (voidText rules P rest))) (record { passes = λ r. refl }) update-passed
+      ∙ part-passed "(heads\n" (idLine rules) (P .heads) (waitingText rules P (voidText rules P rest)) (record { passes = λ r. refl }) id-passed
+      ∙ part-passed "(waiting\n" (updateLine rules) (P .waiting) (voidText rules P rest) (record { passes = λ r. refl }) update-passed
+      ∙ part-passed "(void\n" (updateLine rules) (P .void) rest (record { passes = λ r. refl }) update-passed
 
   marks-found : fromMarks (readOffsText P) ≡ readOffsText P
   unfolding fromMarks startsWith partText ascii codes
   marks-found = refl
 
 -- the short text is the first line, and what the full one has from its marks to its end
-pub short-text : (ident : Update → Id) (P : Parts) → reportText Short ident P ≡ opening ++ fromMarks (reportText Full ident P)
+pub short-text : (rules : Rules) (P : Parts) → reportText Short rules P ≡ opening ++ fromMarks (reportText Full rules P)
 unfolding reportText
-short-text ident P = ap (λ (t : List ℕ). opening ++ t) (sym (standings-passed ident P (readOffsText P) ∙ marks-found ident P))
+short-text rules P = ap (λ (t : List ℕ). opening ++ t) (sym (standings-passed rules P (readOffsText P) ∙ marks-found rules P))

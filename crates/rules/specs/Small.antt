@@ -22,7 +22,7 @@ use Rattle.bytes_order.specs.Member.{member, keep, concatMap}
 use Rattle.bytes_ascii.specs.Ascii.{ascii}
 use Rattle.update_format.specs.Update.{Id, Operation, Add, Remove, Insert, Delete, Update, encode}
 use Rattle.rules.specs.declared.CausalOrder.{CausalOrder}
-use Rattle.rules.specs.Standing.{beginning}
+use Rattle.rules.specs.Standing.{Rules, beginning}
 use Rattle.rules.specs.declared.MarkKind.{MarkKind}
 use Rattle.rules.specs.declared.MarkKind.the-variants.{Fork, Fault, Both}
 use Rattle.rules.specs.SetEntry.{SetEntry}
@@ -40,6 +40,10 @@ pub record Named : Type 0 where
 unfoldable pub nameIn : List Named → Update → Id
 nameIn [] u = []
 nameIn (n ∷ ns) u = cond (same (encode (n .update)) (encode u)) (n .name) (nameIn ns u)
+
+-- the rules with these names as ids
+abbrev pub naming : List Named → Rules
+naming ns = record { ident = nameIn ns }
 
 unfoldable pub by : Id → ℕ → List Id → Operation → Named
 by i a ps o = record { name = i; update = record { author = a; preds = ps; op = o } }
@@ -313,9 +317,9 @@ pub record Small : Type 0 where
   pub updates : List Named
   pub gives : Parts
 
--- its id function and its set
-abbrev pub identOf : Small → Update → Id
-identOf c = nameIn (c .updates)
+-- its rules and its set
+abbrev pub rulesOf : Small → Rules
+rulesOf c = naming (c .updates)
 
 abbrev pub smallSet : Small → List Update
 smallSet c = namedUpdates (c .updates)
@@ -409,7 +413,7 @@ abbrev pub threeNamed : List Named
 threeNamed = a ∷ b ∷ a′ ∷ []
 
 abbrev pub orderNamed : Named → Named → CausalOrder
-orderNamed n m = causalOrder (nameIn threeNamed) (namedUpdates threeNamed) (n .update) (m .update)
+orderNamed n m = causalOrder (naming threeNamed) (namedUpdates threeNamed) (n .update) (m .update)
 
 -- and of a table that no set has, in which the first is an ancestor of itself, and each of the other
 abbrev pub crossedRows : Table
@@ -425,8 +429,8 @@ oneAdd = namedUpdates (a ∷ [])
 abbrev pub twoAdds : List Update
 twoAdds = namedUpdates (a ∷ c ∷ [])
 
-abbrev pub addIdent : Update → Id
-addIdent = nameIn (a ∷ c ∷ [])
+abbrev pub addRules : Rules
+addRules = naming (a ∷ c ∷ [])
 
 abbrev pub addShort : List ℕ
 addShort = ascii "(ledger 1\n(marks\n)\n(set\n(07 1)\n)\n(list\n)\n)\n"
@@ -452,8 +456,8 @@ whole =
     ∷ by (0xe3 ∷ []) 3 ((0x1f ∷ []) ∷ []) (Remove (0x2d ∷ []) ((0x1f ∷ []) ∷ []))
     ∷ []
 
-abbrev pub wholeIdent : Update → Id
-wholeIdent = nameIn whole
+abbrev pub wholeRules : Rules
+wholeRules = naming whole
 
 abbrev pub wholeSet : List Update
 wholeSet = namedUpdates whole
@@ -476,23 +480,24 @@ abbrev pub wholeShort : List ℕ
 wholeShort =
     ascii "(ledger 1\n(marks\n(3 fault)\n(7 both)\n(12 fork)\n)\n(set\n(2c 7)\n(2c 12)\n)\n(list\n(d5)\n(6e)\n)\n)\n"
 
--- Document 01, "Writing": a set, who writes, the ids that its update names, and those of the writer's held updates that it leaves behind: they are no ancestors of it
+-- Document 01, "Writing": a set, how many predecessors an update names at most, who writes, the ids that its update names, and those of the writer's held updates that it leaves behind: they are no ancestors of it
 pub record SmallChoice : Type 0 where
   pub updates : List Named
+  pub most : ℕ
   pub writer : ℕ
   pub names : List Id
   pub leaves : List Id
 
-abbrev pub choiceIdent : SmallChoice → Update → Id
-choiceIdent c = nameIn (c .updates)
+abbrev pub choiceRules : SmallChoice → Rules
+choiceRules c = naming (c .updates)
 
 abbrev pub choiceSet : SmallChoice → List Update
 choiceSet c = namedUpdates (c .updates)
 
 -- what is left behind, computed
-unfoldable pub leftIn : Table → ℕ → List Id
-leftIn T author =
-    map (λ (r : Row). r .id) (keep (λ (r : Row). not (member (r .id) (ancestorsOf T (writtenIn T author (Add []))))) (heldBy T author))
+unfoldable pub leftIn : ℕ → Table → ℕ → List Id
+leftIn most T author =
+    map (λ (r : Row). r .id) (keep (λ (r : Row). not (member (r .id) (ancestorsOf T (writtenIn most T author (Add []))))) (heldBy T author))
 
 -- an Add without predecessors, whose tag is its id
 unfoldable pub root : ℕ → ℕ → Named
@@ -516,21 +521,28 @@ elevenHeads = root 60 5 ∷ next 50 5 60 ∷ root 90 5 ∷ next 80 6 50 ∷ next
 unfoldable pub smallChoices : List SmallChoice
 smallChoices =
     -- eleven heads, 11 to 18, 70, 80 and 90: 50 is of rank 1, and 60 and 90 of rank 0, so the own head is 70, the lower of 70 and 80; then the seven lowest others
-    record { updates = elevenHeads; writer = 5; names = ids (11 ∷ 12 ∷ 13 ∷ 14 ∷ 15 ∷ 16 ∷ 17 ∷ 70 ∷ []); leaves = ids (90 ∷ []) }
+    record { updates = elevenHeads; most = 8; writer = 5; names = ids (11 ∷ 12 ∷ 13 ∷ 14 ∷ 15 ∷ 16 ∷ 17 ∷ 70 ∷ []); leaves = ids (90 ∷ []) }
     -- the same for an author without held updates: the eight lowest
-    ∷ record { updates = elevenHeads; writer = 9; names = ids (11 ∷ 12 ∷ 13 ∷ 14 ∷ 15 ∷ 16 ∷ 17 ∷ 18 ∷ []); leaves = [] }
+    ∷ record { updates = elevenHeads; most = 8; writer = 9; names = ids (11 ∷ 12 ∷ 13 ∷ 14 ∷ 15 ∷ 16 ∷ 17 ∷ 18 ∷ []); leaves = [] }
     -- the same for an author whose own head, 13, is among the lowest: it is named once, and the eight are the lowest again
-    ∷ record { updates = elevenHeads; writer = 2; names = ids (11 ∷ 12 ∷ 13 ∷ 14 ∷ 15 ∷ 16 ∷ 17 ∷ 18 ∷ []); leaves = [] }
+    ∷ record { updates = elevenHeads; most = 8; writer = 2; names = ids (11 ∷ 12 ∷ 13 ∷ 14 ∷ 15 ∷ 16 ∷ 17 ∷ 18 ∷ []); leaves = [] }
     -- nine heads, and a tie: 40 and 50 are of rank 0, and 50 has the larger id. The author has a fork and no fault (nothing is void), and 40 is left behind
-    ∷ record { updates = (root 40 5 ∷ root 50 5 ∷ sevenRoots); writer = 5; names = ids (11 ∷ 12 ∷ 13 ∷ 14 ∷ 15 ∷ 16 ∷ 17 ∷ 50 ∷ []); leaves = ids (40 ∷ []) }
+    ∷ record { updates = (root 40 5 ∷ root 50 5 ∷ sevenRoots); most = 8; writer = 5; names = ids (11 ∷ 12 ∷ 13 ∷ 14 ∷ 15 ∷ 16 ∷ 17 ∷ 50 ∷ []); leaves = ids (40 ∷ []) }
     -- eight heads: all of them
-    ∷ record { updates = (root 40 5 ∷ sevenRoots); writer = 9; names = ids (11 ∷ 12 ∷ 13 ∷ 14 ∷ 15 ∷ 16 ∷ 17 ∷ 40 ∷ []); leaves = [] }
+    ∷ record { updates = (root 40 5 ∷ sevenRoots); most = 8; writer = 9; names = ids (11 ∷ 12 ∷ 13 ∷ 14 ∷ 15 ∷ 16 ∷ 17 ∷ 40 ∷ []); leaves = [] }
+    -- document 02, E6, "the chosen number of predecessors takes its place": of the eleven heads nine, the own head and the eight lowest others; and all where sixteen may be named
+    ∷ record { updates = elevenHeads; most = 9; writer = 5; names = ids (11 ∷ 12 ∷ 13 ∷ 14 ∷ 15 ∷ 16 ∷ 17 ∷ 18 ∷ 70 ∷ []); leaves = ids (90 ∷ []) }
+    ∷ record { updates = elevenHeads; most = 16; writer = 5; names = ids (11 ∷ 12 ∷ 13 ∷ 14 ∷ 15 ∷ 16 ∷ 17 ∷ 18 ∷ 70 ∷ 80 ∷ 90 ∷ []); leaves = [] }
     ∷ []
 
 -- The longest short report: 64 Adds without predecessors, each of another tag, two by each author up to 9 and seven or more by each of the others. All are held, and
 -- every author has a fork. 36 bytes of an empty report; ten mark lines of 9 and six of 10; twenty set lines of 37 and 44 of 38.
 abbrev pub longestShort : ℕ
 longestShort = 2598
+
+-- the rules with an update's bytes as its id
+abbrev pub byBytes : Rules
+byBytes = record { ident = encode }
 
 unfoldable pub bookedBy : ℕ → ℕ
 bookedBy i = cond (ltb i 20) (i / 2) (10 + i % 6)

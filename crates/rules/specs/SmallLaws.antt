@@ -7,21 +7,24 @@ use mathlib.Core.List.{List, [], _∷_, map, head-eq-of-cons-eq, tail-eq-of-cons
 use mathlib.Core.Bool.{true, not}
 use Prim.Native.Nat.{ℕ}
 use native.Mathlib.Omega.{arith}
+use lib.Dec.{ltb}
+use borrow.Author.Tests.{ltb-true}
 use lib.ListN.{length}
 use Rattle.bytes_order.specs.Member.{_∈_, SameMembers, member}
 use Rattle.bytes_order.specs.MemberLaws.{∈-cases, ∈-singleton, ∈-cast, ∈-map, member-false→, all→∈}
 use Rattle.bytes_order.specs.BoolLaws.{true-false, and-true→}
 use Rattle.bytes_order.specs.OrderLaws.{eq→same}
 use Rattle.bytes_order.specs.Distinct.{Distinct, distinct-nil, distinct-cons}
-use Rattle.update_format.specs.Update.{Id, Add, Update, encode}
+use Rattle.update_format.specs.Update.{Id, Add, Update}
 use Rattle.rules.specs.declared.Form.the-variants.{Full, Short}
 use Rattle.rules.specs.Parts.{ReadFrom}
 use Rattle.rules.specs.Choice.{Chosen}
 use Rattle.rules.specs.Settle.{partsOf}
-use Rattle.rules.specs.Report.{places, reportText, reportOf}
+use Rattle.rules.specs.Terms.{places}
+use Rattle.rules.specs.Report.{reportText, reportOf}
 use Rattle.rules.specs.Writing.{writtenOf}
-use Rattle.rules.specs.Small.{#a, Small, by, a, c, identOf, smallSet, smallLedgers, apart, oneAdd, twoAdds, addIdent, SmallChoice, choiceIdent, choiceSet, smallChoices, longestShort, booked}
-use Rattle.rules.specs.Cases.{computed, ids-apart, forms-computed, choices-computed, choice-ids-apart, longest-computed}
+use Rattle.rules.specs.Small.{#a, Small, by, a, c, rulesOf, smallSet, smallLedgers, apart, oneAdd, twoAdds, addRules, SmallChoice, choiceRules, choiceSet, smallChoices, longestShort, byBytes, booked}
+use Rattle.rules.specs.Cases.{computed, ids-apart, forms-computed, choices-computed, choice-ids-apart, choices-some, longest-computed}
 use Rattle.rules.specs.TableLaws.{not-true→}
 use Rattle.rules.specs.PartsLaws.{read-right}
 use Rattle.rules.specs.ChosenLaws.{choice-right}
@@ -40,19 +43,19 @@ agree f g [] e m = absurd (List·Memᴰ·not-nil m)
 agree {A} f g (y ∷ xs) e {x} m =
     ⊎-elim (λ (q : x ≡ y). subst (λ (z : A). f z ≡ g z) (sym q) (head-eq-of-cons-eq e)) (λ (k : x ∈ xs). agree f g xs (tail-eq-of-cons-eq e) k) (∈-cases m)
 
-pub small-ledgers : (c : Small) → c ∈ smallLedgers → ReadFrom (identOf c) (smallSet c) (c .gives)
+pub small-ledgers : (c : Small) → c ∈ smallLedgers → ReadFrom (rulesOf c) (smallSet c) (c .gives)
 small-ledgers c m =
-    subst (ReadFrom (identOf c) (smallSet c))
-    (agree (λ (c : Small). partsOf (identOf c) (smallSet c)) (λ (c : Small). c .gives) smallLedgers computed m)
-    (read-right (identOf c) (smallSet c) (apart-distinct (identOf c) (smallSet c) (all→∈ (λ (c : Small). apart (map (identOf c) (smallSet c))) smallLedgers ids-apart c m)))
+    subst (ReadFrom (rulesOf c) (smallSet c))
+    (agree (λ (c : Small). partsOf (rulesOf c) (smallSet c)) (λ (c : Small). c .gives) smallLedgers computed m)
+    (read-right (rulesOf c) (smallSet c) (apart-distinct (rulesOf c .ident) (smallSet c) (all→∈ (λ (c : Small). apart (map (rulesOf c .ident) (smallSet c))) smallLedgers ids-apart c m)))
 
 -- Document 01, "Writing": the ids worked out by hand for the table of choices are exactly those that `Choice` defines
-pub small-choices : (c : SmallChoice) → c ∈ smallChoices → Chosen (choiceIdent c) (choiceSet c) (c .writer) (c .names)
+pub small-choices : (c : SmallChoice) → c ∈ smallChoices → Chosen (choiceRules c) (c .most) (choiceSet c) (c .writer) (c .names)
 small-choices c m =
-    subst (Chosen (choiceIdent c) (choiceSet c) (c .writer))
-    (agree (λ (c : SmallChoice). writtenOf (choiceIdent c) (choiceSet c) (c .writer) (Add []) .preds) (λ (c : SmallChoice). c .names) smallChoices (choices-computed .0) m)
-    (choice-right (choiceIdent c) (choiceSet c)
-    (apart-distinct (choiceIdent c) (choiceSet c) (all→∈ (λ (c : SmallChoice). apart (map (choiceIdent c) (choiceSet c))) smallChoices choice-ids-apart c m))
+    subst (Chosen (choiceRules c) (c .most) (choiceSet c) (c .writer))
+    (agree (λ (c : SmallChoice). writtenOf (choiceRules c) (c .most) (choiceSet c) (c .writer) (Add []) .preds) (λ (c : SmallChoice). c .names) smallChoices (choices-computed .0) m)
+    (choice-right (choiceRules c) (c .most) (ltb-true 0 (c .most) (all→∈ (λ (c : SmallChoice). ltb 0 (c .most)) smallChoices choices-some c m)) (choiceSet c)
+    (apart-distinct (choiceRules c .ident) (choiceSet c) (all→∈ (λ (c : SmallChoice). apart (map (choiceRules c .ident) (choiceSet c))) smallChoices choice-ids-apart c m))
     (c .writer) (Add []))
 
 -- Document 02, E10: "unequal sets are promised to show only in the full one". These two are unequal, and their short reports are equal.
@@ -64,14 +67,14 @@ unequal-sets s =
     let z : _≡_ {A = ℕ} 0 1 = cc in
     omega arith
 
-pub equal-short-reports : reportOf Short addIdent oneAdd ≡ reportOf Short addIdent twoAdds
+pub equal-short-reports : reportOf Short addRules oneAdd ≡ reportOf Short addRules twoAdds
 equal-short-reports = forms-computed .0 ∙ sym (forms-computed .1)
 
 -- .. and their full ones are not
-pub unequal-full-reports : reportOf Full addIdent oneAdd ≡ reportOf Full addIdent twoAdds → ⊥
-unequal-full-reports e = true-false (eq→same (reportOf Full addIdent oneAdd) (reportOf Full addIdent twoAdds) e) (forms-computed .2)
+pub unequal-full-reports : reportOf Full addRules oneAdd ≡ reportOf Full addRules twoAdds → ⊥
+unequal-full-reports e = true-false (eq→same (reportOf Full addRules oneAdd) (reportOf Full addRules twoAdds) e) (forms-computed .2)
 
 -- the longest short report, of 64 updates
-pub longest-short-report : length (reportOf Short encode (booked places)) ≡ longestShort
+pub longest-short-report : length (reportOf Short byBytes (booked places)) ≡ longestShort
 unfolding reportOf reportText
 longest-short-report = longest-computed .0

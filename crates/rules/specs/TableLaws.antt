@@ -14,7 +14,7 @@ use Rattle.bytes_order.specs.OrderLaws.{same→eq, eq→same}
 use Rattle.bytes_order.specs.Distinct.{Distinct}
 use Rattle.bytes_order.specs.DistinctLaws.{distinct-eq, distinct-length-lt}
 use Rattle.update_format.specs.Update.{Id, tagLength, Operation, Add, Remove, Insert, Delete, BoundedOperation, add, remove, insert, delete, Update}
-use Rattle.rules.specs.Standing.{beginning, Ancestor, Fine, Held, Valid, InsertAncestor}
+use Rattle.rules.specs.Standing.{Rules, beginning, Ancestor, Fine, Held, Valid, InsertAncestor}
 use Rattle.rules.specs.SetEntry.{SetEntry}
 use Rattle.rules.specs.ReadOff.{Rank}
 use Rattle.rules.specs.CausalOrder.{OrderExactly}
@@ -164,91 +164,91 @@ module _ (T : Table) (p : Row → Bool) where
   pub →keep-held : {r : Row} → HeldRow T r → p r ≡ true → r ∈ keep (λ (r : Row). heldRow r && p r) T
   →keep-held {r} h e = ∈-keep (λ (r : Row). heldRow r && p r) (h .row-in) (and-true (heldRow r) (p r) (→heldRow r (h .ruled-held)) e)
 
-pub held-fine : {ident : Update → Id} {S : List Update} {u : Update} → Held ident S u → Fine ident S u
+pub held-fine : {rules : Rules} {S : List Update} {u : Update} → Held rules S u → Fine rules S u
 held-fine (Held.held m k hs f) = f
 
 -- a table that decides its set is sound
-pub decides-sound : {ident : Update → Id} {S : List Update} {T : Table} → Decides ident S T → SoundTable ident S T
-decides-sound {ident} {S} {T} d =
+pub decides-sound : {rules : Rules} {S : List Update} {T : Table} → Decides rules S T → SoundTable rules S T
+decides-sound {rules} {S} {T} d =
     record {
       rows = λ r m. record { of-set = d .of-set r m; has-id = d .has-id r m; right = right r m (r .verdict) refl };
       row-for = d .row-for;
       once = d .once;
     }
   where
-    right : (r : Row) → r ∈ T → (v : Standing) → r .verdict ≡ v → Right ident S v (r .update) (r .above)
+    right : (r : Row) → r ∈ T → (v : Standing) → r .verdict ≡ v → Right rules S v (r .update) (r .above)
     right r m held e = (d .held-right r m e, record { only = d .above-right r m e; each = d .above-all r m e; once = d .above-once r m e })
     right r m waiting e = tt
     right r m void e = d .void-right r m e
 
-module _ {ident : Update → Id} {S : List Update} {T : Table} (distinct : Distinct ident S) (decides : Decides ident S T) where
+module _ {rules : Rules} {S : List Update} {T : Table} (distinct : Distinct (rules .ident) S) (decides : Decides rules S T) where
   pub row-eq : {r q : Row} → r ∈ T → q ∈ T → r .id ≡ q .id → r ≡ q
   row-eq m k e = distinct-eq (decides .once) m k e
 
-  pub row-held : {r : Row} → HeldRow T r → Held ident S (r .update)
+  pub row-held : {r : Row} → HeldRow T r → Held rules S (r .update)
   row-held {r} h = decides .held-right r (h .row-in) (h .ruled-held)
 
-  pub row-id : {r : Row} → HeldRow T r → r .id ≡ ident (r .update)
+  pub row-id : {r : Row} → HeldRow T r → r .id ≡ rules .ident (r .update)
   row-id {r} h = decides .has-id r (h .row-in)
 
-  pub row-says : (v : Standing) (r : Row) → r ∈ T → r .verdict ≡ v → VerdictSays ident S v (r .update)
+  pub row-says : (v : Standing) (r : Row) → r ∈ T → r .verdict ≡ v → VerdictSays rules S v (r .update)
   row-says held r m e = decides .held-right r m e
   row-says waiting r m e = decides .waiting-right r m e
   row-says void r m e = decides .void-right r m e
 
   -- each update has a row of its verdict
-  pub says-row : (v : Standing) (u : Update) → VerdictSays ident S v u → (r : Row) × (r ∈ T) × (r .verdict ≡ v) × (r .update ≡ u)
+  pub says-row : (v : Standing) (u : Update) → VerdictSays rules S v u → (r : Row) × (r ∈ T) × (r .verdict ≡ v) × (r .update ≡ u)
   says-row v u h =
-      let f = decides .row-for u (says-stored ident S v u h) in
+      let f = decides .row-for u (says-stored rules S v u h) in
       let w = row-says (f .0 .verdict) (f .0) (f .1) refl in
-      (f .0, f .1, one-verdict ident S (f .0 .verdict) v (f .0 .update) w (subst (VerdictSays ident S v) (sym (f .2)) h), f .2)
+      (f .0, f .1, one-verdict rules S (f .0 .verdict) v (f .0 .update) w (subst (VerdictSays rules S v) (sym (f .2)) h), f .2)
 
-  pub held-row : {u : Update} → Held ident S u → (r : Row) × HeldRow T r × (r .update ≡ u)
+  pub held-row : {u : Update} → Held rules S u → (r : Row) × HeldRow T r × (r .update ≡ u)
   held-row {u} h = let f = says-row held u h in (f .0, record { row-in = f .1; ruled-held = f .2 }, f .3)
 
   -- the ids above a held row are those of its ancestors
-  pub ancestor→above : {r q : Row} → HeldRow T r → HeldRow T q → Ancestor ident S (r .update) (q .update) → r .id ∈ q .above
+  pub ancestor→above : {r q : Row} → HeldRow T r → HeldRow T q → Ancestor rules S (r .update) (q .update) → r .id ∈ q .above
   ancestor→above {r} {q} h k a = ∈-cast (row-id h) (decides .above-all q (k .row-in) (k .ruled-held) (r .update) a)
 
-  pub above→ancestor : {r q : Row} → HeldRow T r → HeldRow T q → r .id ∈ q .above → Ancestor ident S (r .update) (q .update)
+  pub above→ancestor : {r q : Row} → HeldRow T r → HeldRow T q → r .id ∈ q .above → Ancestor rules S (r .update) (q .update)
   above→ancestor {r} {q} h k m =
       let f = decides .above-right q (k .row-in) (k .ruled-held) (r .id) m in
-      let e : f .0 ≡ r .update = distinct-eq distinct (ancestor-stored ident S (f .1)) (decides .of-set r (h .row-in)) (f .2 ∙ row-id h) in
-      subst (λ (x : Update). Ancestor ident S x (q .update)) e (f .1)
+      let e : f .0 ≡ r .update = distinct-eq distinct (ancestor-stored rules S (f .1)) (decides .of-set r (h .row-in)) (f .2 ∙ row-id h) in
+      subst (λ (x : Update). Ancestor rules S x (q .update)) e (f .1)
 
   -- how a held row stands to another, and a held update
   row-of-held : {r : Row} → HeldRow T r → HeldRowOf (decides-sound decides) (r .update)
   row-of-held {r} h = held-row-of (decides-sound decides) (decides .of-set r (h .row-in)) (h .row-in) (row-id h) (h .ruled-held)
 
-  pub row-order : {r q : Row} → HeldRow T r → HeldRow T q → OrderExactly ident S (r .update) (q .update) (orderIn T (r .id) (q .id))
+  pub row-order : {r q : Row} → HeldRow T r → HeldRow T q → OrderExactly rules S (r .update) (q .update) (orderIn T (r .id) (q .id))
   row-order {r} {q} h k =
-      subst₂ (λ (i j : Id). OrderExactly ident S (r .update) (q .update) (orderIn T i j)) (sym (row-id h)) (sym (row-id k))
+      subst₂ (λ (i j : Id). OrderExactly rules S (r .update) (q .update) (orderIn T i j)) (sym (row-id h)) (sym (row-id k))
       (order-exactly (decides-sound decides) (row-of-held h) (row-of-held k))
 
-  pub held-order : {u v : Update} → Held ident S u → Held ident S v → OrderExactly ident S u v (orderIn T (ident u) (ident v))
+  pub held-order : {u v : Update} → Held rules S u → Held rules S v → OrderExactly rules S u v (orderIn T (rules .ident u) (rules .ident v))
   held-order h k =
       let r = held-row h in
       let q = held-row k in
-      subst₂ (λ (x y : Update). OrderExactly ident S x y (orderIn T (ident x) (ident y))) (r .2) (q .2)
+      subst₂ (λ (x y : Update). OrderExactly rules S x y (orderIn T (rules .ident x) (rules .ident y))) (r .2) (q .2)
       (order-exactly (decides-sound decides) (row-of-held (r .1)) (row-of-held (q .1)))
 
   pub above-irreflexive : {r : Row} → HeldRow T r → r .id ∈ r .above → ⊥
-  above-irreflexive h m = held-acyclic ident S (row-held h) (above→ancestor h h m)
+  above-irreflexive h m = held-acyclic rules S (row-held h) (above→ancestor h h m)
 
   -- the row of an id above
   pub above-row : {q : Row} → HeldRow T q → {i : Id} → i ∈ q .above → (r : Row) × HeldRow T r × (r .id ≡ i)
   above-row {q} k {i} m =
       let f = decides .above-right q (k .row-in) (k .ruled-held) i m in
-      let g = held-row (held-ancestors ident S (row-held k) (f .1)) in
-      (g .0, g .1, row-id (g .1) ∙ ap ident (g .2) ∙ f .2)
+      let g = held-row (held-ancestors rules S (row-held k) (f .1)) in
+      (g .0, g .1, row-id (g .1) ∙ ap (rules .ident) (g .2) ∙ f .2)
 
   pub above-trans : {r q : Row} {i : Id} → HeldRow T r → HeldRow T q → r .id ∈ q .above → i ∈ r .above → i ∈ q .above
   above-trans {r} {q} {i} h k m n =
       let f = above-row h n in
       let a : f .0 .id ∈ r .above = ∈-cast (f .2) n in
-      ∈-cast (sym (f .2)) (ancestor→above (f .1) k (ancestor-trans ident S (above→ancestor (f .1) h a) (above→ancestor h k m)))
+      ∈-cast (sym (f .2)) (ancestor→above (f .1) k (ancestor-trans rules S (above→ancestor (f .1) h a) (above→ancestor h k m)))
 
-  pub row-rank : {r : Row} → HeldRow T r → Rank ident S (r .update) (rank r)
+  pub row-rank : {r : Row} → HeldRow T r → Rank rules S (r .update) (rank r)
   unfolding rank
   row-rank {r} h =
       let m : r ∈ T = h .row-in in
@@ -271,5 +271,5 @@ module _ {ident : Update → Id} {S : List Update} {T : Table} (distinct : Disti
       (λ i n e. above-irreflexive h (∈-cast (sym e) n))
 
   -- the anchor of a held Insert is the beginning or an ancestor
-  pub anchor-above : {r : Row} {a : Id} {v : List ℕ} → HeldRow T r → r .update .op ≡ Insert a v → (a ≡ beginning) ⊎ InsertAncestor ident S (r .update) a
-  anchor-above {r} h e = subst (Valid ident S (r .update)) e (held-fine (row-held h) .valid)
+  pub anchor-above : {r : Row} {a : Id} {v : List ℕ} → HeldRow T r → r .update .op ≡ Insert a v → (a ≡ beginning) ⊎ InsertAncestor rules S (r .update) a
+  anchor-above {r} h e = subst (Valid rules S (r .update)) e (held-fine (row-held h) .valid)

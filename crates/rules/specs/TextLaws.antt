@@ -1,11 +1,11 @@
 -- The report's text can be read back: no digit is a separator, so equal texts have the same lines, part by part.
-use Prim.Native.Nat.{ℕ, _≤_}
+use Prim.Native.Nat.{ℕ, _<_}
 use Prim.Native.String.{String}
 use native.Mathlib.Omega.{arith}
 use mathlib.Core.Path.{_≡_, refl, sym, _∙_, ap}
 use mathlib.Core.List.{List, [], _∷_, _++_, map, append-assoc, append-cancel-left, head-eq-of-cons-eq, tail-eq-of-cons-eq}
 use Rattle.bytes_order.specs.Member.{concatMap}
-use Rattle.update_format.specs.Update.{Id, maxAuthor, Update}
+use Rattle.rules.specs.Standing.{Rules}
 use Rattle.rules.specs.declared.Form.{Form}
 use Rattle.rules.specs.declared.Form.the-variants.{Full, Short}
 use Rattle.rules.specs.declared.MarkKind.{MarkKind}
@@ -13,7 +13,7 @@ use Rattle.rules.specs.declared.MarkKind.the-variants.{Fork, Fault, Both
 use Rattle.rules.specs.SetEntry.{SetEntry}
 use Rattle.rules.specs.Mark.{Mark}
 use Rattle.rules.specs.Parts.{Parts}
-use Rattle.bytes_ascii.specs.Ascii.{codes, ascii, hex, decimal}
+use Rattle.bytes_ascii.specs.Ascii.{codes, ascii, hex, decimal, decimalLimit}
 use Rattle.bytes_ascii.specs.AsciiLaws.{Digits, digits-nil, digits-cons, hex-injective, hex-digits, decimal-digits, decimal-injective, cut}
 use Rattle.rules.specs.Report.{pairLine, authorLine, updateLine, setLine, bytesLine, idLine, markWord, markLine, partText, readOffsText, opening, reportText}
 
@@ -95,16 +95,16 @@ mark-line-reads m n r r′ e =
     pair-line-reads (decimal (m .author)) (decimal (n .author)) (markWord (m .kind)) (markWord (n .kind)) r r′
     (decimal-digits (m .author)) (decimal-digits (n .author)) (word-letters (m .kind)) (word-letters (n .kind)) e
 
-update-readable : (ident : Update → Id) → Readable (updateLine ident) ident
+update-readable : (rules : Rules) → Readable (updateLine rules) (rules .ident)
 unfolding updateLine ascii codes
-update-readable ident =
+update-readable rules =
     record {
-      opens = λ u. (hex (ident u) ++ (ascii " " ++ (decimal (u .author) ++ ascii ")\n")), refl);
-      reads = λ x y r r′ e. let h = author-line-reads (ident x) (ident y) (x .author) (y .author) r r′ e in (h .0, h .2);
+      opens = λ u. (hex (rules .ident u) ++ (ascii " " ++ (decimal (u .author) ++ ascii ")\n")), refl);
+      reads = λ x y r r′ e. let h = author-line-reads (rules .ident x) (rules .ident y) (x .author) (y .author) r r′ e in (h .0, h .2);
     }
 
 -- a line of the set shows its entry
-pub set-line-injective : (e f : SetEntry) → e .author ≤ maxAuthor → f .author ≤ maxAuthor → setLine e ≡ setLine f → e ≡ f
+pub set-line-injective : (e f : SetEntry) → e .author < decimalLimit → f .author < decimalLimit → setLine e ≡ setLine f → e ≡ f
 unfolding setLine
 set-line-injective e f h g p =
     let q = author-line-reads (e .tag) (f .tag) (e .author) (f .author) [] [] (ap (λ (l : List ℕ). l ++ []) p) in
@@ -140,12 +140,12 @@ bytes-readable =
         let h = cut (hex x) (hex y) (hex-digits x) (hex-digits y) (omega arith) (omega arith) e in
         (hex-injective x y (h .0), tail-eq-of-cons-eq (h .1))
 
-id-readable : (ident : Update → Id) → Readable (idLine ident) ident
+id-readable : (rules : Rules) → Readable (idLine rules) (rules .ident)
 unfolding idLine
-id-readable ident = record { opens = λ u. bytes-readable .opens (ident u); reads = λ x y. bytes-readable .reads (ident x) (ident y) }
+id-readable rules = record { opens = λ u. bytes-readable .opens (rules .ident u); reads = λ x y. bytes-readable .reads (rules .ident x) (rules .ident y) }
 
 -- a line of the marks shows its mark
-pub mark-line-injective : (m n : Mark) → m .author ≤ maxAuthor → n .author ≤ maxAuthor → markLine m ≡ markLine n → m ≡ n
+pub mark-line-injective : (m n : Mark) → m .author < decimalLimit → n .author < decimalLimit → markLine m ≡ markLine n → m ≡ n
 mark-line-injective m n h g p =
     let q = mark-line-reads m n [] [] (ap (λ (l : List ℕ). l ++ []) p) in
     let a = decimal-injective (m .author) (n .author) (omega arith) (omega arith) (q .0) in
@@ -169,10 +169,10 @@ pub record SameReadOffs (P Q : Parts) : Type 0 where
   pub list-values : map (λ (v : List ℕ). v) (P .list) ≡ map (λ (v : List ℕ). v) (Q .list)
 
 -- .. and what the full form shows too: the ids, part by part
-pub record SameShown (ident : Update → Id) (P Q : Parts) : Type 0 where
-  pub held-ids : map ident (P .held) ≡ map ident (Q .held)
-  pub waiting-ids : map ident (P .waiting) ≡ map ident (Q .waiting)
-  pub void-ids : map ident (P .void) ≡ map ident (Q .void)
+pub record SameShown (rules : Rules) (P Q : Parts) : Type 0 where
+  pub held-ids : map (rules .ident) (P .held) ≡ map (rules .ident) (Q .held)
+  pub waiting-ids : map (rules .ident) (P .waiting) ≡ map (rules .ident) (Q .waiting)
+  pub void-ids : map (rules .ident) (P .void) ≡ map (rules .ident) (Q .void)
   pub read-offs : SameReadOffs P Q
 
 read-offs-show : (P Q : Parts) → readOffsText P ≡ readOffsText Q → SameReadOffs P Q
@@ -183,16 +183,16 @@ read-offs-show P Q e =
     record { mark-lines = m .0; set-lines = s .0; list-values = l .0 }
 
 -- equal texts show the same
-pub text-shows : (ident : Update → Id) (P Q : Parts) → reportText Full ident P ≡ reportText Full ident Q → SameShown ident P Q
+pub text-shows : (rules : Rules) (P Q : Parts) → reportText Full rules P ≡ reportText Full rules Q → SameShown rules P Q
 unfolding reportText
-text-shows ident P Q e =
-    let h = part-reads (update-readable ident) "(held\n" _ _ _ _ (append-cancel-left opening _ _ e) in
-    let t = part-reads (id-readable ident) "(heads\n" _ _ _ _ (h .1) in
-    let w = part-reads (update-readable ident) "(waiting\n" _ _ _ _ (t .1) in
-    let v = part-reads (update-readable ident) "(void\n" _ _ _ _ (w .1) in
+text-shows rules P Q e =
+    let h = part-reads (update-readable rules) "(held\n" _ _ _ _ (append-cancel-left opening _ _ e) in
+    let t = part-reads (id-readable rules) "(heads\n" _ _ _ _ (h .1) in
+    let w = part-reads (update-readable rules) "(waiting\n" _ _ _ _ (t .1) in
+    let v = part-reads (update-readable rules) "(void\n" _ _ _ _ (w .1) in
     record { held-ids = h .0; waiting-ids = w .0; void-ids = v .0; read-offs = read-offs-show P Q (v .1) }
 
-pub text-shows-read-offs : (form : Form) (ident : Update → Id) (P Q : Parts) → reportText form ident P ≡ reportText form ident Q → SameReadOffs P Q
+pub text-shows-read-offs : (form : Form) (rules : Rules) (P Q : Parts) → reportText form rules P ≡ reportText form rules Q → SameReadOffs P Q
 unfolding reportText
-text-shows-read-offs Full ident P Q e = text-shows ident P Q e .read-offs
-text-shows-read-offs Short ident P Q e = read-offs-show P Q (append-cancel-left opening _ _ e)
+text-shows-read-offs Full rules P Q e = text-shows rules P Q e .read-offs
+text-shows-read-offs Short rules P Q e = read-offs-show P Q (append-cancel-left opening _ _ e)

@@ -16,7 +16,7 @@ use Rattle.bytes_order.specs.DistinctLaws.{distinct-append, distinct-reverse, d
 use Rattle.bytes_order.specs.Sort.{sort}
 use Rattle.bytes_order.specs.SortLaws.{sort-∈, ∈-sort, sort-distinct}
 use Rattle.update_format.specs.Update.{Id, Insert, Update}
-use Rattle.rules.specs.Standing.{beginning, InsertAncestor}
+use Rattle.rules.specs.Standing.{Rules, beginning, InsertAncestor}
 use Rattle.rules.specs.Settle.{Row, Table, heldRow, rank, anchored, siblings, under, walk, siblingKey}
 use Rattle.rules.specs.Decides.{Decides}
 use Rattle.rules.specs.LeastSets.{held-ancestors}
@@ -84,7 +84,7 @@ walk-step T (suc n) es e {r} m k =
     (⊎-elim (λ (q : e ≡ f .0). ∈-walk T n (subst (λ (x : Row). r ∈ siblings T (under x)) q k) (List·Memᴰ·head refl))
     (λ (m′ : e ∈ walk n T (siblings T (under (f .0)))). walk-step T n (siblings T (under (f .0))) e m′ k) (∈-cases (f .2))))
 
-module _ {ident : Update → Id} {S : List Update} {T : Table} (distinct : Distinct ident S) (decides : Decides ident S T) where
+module _ {rules : Rules} {S : List Update} {T : Table} (distinct : Distinct (rules .ident) S) (decides : Decides rules S T) where
   -- the members of siblings
   pub siblings-∈ : (p : Id → Bool) {r : Row} → r ∈ siblings T p → (e : Entry T r) × (p (e .anchor) ≡ true)
   unfolding siblings
@@ -125,7 +125,7 @@ module _ {ident : Update → Id} {S : List Update} {T : Table} (distinct : Disti
       let f = child→ e m in
       let k : HeldRow T r = f .0 .row in
       ⊎-elim (λ (q : f .0 .anchor ≡ beginning). absurd (f .1 q))
-      (λ (x : InsertAncestor ident S (r .update) (f .0 .anchor)). ∈-cast (sym (x .has-id ∙ f .2)) (decides .above-all r (k .row-in) (k .ruled-held) (x .found) (x .above)))
+      (λ (x : InsertAncestor rules S (r .update) (f .0 .anchor)). ∈-cast (sym (x .has-id ∙ f .2)) (decides .above-all r (k .row-in) (k .ruled-held) (x .found) (x .above)))
       (anchor-above distinct decides k (f .0 .is-insert))
 
   pub child-held : (e : Row) {r : Row} → r ∈ siblings T (under e) → HeldRow T r
@@ -138,11 +138,11 @@ module _ {ident : Update → Id} {S : List Update} {T : Table} (distinct : Disti
   parent : {r : Row} (k : Entry T r) → (k .anchor ≡ beginning → ⊥) → (e : Row) × Entry T e × (k .anchor ≡ e .id)
   parent {r} k n =
       ⊎-elim (λ (q : k .anchor ≡ beginning). absurd (n q))
-      (λ (x : InsertAncestor ident S (r .update) (k .anchor)).
-      let f = held-row distinct decides (held-ancestors ident S (row-held distinct decides (k .row)) (x .above)) in (
+      (λ (x : InsertAncestor rules S (r .update) (k .anchor)).
+      let f = held-row distinct decides (held-ancestors rules S (row-held distinct decides (k .row)) (x .above)) in (
         f .0,
         record { row = f .1; anchor = x .anchor; value = x .value; is-insert = ap (λ (u : Update). u .op) (f .2) ∙ x .is-insert },
-        sym (row-id distinct decides (f .1) ∙ ap ident (f .2) ∙ x .has-id),
+        sym (row-id distinct decides (f .1) ∙ ap (rules .ident) (f .2) ∙ x .has-id),
       ))
       (anchor-above distinct decides (k .row) (k .is-insert))
 

@@ -6,7 +6,8 @@ use lib.ListN.{length, take}
 use lib.Dec.{leb, eqb}
 use Rattle.bytes_order.specs.Member.{member, keep}
 use Rattle.bytes_order.specs.Sort.{sort}
-use Rattle.update_format.specs.Update.{Id, maxPredecessors, Operation, Update}
+use Rattle.update_format.specs.Update.{Operation, Update}
+use Rattle.rules.specs.Standing.{Rules}
 use Rattle.rules.specs.CausalOrder.{sameOrBefore}
 use Rattle.rules.specs.Settle.{Row, Table, orderIn, heldRow, heads, rankKey, ancestorsOf, validOp, settledTable}
 
@@ -32,24 +33,24 @@ unfoldable pub others : Table → Table → Table
 others hs first = keep (λ (h : Row). not (member (h .id) (map (λ (r : Row). r .id) first))) hs
 
 -- "The new update names the heads. Above eight heads it names eight: first, if its author has held updates, the lowest head at or above that author's held
--- update of highest rank (on a tie, larger id), then the lowest others." In an update predecessors stand ascending.
-unfoldable pub chosenFrom : Table → Table → Table
-chosenFrom hs first =
-    cond (leb (length hs) maxPredecessors) hs (sort (λ (r : Row). r .id) (take maxPredecessors (first ++ others hs first)))
+-- update of highest rank (on a tie, larger id), then the lowest others." In an update predecessors stand ascending. Eight is `most`, of the ledger's terms.
+unfoldable pub chosenFrom : ℕ → Table → Table → Table
+chosenFrom most hs first =
+    cond (leb (length hs) most) hs (sort (λ (r : Row). r .id) (take most (first ++ others hs first)))
 
-unfoldable pub chosen : Table → ℕ → Table
-chosen T a = chosenFrom (heads T) (firstHeads T (heads T) (ranked (heldBy T a)))
+unfoldable pub chosen : ℕ → Table → ℕ → Table
+chosen most T a = chosenFrom most (heads T) (firstHeads T (heads T) (ranked (heldBy T a)))
 
-unfoldable pub writtenIn : Table → ℕ → Operation → Update
-writtenIn T a o = record { author = a; preds = map (λ (r : Row). r .id) (chosen T a); op = o }
+unfoldable pub writtenIn : ℕ → Table → ℕ → Operation → Update
+writtenIn most T a o = record { author = a; preds = map (λ (r : Row). r .id) (chosen most T a); op = o }
 
 -- the operation would not be void under the predecessors named
-unfoldable pub writableIn : Table → ℕ → Operation → Bool
-writableIn T a o = validOp T (ancestorsOf T (writtenIn T a o)) o
+unfoldable pub writableIn : ℕ → Table → ℕ → Operation → Bool
+writableIn most T a o = validOp T (ancestorsOf T (writtenIn most T a o)) o
 
 -- the update that an author writes with an operation, from a set alone
-unfoldable pub writtenOf : (Update → Id) → List Update → ℕ → Operation → Update
-writtenOf ident S a o = writtenIn (settledTable ident S) a o
+unfoldable pub writtenOf : Rules → ℕ → List Update → ℕ → Operation → Update
+writtenOf rules most S a o = writtenIn most (settledTable rules S) a o
 
-unfoldable pub writableOf : (Update → Id) → List Update → ℕ → Operation → Bool
-writableOf ident S a o = writableIn (settledTable ident S) a o
+unfoldable pub writableOf : Rules → ℕ → List Update → ℕ → Operation → Bool
+writableOf rules most S a o = writableIn most (settledTable rules S) a o

@@ -12,7 +12,7 @@ use lib.Seq.{drop-cons}
 use Rattle.bytes_order.specs.Order.{same}
 use Rattle.bytes_order.specs.Member.{member, concatMap}
 use Rattle.update_format.specs.Update.{Id, idLength, tagLength}
-use Rattle.update_format.specs.Decode.{slice, idsAt, Decoded, decode}
+use Rattle.update_format.specs.Decode.{slice, idsAt, Decoded}
 use Rattle.update_format.specs.Slices.{ids-length, ids-get}
 use Rattle.update_format.specs.ParseResult.{decodedOf}
 use Rattle.update_format.specs.declared.Malformed.{Malformed}
@@ -34,8 +34,8 @@ layoutOf a (Remove t n c) = record { kind = 2; author = a; text = t; ids = n; co
 layoutOf a (Insert i v) = record { kind = 3; author = a; text = v; ids = i; count = 1 }
 layoutOf a (Delete i) = record { kind = 4; author = a; text = 0; ids = i; count = 1 }
 
-module _ (b : List ℕ) {r : ParseResult} (d : decodedOf b r ≡ decode b) where
-  pub laid-update : {u : Parsed} → r ≡ Accepted u → {o : Operation} → u .operation ≡ o → Laid b (layoutOf (u .author) o) (decode b)
+module _ (b : List ℕ) {v : Decoded} {r : ParseResult} (d : decodedOf b r ≡ v) where
+  pub laid-update : {u : Parsed} → r ≡ Accepted u → {o : Operation} → u .operation ≡ o → Laid b (layoutOf (u .author) o) v
   laid-update {u} e {o} g =
       subst (Laid b (layoutOf (u .author) o))
       (ap (λ (p : Operation). decodedOf b (Accepted (record { author = u .author; count = u .count; operation = p }))) (sym g) ∙ ap (decodedOf b) (sym e) ∙ d)
@@ -47,7 +47,7 @@ module _ (b : List ℕ) {r : ParseResult} (d : decodedOf b r ≡ decode b) where
       by (Insert i v) = L.insert
       by (Delete i) = L.delete
 
-  pub laid-nothing : {m : Malformed} → r ≡ Refused m → Laid b (record { kind = 0; author = 0; text = 0; ids = 0; count = 0 }) (decode b)
+  pub laid-nothing : {m : Malformed} → r ≡ Refused m → Laid b (record { kind = 0; author = 0; text = 0; ids = 0; count = 0 }) v
   laid-nothing e = subst (Laid b _) (ap (decodedOf b) (sym e) ∙ d) L.nothing
 
 -- z is x where the kind k is n, and y where it is another

@@ -1,5 +1,5 @@
 -- Adds, by the test and by the tag, whose length is one. No update is an Add and an Insert; and the bounds of what is read, whatever the bytes are.
-use Prim.Native.Nat.{ℕ, _+_, _≤_, zero-le}
+use Prim.Native.Nat.{ℕ, _+_, _≤_, _<_, zero-le}
 use native.Mathlib.Omega.{arith}
 use mathlib.Core.Path.{_≡_, refl, _∙_, ap}
 use mathlib.Core.List.{List, append-nil}
@@ -7,7 +7,7 @@ use mathlib.Core.Bool.{true, false≢true}
 use lib.ListN.{length}
 use Rattle.bytes_order.specs.Member.{concatMap}
 use Rattle.bytes_order.specs.CountLaws.{oneIf}
-use Rattle.update_format.specs.Update.{maxAuthor, tagLength, Operation, Add, Remove, Insert, Delete, BoundedOperation, add, remove, insert, delete}
+use Rattle.update_format.specs.Update.{Bounds, tagLength, Operation, Add, Remove, Insert, Delete, BoundedOperation, add, remove, insert, delete}
 use Rattle.update_format.specs.Decode.{Decoded, refused, update, decode}
 use Rattle.update_format.specs.Laws.{decode-sound}
 use Rattle.rules.specs.Settle.{isInsert, tagsOf, valuesOf}
@@ -30,13 +30,13 @@ pub add-tag : {o : Operation} {t : List ℕ} → o ≡ Add t → concatMap (λ (
 unfolding concatMap tagsOf
 add-tag {t = t} e = ap (λ (p : Operation). concatMap (λ (t : List ℕ). t) (tagsOf p)) e ∙ append-nil t
 
-pub add-tag-length : (b : List ℕ) → testOf isAnyAdd (decode b) ≡ true → length (tagIn (decode b)) ≡ tagLength
+pub add-tag-length : (bounds : Bounds) (b : List ℕ) → testOf isAnyAdd (decode bounds b) ≡ true → length (tagIn (decode bounds b)) ≡ tagLength
 unfolding testOf tagIn
-add-tag-length b = step (decode b) refl
+add-tag-length bounds b = step (decode bounds b) refl
   where
-    step : (d : Decoded) → decode b ≡ d → testOf isAnyAdd d ≡ true → length (tagIn d) ≡ tagLength
+    step : (d : Decoded) → decode bounds b ≡ d → testOf isAnyAdd d ≡ true → length (tagIn d) ≡ tagLength
     step (refused n) q e = absurd (false≢true e)
-    step (update u) q e = let a = isAnyAdd→ (u .op) e in ap length (add-tag (a .1)) ∙ add-sized (decode-sound b u q .0 .op-bounded) (a .1)
+    step (update u) q e = let a = isAnyAdd→ (u .op) e in ap length (add-tag (a .1)) ∙ add-sized (decode-sound bounds b u q .0 .op-bounded) (a .1)
 
 -- no update is both an Add and an Insert
 add-or-insert : (o : Operation) → oneIf (isAnyAdd o) + oneIf (isInsert o) ≤ 1
@@ -52,13 +52,13 @@ one-operation (refused n) = omega arith
 one-operation (update u) = add-or-insert (u .op)
 
 -- the author, the tag and the value are within their bounds
-pub author-small : (b : List ℕ) → authorIn (decode b) ≤ maxAuthor
+pub author-small : (bounds : Bounds) → 0 < bounds .authors → (b : List ℕ) → authorIn (decode bounds b) < bounds .authors
 unfolding authorIn
-author-small b = go (decode b) refl
+author-small bounds some b = go (decode bounds b) refl
   where
-    go : (d : Decoded) → decode b ≡ d → authorIn d ≤ maxAuthor
-    go (refused n) e = omega arith
-    go (update u) e = decode-sound b u e .0 .author-small
+    go : (d : Decoded) → decode bounds b ≡ d → authorIn d < bounds .authors
+    go (refused n) e = some
+    go (update u) e = decode-sound bounds b u e .0 .author-small
 
 joined-tags : {o : Operation} → BoundedOperation o → length (concatMap (λ (t : List ℕ). t) (tagsOf o)) ≤ tagLength
 unfolding concatMap tagsOf
@@ -74,18 +74,18 @@ joined-values (remove h is) = zero-le
 joined-values (insert {v = v} h k) = omega (arith, ap length (append-nil v))
 joined-values (delete h) = zero-le
 
-pub tag-small : (b : List ℕ) → length (tagIn (decode b)) ≤ tagLength
+pub tag-small : (bounds : Bounds) (b : List ℕ) → length (tagIn (decode bounds b)) ≤ tagLength
 unfolding tagIn
-tag-small b = go (decode b) refl
+tag-small bounds b = go (decode bounds b) refl
   where
-    go : (d : Decoded) → decode b ≡ d → length (tagIn d) ≤ tagLength
+    go : (d : Decoded) → decode bounds b ≡ d → length (tagIn d) ≤ tagLength
     go (refused n) e = zero-le
-    go (update u) e = joined-tags (decode-sound b u e .0 .op-bounded)
+    go (update u) e = joined-tags (decode-sound bounds b u e .0 .op-bounded)
 
-pub value-small : (b : List ℕ) → length (valueIn (decode b)) ≤ tagLength
+pub value-small : (bounds : Bounds) (b : List ℕ) → length (valueIn (decode bounds b)) ≤ tagLength
 unfolding valueIn
-value-small b = go (decode b) refl
+value-small bounds b = go (decode bounds b) refl
   where
-    go : (d : Decoded) → decode b ≡ d → length (valueIn d) ≤ tagLength
+    go : (d : Decoded) → decode bounds b ≡ d → length (valueIn d) ≤ tagLength
     go (refused n) e = zero-le
-    go (update u) e = joined-values (decode-sound b u e .0 .op-bounded)
+    go (update u) e = joined-values (decode-sound bounds b u e .0 .op-bounded)

@@ -1,9 +1,9 @@
 // The fields of an update, read from its bytes.
 ghost use mathlib.Core.Path.{_≡_};
-ghost use Prim.Native.Nat.{_≤_};
+ghost use Prim.Native.Nat.{_≤_, _<_};
 ghost use lib.ListN.{length};
 ghost use Rattle.bytes_order.specs.Member.{member};
-ghost use Rattle.update_format.specs.Update.{maxAuthor, tagLength};
+ghost use Rattle.update_format.specs.Update.{documentBounds, tagLength};
 ghost use Rattle.update_format.specs.Decode.{idsAt, decode};
 ghost use Rattle.rules.specs.Settle.{isAdd, isInsert, names, deletes};
 ghost use Rattle.update_fields.specs.Fields.{testOf, authorIn, isAnyAdd, tagIn, valueIn, anchorIn};
@@ -29,7 +29,7 @@ pub struct Layout {
 
 // Where the fields lie.
 fn layout_of(b: &[u8]) -> Layout
-    ensures { λ r. ⌜ Laid (now (b .entry)) r (decode (now (b .entry))) ⌝ }
+    ensures { λ r. ⌜ Laid (now (b .entry)) r (decode documentBounds (now (b .entry))) ⌝ }
 {
     match update_parsing::read(b) {
         ParseResult::Update(u) => {
@@ -77,7 +77,7 @@ fn layout_of(b: &[u8]) -> Layout
 
 // The author.
 pub fn author_of(b: &[u8]) -> u8
-    ensures { λ r. ⌜ (r ≡ authorIn (decode (now (b .entry)))) × (r ≤ maxAuthor) ⌝ }
+    ensures { λ r. ⌜ (r ≡ authorIn (decode documentBounds (now (b .entry)))) × (r < documentBounds .authors) ⌝ }
 {
     let f = layout_of(b);
     f.author
@@ -85,7 +85,7 @@ pub fn author_of(b: &[u8]) -> u8
 
 // The tag of an Add.
 pub fn tag_of(b: &[u8]) -> &[u8]
-    ensures { λ r. ⌜ (now r ≡ tagIn (decode (now (b .entry)))) × (length (now r) ≤ tagLength) ⌝ }
+    ensures { λ r. ⌜ (now r ≡ tagIn (decode documentBounds (now (b .entry)))) × (length (now r) ≤ tagLength) ⌝ }
 {
     let f = layout_of(b);
     if f.kind == ADD {
@@ -97,7 +97,7 @@ pub fn tag_of(b: &[u8]) -> &[u8]
 
 // The value of an Insert.
 pub fn value_of(b: &[u8]) -> &[u8]
-    ensures { λ r. ⌜ (now r ≡ valueIn (decode (now (b .entry)))) × (length (now r) ≤ tagLength) ⌝ }
+    ensures { λ r. ⌜ (now r ≡ valueIn (decode documentBounds (now (b .entry)))) × (length (now r) ≤ tagLength) ⌝ }
 {
     let f = layout_of(b);
     if f.kind == INSERT {
@@ -109,7 +109,7 @@ pub fn value_of(b: &[u8]) -> &[u8]
 
 // The anchor of an Insert.
 pub fn anchor_of(b: &[u8]) -> &[u8]
-    ensures { λ r. ⌜ now r ≡ anchorIn (decode (now (b .entry))) ⌝ }
+    ensures { λ r. ⌜ now r ≡ anchorIn (decode documentBounds (now (b .entry))) ⌝ }
 {
     let f = layout_of(b);
     if f.kind == INSERT {
@@ -121,7 +121,7 @@ pub fn anchor_of(b: &[u8]) -> &[u8]
 
 // Whether it is an Add.
 pub fn is_add(b: &[u8]) -> bool
-    ensures { λ r. ⌜ r ≡ testOf isAnyAdd (decode (now (b .entry))) ⌝ }
+    ensures { λ r. ⌜ r ≡ testOf isAnyAdd (decode documentBounds (now (b .entry))) ⌝ }
 {
     let f = layout_of(b);
     f.kind == ADD
@@ -129,7 +129,7 @@ pub fn is_add(b: &[u8]) -> bool
 
 // Whether it is an Insert.
 pub fn is_insert(b: &[u8]) -> bool
-    ensures { λ r. ⌜ r ≡ testOf isInsert (decode (now (b .entry))) ⌝ }
+    ensures { λ r. ⌜ r ≡ testOf isInsert (decode documentBounds (now (b .entry))) ⌝ }
 {
     let f = layout_of(b);
     f.kind == INSERT
@@ -137,7 +137,7 @@ pub fn is_insert(b: &[u8]) -> bool
 
 // Whether it is an Add of the tag.
 pub fn adds(b: &[u8], tag: &[u8]) -> bool
-    ensures { λ r. ⌜ r ≡ testOf (isAdd (now (tag .entry))) (decode (now (b .entry))) ⌝ }
+    ensures { λ r. ⌜ r ≡ testOf (isAdd (now (tag .entry))) (decode documentBounds (now (b .entry))) ⌝ }
 {
     let f = layout_of(b);
     if f.kind == ADD {
@@ -163,7 +163,7 @@ pub fn among(b: &[u8], at: usize, count: usize, id: &[u8]) -> bool
 
 // Whether it is a Remove that names the id.
 pub fn removes(b: &[u8], id: &[u8]) -> bool
-    ensures { λ r. ⌜ r ≡ testOf (names (now (id .entry))) (decode (now (b .entry))) ⌝ }
+    ensures { λ r. ⌜ r ≡ testOf (names (now (id .entry))) (decode documentBounds (now (b .entry))) ⌝ }
 {
     let f = layout_of(b);
     if f.kind == REMOVE {
@@ -175,7 +175,7 @@ pub fn removes(b: &[u8], id: &[u8]) -> bool
 
 // Whether it is a Delete of the id.
 pub fn erases(b: &[u8], id: &[u8]) -> bool
-    ensures { λ r. ⌜ r ≡ testOf (deletes (now (id .entry))) (decode (now (b .entry))) ⌝ }
+    ensures { λ r. ⌜ r ≡ testOf (deletes (now (id .entry))) (decode documentBounds (now (b .entry))) ⌝ }
 {
     let f = layout_of(b);
     if f.kind == DELETE {

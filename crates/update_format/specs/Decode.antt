@@ -1,11 +1,11 @@
--- From bytes to an update: rows 2 to 9 of document 01's table in their order, then the value.
+-- From bytes to an update: rows 2 to 9 of document 01's table in their order, then the value. Rows 2, 4 and 5 go by the bounds that are chosen.
 use Prim.Native.Nat.{ℕ, zero, suc, _+_, _*_}
 use mathlib.Core.List.{List, [], _∷_}
 use mathlib.Core.Bool.{Bool, cond, not, _&&_, _||_}
 use lib.ListN.{length, getD, take, drop}
 use lib.Dec.{ltb, leb, eqb}
 use Rattle.bytes_order.specs.Order.{ascending}
-use Rattle.update_format.specs.Update.{maxAuthor, maxPredecessors, maxNamed, idLength, tagLength, minLength, maxLength, Id, Operation, Add, Remove, Insert, Delete, Update}
+use Rattle.update_format.specs.Update.{Bounds, maxNamed, idLength, tagLength, minLength, maxLength, Id, Operation, Add, Remove, Insert, Delete, Update}
 
 -- the k bytes of b from byte at on
 abbrev pub slice : List ℕ → ℕ → ℕ → List ℕ
@@ -56,17 +56,17 @@ unfoldable pub namedOf : List ℕ → List Id
 namedOf b = cond (eqb (kindOf b) 2) (idsAt b (namedCountAt b + 1) (namedCountOf b)) []
 
 -- The rows of the table. Each says when its cause applies, where those above it do not.
-unfoldable pub row2 : List ℕ → Bool
-row2 b = ltb (length b) minLength || ltb maxLength (length b)
+unfoldable pub row2 : Bounds → List ℕ → Bool
+row2 bounds b = ltb (length b) minLength || ltb (maxLength bounds) (length b)
 
 unfoldable pub row3 : List ℕ → Bool
 row3 b = not (eqb (getD b 0 0) 1)
 
-unfoldable pub row4 : List ℕ → Bool
-row4 b = ltb maxAuthor (authorOf b)
+unfoldable pub row4 : Bounds → List ℕ → Bool
+row4 bounds b = leb (bounds .authors) (authorOf b)
 
-unfoldable pub row5 : List ℕ → Bool
-row5 b = ltb maxPredecessors (countOf b)
+unfoldable pub row5 : Bounds → List ℕ → Bool
+row5 bounds b = ltb (bounds .predecessors) (countOf b)
 
 -- "ends before its kind byte"
 unfoldable pub row6 : List ℕ → Bool
@@ -102,12 +102,12 @@ pub data Decoded : Type 0 where
   refused : ℕ → Decoded
   update : Update → Decoded
 
-unfoldable pub decode : List ℕ → Decoded
-decode b =
-    cond (row2 b) (refused 2)
+unfoldable pub decode : Bounds → List ℕ → Decoded
+decode bounds b =
+    cond (row2 bounds b) (refused 2)
     (cond (row3 b) (refused 3)
-    (cond (row4 b) (refused 4)
-    (cond (row5 b) (refused 5)
+    (cond (row4 bounds b) (refused 4)
+    (cond (row5 bounds b) (refused 5)
     (cond (row6 b) (refused 6)
     (cond (row7 b) (refused 7)
     (cond (row8 b) (refused 8)

@@ -1,12 +1,13 @@
 -- The layout and the rows agree: what is accepted is a bounded update laid out, and every bounded update laid out is accepted. In order: what the bytes satisfy that no row
 -- applies to (`Layout`); the operation and the length by the kind byte; from such bytes to a bounded update and back (`bounded-back`, `encode-back`); from an update to its bytes,
 -- their length, the rows and back (`encode-length`, `encode-within`, `encoded-back`). Main laws, at the end: `decode-sound`, `decode-complete`, `encode-injective`,
--- `well-formed-decoded`.
+-- `well-formed-decoded`; and what narrower bounds accept, wider ones accept as the same update (`decode-wider`).
 use Prim.Native.Nat.{ℕ, zero, suc, _+_, _*_, _≤_, _<_}
 use mathlib.Core.Path.{_≡_, refl, sym, ap, ap₂, _∙_}
 use mathlib.Core.Logic.{_↔_, _⊎_, inl, inr, ⊎-elim}
 use mathlib.Core.List.{List, [], _∷_, _++_, append-assoc, append-nil}
 use mathlib.Core.Bool.{true, false, _&&_, _||_, not}
+use native.Mathlib.Nat.{le-trans}
 use native.Mathlib.Omega.{arith}
 use borrow.Author.Tests.{ltb-false, leb-false, eqb-true, not-false, le-ltb, lt-leb, eq-eqb, ne-eqb}
 use lib.ListN.{length, getD, take, drop, length-append}
@@ -14,18 +15,18 @@ use lib.Seq.{take-all, take-at, drop-at, getD-append-add, getD-at}
 use lib.Dec.{ltb, leb, eqb}
 use Rattle.bytes_order.specs.Order.{ascending}
 use Rattle.bytes_order.specs.BoolLaws.{or-false→, and-true→}
-use Rattle.update_format.specs.Update.{maxAuthor, maxPredecessors, maxNamed, idLength, tagLength, minLength, maxLength, Id, Operation, Add, Remove, Insert, Delete, Update, encode, encodeOperation, Ids, BoundedOperation, add, remove, insert, delete, Bounded, WellFormed}
+use Rattle.update_format.specs.Update.{Bounds, documentBounds, maxNamed, idLength, tagLength, minLength, maxLength, Id, Operation, Add, Remove, Insert, Delete, Update, encode, encodeOperation, Ids, BoundedOperation, add, remove, insert, delete, Bounded, WellFormed}
 use Rattle.update_format.specs.Decode.{slice, idsAt, authorOf, countOf, firstPredecessor, kindAt, kindOf, bodyAt, namedCountAt, namedCountOf, lengthOf, namedOf, row2, row3, row4, row5, row6, row7, row8, row9, operationOf, updateOf, update, decode}
 use Rattle.update_format.specs.Slices.{joined, slice-length, slice-rest, slice-all, byte-rest, slice-shift, ids-length, ids-joined, ids-sized, ids-shift, joined-length, ids-back}
 use Rattle.update_format.specs.Rows.{rows, applies, update-none}
 
 -- what an accepted update's bytes satisfy
-pub record Layout (b : List ℕ) : Type 0 where
+pub record Layout (bounds : Bounds) (b : List ℕ) : Type 0 where
   pub long : minLength ≤ length b
-  pub short : length b ≤ maxLength
+  pub short : length b ≤ maxLength bounds
   pub version : getD b 0 0 ≡ 1
-  pub author : authorOf b ≤ maxAuthor
-  pub count : countOf b ≤ maxPredecessors
+  pub author : authorOf b < bounds .authors
+  pub count : countOf b ≤ bounds .predecessors
   pub kind-inside : kindAt b < length b
   pub kind-least : 1 ≤ kindOf b
   pub kind-most : kindOf b ≤ 4
@@ -34,11 +35,11 @@ pub record Layout (b : List ℕ) : Type 0 where
   pub preds-ascend : ascending (idsAt b firstPredecessor (countOf b)) ≡ true
   pub named-ascend : ascending (namedOf b) ≡ true
 
-module _ (b : List ℕ) (none : (k : ℕ) → applies k b ≡ false) where
-  length-test : (minLength ≤ length b) × (length b ≤ maxLength)
+module _ (bounds : Bounds) (b : List ℕ) (none : (k : ℕ) → applies bounds k b ≡ false) where
+  length-test : (minLength ≤ length b) × (length b ≤ maxLength bounds)
   unfolding applies rows row2
   length-test =
-      let e = or-false→ (ltb (length b) minLength) (ltb maxLength (length b)) (none 2) in
+      let e = or-false→ (ltb (length b) minLength) (ltb (maxLength bounds) (length b)) (none 2) in
       (ltb-false _ _ (e .0), ltb-false _ _ (e .1))
 
   kind-test : (1 ≤ kindOf b) × (kindOf b ≤ 4)
@@ -62,14 +63,14 @@ module _ (b : List ℕ) (none : (k : ℕ) → applies k b ≡ false) where
   unfolding applies rows row9
   order-test = and-true→ (ascending (idsAt b firstPredecessor (countOf b))) (ascending (namedOf b)) (not-false _ (none 9))
 
-  pub layout : Layout b
+  pub layout : Layout bounds b
   unfolding applies rows row3 row4 row5 row6
   layout =
       record {
         long = length-test .0;
         short = length-test .1;
         version = eqb-true _ _ (not-false _ (none 3));
-        author = ltb-false _ _ (none 4);
+        author = leb-false _ _ (none 4);
         count = ltb-false _ _ (none 5);
         kind-inside = leb-false _ _ (none 6);
         kind-least = kind-test .0;
@@ -137,7 +138,7 @@ header (x ∷ y ∷ []) h = absurd (omega arith)
 header (x ∷ y ∷ z ∷ b) h = refl
 
 -- What is accepted is bounded, and its layout gives the bytes back.
-module _ (b : List ℕ) (l : Layout b) where
+module _ {bounds : Bounds} (b : List ℕ) (l : Layout bounds b) where
   record Back : Type 0 where
     bounded-op : BoundedOperation (operationOf b)
     laid-op : encodeOperation (operationOf b) ≡ drop (kindAt b) b
@@ -200,7 +201,7 @@ module _ (b : List ℕ) (l : Layout b) where
   back =
       ⊎-elim back-add (⊎-elim back-remove (⊎-elim back-insert back-delete)) (kind-cases (kindOf b) (l .kind-least) (l .kind-most))
 
-  pub bounded-back : Bounded (updateOf b)
+  pub bounded-back : Bounded bounds (updateOf b)
   unfolding updateOf
   bounded-back =
       record {
@@ -249,7 +250,7 @@ op-length n (Remove t named) (remove h is) = omega (arith, length-append t (leng
 op-length n (Insert a v) (insert h g) = omega (arith, length-append a v)
 op-length n (Delete i) (delete h) = omega arith
 
-pub encode-length : (u : Update) → Bounded u → length (encode u) ≡ layoutLength (length (u .preds)) (u .op)
+pub encode-length : {bounds : Bounds} (u : Update) → Bounded bounds u → length (encode u) ≡ layoutLength (length (u .preds)) (u .op)
 unfolding encode
 encode-length u h =
     omega (arith, length-append (joined (u .preds)) (encodeOperation (u .op)), joined-length (u .preds) (h .preds-bounded .sized), op-length (length (u .preds)) (u .op) (h .op-bounded))
@@ -261,15 +262,15 @@ op-some (Remove t named) = omega arith
 op-some (Insert a v) = omega arith
 op-some (Delete i) = omega arith
 
-lengths-within : (n : ℕ) (op : Operation) → n ≤ maxPredecessors → BoundedOperation op → (minLength ≤ layoutLength n op) × (layoutLength n op ≤ maxLength)
-lengths-within n (Add t) l (add h) = omega arith
-lengths-within n (Remove t named) l (remove h is) = omega (arith, is .few)
-lengths-within n (Insert a v) l (insert h g) = omega arith
-lengths-within n (Delete i) l (delete h) = omega arith
+lengths-within : (bounds : Bounds) (n : ℕ) (op : Operation) → n ≤ bounds .predecessors → BoundedOperation op → (minLength ≤ layoutLength n op) × (layoutLength n op ≤ maxLength bounds)
+lengths-within bounds n (Add t) l (add h) = omega arith
+lengths-within bounds n (Remove t named) l (remove h is) = omega (arith, is .few)
+lengths-within bounds n (Insert a v) l (insert h g) = omega arith
+lengths-within bounds n (Delete i) l (delete h) = omega arith
 
 -- ".. so from 20 to 533"
-pub encode-within : (u : Update) → Bounded u → (minLength ≤ length (encode u)) × (length (encode u) ≤ maxLength)
-encode-within u h = rw (encode-length u h) (lengths-within (length (u .preds)) (u .op) (h .preds-bounded .few) (h .op-bounded))
+pub encode-within : {bounds : Bounds} (u : Update) → Bounded bounds u → (minLength ≤ length (encode u)) × (length (encode u) ≤ maxLength bounds)
+encode-within {bounds} u h = rw (encode-length u h) (lengths-within bounds (length (u .preds)) (u .op) (h .preds-bounded .few) (h .op-bounded))
 
 -- the rows that speak of the operation do not apply, and it is read back
 record LayoutFits (b : List ℕ) (op : Operation) : Type 0 where
@@ -397,7 +398,7 @@ module _ (b p : List ℕ) where
   fits (Insert a v) (insert h g) e k = fits-insert a v h g e k
   fits (Delete i) (delete h) e k = fits-delete i h e k
 
-module _ (u : Update) (h : Bounded u) where
+module _ {bounds : Bounds} (u : Update) (h : Bounded bounds u) where
   fits-whole : LayoutFits (encode u) (u .op)
   unfolding encode
   fits-whole =
@@ -419,13 +420,13 @@ module _ (u : Update) (h : Bounded u) where
   kind-within =
       omega (arith, length-append (joined (u .preds)) (encodeOperation (u .op)), joined-length (u .preds) (h .preds-bounded .sized), op-some (u .op))
 
-  length-row : row2 (encode u) ≡ false
+  length-row : row2 bounds (encode u) ≡ false
   unfolding row2
   length-row = rw (le-ltb _ _ (encode-within u h .0), le-ltb _ _ (encode-within u h .1))
 
-  header-rows : (row3 (encode u) ≡ false) × (row4 (encode u) ≡ false) × (row5 (encode u) ≡ false)
+  header-rows : (row3 (encode u) ≡ false) × (row4 bounds (encode u) ≡ false) × (row5 bounds (encode u) ≡ false)
   unfolding row3 row4 row5 encode
-  header-rows = (refl, le-ltb _ _ (h .author-small), le-ltb _ _ (h .preds-bounded .few))
+  header-rows = (refl, lt-leb _ _ (h .author-small), le-ltb _ _ (h .preds-bounded .few))
 
   kind-rows : (row6 (encode u) ≡ false) × (row7 (encode u) ≡ false)
   unfolding row6 row7
@@ -439,29 +440,57 @@ module _ (u : Update) (h : Bounded u) where
   unfolding row9
   order-row = rw (preds-ordered, fits-whole .ordered)
 
-  pub decode-complete : decode (encode u) ≡ update u
+  pub decode-complete : decode bounds (encode u) ≡ update u
   unfolding decode
   decode-complete =
       rw
       (length-row, header-rows .0, header-rows .1, header-rows .2, kind-rows .0, kind-rows .1, fits-whole .laid, order-row)
       (ap update encoded-back)
 
-pub decode-sound : (b : List ℕ) (u : Update) → decode b ≡ update u → Bounded u × (encode u ≡ b)
-decode-sound b u h =
-    let n = update-none b u h in
-    let l = layout b (n .0) in
+pub decode-sound : (bounds : Bounds) (b : List ℕ) (u : Update) → decode bounds b ≡ update u → Bounded bounds u × (encode u ≡ b)
+decode-sound bounds b u h =
+    let n = update-none bounds b u h in
+    let l = layout bounds b (n .0) in
     (rw (← n .1) (bounded-back b l), rw (← n .1) (encode-back b l))
 
 -- what is accepted is laid out as the tests say
-pub accepted : (b : List ℕ) (u : Update) → decode b ≡ update u → Layout b
-accepted b u h = layout b (update-none b u h .0)
+pub accepted : (bounds : Bounds) (b : List ℕ) (u : Update) → decode bounds b ≡ update u → Layout bounds b
+accepted bounds b u h = layout bounds b (update-none bounds b u h .0)
 
-pub encode-injective : (u v : Update) → Bounded u → Bounded v → encode u ≡ encode v → u ≡ v
+pub encode-injective : {bounds : Bounds} (u v : Update) → Bounded bounds u → Bounded bounds v → encode u ≡ encode v → u ≡ v
 encode-injective u v h g e = cc (decode-complete u h, decode-complete v g)
 
 -- "Bytes so laid out, and no others, are a well-formed update": those that are decoded
-pub well-formed-decoded : (b : List ℕ) → WellFormed b ↔ ((u : Update) × (decode b ≡ update u))
-well-formed-decoded b = (
-  λ w. (w .value, ap decode (sym (w .laid-out)) ∙ decode-complete (w .value) (w .bounded)),
-  λ d. let s = decode-sound b (d .0) (d .1) in record { value = d .0; bounded = s .0; laid-out = s .1 },
+pub well-formed-decoded : (bounds : Bounds) (b : List ℕ) → WellFormed bounds b ↔ ((u : Update) × (decode bounds b ≡ update u))
+well-formed-decoded bounds b = (
+  λ w. (w .value, ap (decode bounds) (sym (w .laid-out)) ∙ decode-complete (w .value) (w .bounded)),
+  λ d. let s = decode-sound bounds b (d .0) (d .1) in record { value = d .0; bounded = s .0; laid-out = s .1 },
 )
+
+-- document 01's longest update: "so from 20 to 533"
+pub document-longest : maxLength documentBounds ≡ 533
+document-longest = refl
+
+-- bounds within others
+pub record Wider (bounds wider : Bounds) : Type 0 where
+  pub more-authors : bounds .authors ≤ wider .authors
+  pub more-predecessors : bounds .predecessors ≤ wider .predecessors
+
+pub bounded-wider : {bounds wider : Bounds} → Wider bounds wider → {u : Update} → Bounded bounds u → Bounded wider u
+bounded-wider w h =
+    record {
+      author-small = le-trans (h .author-small) (w .more-authors);
+      preds-bounded =
+          record {
+            few = le-trans (h .preds-bounded .few) (w .more-predecessors);
+            sized = h .preds-bounded .sized;
+            ordered = h .preds-bounded .ordered;
+          };
+      op-bounded = h .op-bounded;
+    }
+
+-- what is accepted at some bounds is accepted at wider ones, as the same update
+pub decode-wider : {bounds wider : Bounds} → Wider bounds wider → (b : List ℕ) (u : Update) → decode bounds b ≡ update u → decode wider b ≡ update u
+decode-wider {bounds} {wider} w b u e =
+    let s = decode-sound bounds b u e in
+    ap (decode wider) (sym (s .1)) ∙ decode-complete u (bounded-wider w (s .0))

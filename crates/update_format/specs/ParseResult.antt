@@ -5,7 +5,7 @@ use mathlib.Core.List.{List, []}
 use mathlib.Core.Bool.{Bool, true, false, cond}
 use lib.Dec.{eqb}
 use Rattle.update_format.specs.Update as U
-use Rattle.update_format.specs.Update.{idLength, tagLength, Update}
+use Rattle.update_format.specs.Update.{Bounds, idLength, tagLength, Update}
 use Rattle.update_format.specs.Decode.{slice, idsAt, authorOf, countOf, firstPredecessor, kindOf, bodyAt, namedCountAt, namedCountOf, namedOf, row2, row3, row4, row5, row6, row7, row8, row9, operationOf, updateOf, Decoded, refused, update, decode}
 use Rattle.update_format.specs.declared.Malformed.{Malformed}
 use Rattle.update_format.specs.declared.Malformed.the-variants.{Length, Version, Author, Predecessors, Truncated, Kind, Layout, Unordered}
@@ -62,12 +62,12 @@ operationParse b =
     (Accepted (parsedOf b)))))
 
 -- rows 2 to 9 in their order, then the offsets
-unfoldable pub parseOf : List ℕ → ParseResult
-parseOf b =
-    cond (row2 b) (Refused Length)
+unfoldable pub parseOf : Bounds → List ℕ → ParseResult
+parseOf bounds b =
+    cond (row2 bounds b) (Refused Length)
     (cond (row3 b) (Refused Version)
-    (cond (row4 b) (Refused Author)
-    (cond (row5 b) (Refused Predecessors)
+    (cond (row4 bounds b) (Refused Author)
+    (cond (row5 bounds b) (Refused Predecessors)
     (operationParse b))))
 
 operation-back : (b : List ℕ) → operationAt b (offsetsOf b) ≡ operationOf b
@@ -94,9 +94,9 @@ unfolding parsedOf updateOf
 value-back b = λ i. record { author = authorOf b; preds = idsAt b firstPredecessor (countOf b); op = operation-back b i }
 
 -- the answer means what the bytes decode to
-pub parse-decodes : (b : List ℕ) → decodedOf b (parseOf b) ≡ decode b
+pub parse-decodes : (bounds : Bounds) (b : List ℕ) → decodedOf b (parseOf bounds b) ≡ decode bounds b
 unfolding parseOf operationParse decode
-parse-decodes b = go (row2 b) (row3 b) (row4 b) (row5 b) (row6 b) (row7 b) (row8 b) (row9 b)
+parse-decodes bounds b = go (row2 bounds b) (row3 b) (row4 bounds b) (row5 bounds b) (row6 b) (row7 b) (row8 b) (row9 b)
   where
     go :
         (a c d e f g h i : Bool) →

@@ -5,30 +5,30 @@ use mathlib.Core.List.{List, [], _∷_}
 use mathlib.Core.Bool.{Bool, true, false, cond, false≢true}
 use native.Mathlib.Omega.{arith}
 use lib.ListN.{length, getD}
-use Rattle.update_format.specs.Update.{Update}
+use Rattle.update_format.specs.Update.{Bounds, Update}
 use Rattle.update_format.specs.Decode.{row2, row3, row4, row5, row6, row7, row8, row9, updateOf, Decoded, refused, update, decode}
 
 -- the rows' tests, each at its number; rows 0 and 1 say nothing of the bytes
-unfoldable pub rows : List ℕ → List Bool
-rows b = false ∷ false ∷ row2 b ∷ row3 b ∷ row4 b ∷ row5 b ∷ row6 b ∷ row7 b ∷ row8 b ∷ row9 b ∷ []
+unfoldable pub rows : Bounds → List ℕ → List Bool
+rows bounds b = false ∷ false ∷ row2 bounds b ∷ row3 b ∷ row4 bounds b ∷ row5 bounds b ∷ row6 b ∷ row7 b ∷ row8 b ∷ row9 b ∷ []
 
 -- row k applies to the bytes
-unfoldable pub applies : ℕ → List ℕ → Bool
-applies k b = getD (rows b) k false
+unfoldable pub applies : Bounds → ℕ → List ℕ → Bool
+applies bounds k b = getD (rows bounds b) k false
 
 -- row k is the first that applies
-pub record FirstRow (k : ℕ) (b : List ℕ) : Type 0 where
-  pub hit : applies k b ≡ true
-  pub above : (j : ℕ) → 2 ≤ j → j < k → applies j b ≡ false
+pub record FirstRow (bounds : Bounds) (k : ℕ) (b : List ℕ) : Type 0 where
+  pub hit : applies bounds k b ≡ true
+  pub above : (j : ℕ) → 2 ≤ j → j < k → applies bounds j b ≡ false
 
 -- the first of the tests that passes, counted from n, refuses
 from : ℕ → List Bool → Update → Decoded
 from n [] u = update u
 from n (r ∷ rs) u = cond r (refused n) (from (suc n) rs u)
 
-decode-from : (b : List ℕ) → decode b ≡ from 0 (rows b) (updateOf b)
+decode-from : (bounds : Bounds) (b : List ℕ) → decode bounds b ≡ from 0 (rows bounds b) (updateOf b)
 unfolding decode from rows
-decode-from b = refl
+decode-from bounds b = refl
 
 record Found (n : ℕ) (rs : List Bool) (k : ℕ) : Type 0 where
   place : ℕ
@@ -77,39 +77,39 @@ from-update n (false ∷ rs) u v h =
     all g zero = refl
     all g (suc j) = g j
 
-module _ (b : List ℕ) where
-  found : (k : ℕ) → decode b ≡ refused k → Found 0 (rows b) k
-  found k h = from-refused 0 (rows b) (updateOf b) k (sym (decode-from b) ∙ h)
+module _ (bounds : Bounds) (b : List ℕ) where
+  found : (k : ℕ) → decode bounds b ≡ refused k → Found 0 (rows bounds b) k
+  found k h = from-refused 0 (rows bounds b) (updateOf b) k (sym (decode-from bounds b) ∙ h)
 
   -- a refusal has the number of the first row that applies ..
-  pub refused-first : (k : ℕ) → decode b ≡ refused k → FirstRow k b
+  pub refused-first : (k : ℕ) → decode bounds b ≡ refused k → FirstRow bounds k b
   unfolding applies
   refused-first k h =
       let f = found k h in
       let e : k ≡ f .place = omega arith in
       record { hit = rw e (f .passes); above = λ j l m. f .fails j (omega arith) }
 
-  all-above : (k : ℕ) → FirstRow k b → (j : ℕ) → j < k → applies j b ≡ false
+  all-above : (k : ℕ) → FirstRow bounds k b → (j : ℕ) → j < k → applies bounds j b ≡ false
   unfolding applies rows
   all-above k h zero l = refl
   all-above k h (suc zero) l = refl
   all-above k h (suc (suc j)) l = h .above (suc (suc j)) (omega arith) l
 
   -- .. and where a row is the first that applies, its number is returned
-  pub first-refused : (k : ℕ) → FirstRow k b → decode b ≡ refused k
+  pub first-refused : (k : ℕ) → FirstRow bounds k b → decode bounds b ≡ refused k
   unfolding applies
   first-refused k h =
       let e : 0 + k ≡ k = omega arith in
-      decode-from b ∙ refused-from 0 (rows b) (updateOf b) k (h .hit) (all-above k h) ∙ ap refused e
+      decode-from bounds b ∙ refused-from 0 (rows bounds b) (updateOf b) k (h .hit) (all-above k h) ∙ ap refused e
 
-  from-two : (k : ℕ) → applies k b ≡ true → 2 ≤ k
+  from-two : (k : ℕ) → applies bounds k b ≡ true → 2 ≤ k
   unfolding applies rows
   from-two zero h = absurd (false≢true h)
   from-two (suc zero) h = absurd (false≢true h)
   from-two (suc (suc k)) h = omega arith
 
   -- no other number is returned
-  pub refused-range : (k : ℕ) → decode b ≡ refused k → (2 ≤ k) × (k ≤ 9)
+  pub refused-range : (k : ℕ) → decode bounds b ≡ refused k → (2 ≤ k) × (k ≤ 9)
   unfolding rows
   refused-range k h =
       let f = found k h in
@@ -117,6 +117,6 @@ module _ (b : List ℕ) where
       (from-two k (refused-first k h .hit), omega arith)
 
   -- where no row applies the update is returned
-  pub update-none : (u : Update) → decode b ≡ update u → ((k : ℕ) → applies k b ≡ false) × (updateOf b ≡ u)
+  pub update-none : (u : Update) → decode bounds b ≡ update u → ((k : ℕ) → applies bounds k b ≡ false) × (updateOf b ≡ u)
   unfolding applies
-  update-none u h = from-update 0 (rows b) (updateOf b) u (sym (decode-from b) ∙ h)
+  update-none u h = from-update 0 (rows bounds b) (updateOf b) u (sym (decode-from bounds b) ∙ h)

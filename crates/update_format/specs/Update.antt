@@ -1,5 +1,5 @@
 -- One update as a value, and "the update, byte by byte".
-use Prim.Native.Nat.{ℕ, _≤_}
+use Prim.Native.Nat.{ℕ, _+_, _*_, _≤_, _<_}
 use mathlib.Core.Path.{_≡_}
 use mathlib.Core.List.{List, _∷_, _++_}
 use mathlib.Core.Bool.{true}
@@ -7,13 +7,16 @@ use lib.ListN.{length}
 use Rattle.bytes_order.specs.Order.{ascending}
 use Rattle.bytes_order.specs.Member.{_∈_, concatMap}
 
--- the bounds of document 01, each named once
-abbrev pub maxAuthor : ℕ
-maxAuthor = 15
+-- what the terms of a ledger choose of an update's layout: how many authors there are, numbered from 0, and how many predecessors an update names at most
+pub record Bounds : Type 0 where
+  pub authors : ℕ
+  pub predecessors : ℕ
 
-abbrev pub maxPredecessors : ℕ
-maxPredecessors = 8
+-- document 01's own: "author, 0 to 15"; "count n of predecessors, 0 to 8"
+abbrev pub documentBounds : Bounds
+documentBounds = record { authors = 16; predecessors = 8 }
 
+-- the numbers of document 01 that no terms choose, each named once
 abbrev pub maxNamed : ℕ
 maxNamed = 8
 
@@ -23,12 +26,13 @@ idLength = 32
 abbrev pub tagLength : ℕ
 tagLength = 16
 
--- the shortest and the longest well-formed update
+-- the shortest and the longest well-formed update: an Add without predecessors, and a Remove with as many of both as can be. "the longest update, 21 + 32 × predecessors
+-- + 256": 533 at document 01's bounds (`document-longest`, `Laws`)
 abbrev pub minLength : ℕ
 minLength = 20
 
-abbrev pub maxLength : ℕ
-maxLength = 533
+abbrev pub maxLength : Bounds → ℕ
+maxLength bounds = 21 + idLength * bounds .predecessors + idLength * maxNamed
 
 abbrev pub Id : Type 0
 Id = List ℕ
@@ -70,13 +74,13 @@ pub data BoundedOperation : Operation → Type 0 where
   insert : {a : Id} {v : List ℕ} → length a ≡ idLength → length v ≡ tagLength → BoundedOperation (Insert a v)
   delete : {i : Id} → length i ≡ idLength → BoundedOperation (Delete i)
 
-pub record Bounded (u : Update) : Type 0 where
-  pub author-small : u .author ≤ maxAuthor
-  pub preds-bounded : Ids maxPredecessors (u .preds)
+pub record Bounded (bounds : Bounds) (u : Update) : Type 0 where
+  pub author-small : u .author < bounds .authors
+  pub preds-bounded : Ids (bounds .predecessors) (u .preds)
   pub op-bounded : BoundedOperation (u .op)
 
 -- "Bytes so laid out, and no others, are a well-formed update."
-pub record WellFormed (b : List ℕ) : Type 0 where
+pub record WellFormed (bounds : Bounds) (b : List ℕ) : Type 0 where
   pub value : Update
-  pub bounded : Bounded value
+  pub bounded : Bounded bounds value
   pub laid-out : encode value ≡ b

@@ -1,5 +1,6 @@
 // Reads one update: from its bytes to the offsets of its fields, or the refusal (rows 2 to 9 of document 01's table).
 ghost use mathlib.Core.Path.{_≡_};
+ghost use Rattle.update_format.specs.Update.{documentBounds};
 ghost use Rattle.update_format.specs.Decode.{decode};
 ghost use Rattle.update_format.specs.ParseResult.{decodedOf, parseOf};
 
@@ -16,8 +17,8 @@ use update_header::read_header;
 
 // Reads an update of any length: the number of the first row that applies, or the offsets.
 pub fn read(s: &[u8]) -> ParseResult
-    ensures decoded { λ r. ⌜ decodedOf (now (s .entry)) r ≡ decode (now (s .entry)) ⌝ }
-    ensures offsets { λ r. ⌜ r ≡ parseOf (now (s .entry)) ⌝ }
+    ensures decoded { λ r. ⌜ decodedOf (now (s .entry)) r ≡ decode documentBounds (now (s .entry)) ⌝ }
+    ensures offsets { λ r. ⌜ r ≡ parseOf documentBounds (now (s .entry)) ⌝ }
 {
     if s.len() < MIN_LENGTH {
         return ParseResult::Refused(Malformed::Length);

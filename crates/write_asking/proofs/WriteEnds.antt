@@ -14,8 +14,10 @@ use Rattle.rules.specs.Writing.{writableOf}
 use Rattle.ledger_judging.specs.declared.Judgement.{Judgement}
 use Rattle.ledger_judging.specs.declared.Judgement.the-variants.{Holds, Fails, Waits}
 use Rattle.ledger_judging.specs.Judge.{judgeDecoded}
+use Rattle.rules.specs.TermsLaws.{some-predecessors}
 use Rattle.ledger_state.specs.State.{Book, placeAt}
-use Rattle.ledger_state.specs.Stands.{ident, Stands}
+use Rattle.ledger_state.specs.Row1Laws.{sound→}
+use Rattle.ledger_state.specs.Stands.{rules, Stands}
 use Rattle.bytes_print.specs.Page.{Prints}
 use Rattle.write_operations.specs.declared.Kind.{Kind}
 use Rattle.write_operations.specs.Operations.{operationFor}
@@ -50,9 +52,9 @@ module _ (l : Book) (s : List ℕ) (a : ℕ) (k : Kind) (t : List ℕ) (i : Id) 
   abbrev new : Update
   new = writtenAt l s a (operationFor k t i named)
 
-  bounded : WellAsked l s a named → Sized l t i → Bounded new
+  bounded : WellAsked l s a named → Sized l t i → Bounded (l .terms .bounds) new
   bounded asked sized =
-      laid-out l s (sized .ids-sized) a op (asked .author-small)
+      laid-out l s (some-predecessors (l .terms) (sound→ l s (asked .fits) .terms-allowed)) (sized .ids-sized) a op (asked .author-small)
       (operation-bounded k t i named (sized .tag-sized) (sized .id-sized) (asked .named-good) (asked .named-ordered))
 
   -- what the writer knows once it has judged: n is the update's length, and j the judgement of it
@@ -63,26 +65,26 @@ module _ (l : Book) (s : List ℕ) (a : ℕ) (k : Kind) (t : List ℕ) (i : Id) 
     pub judged : j ≡ judgeDecoded l s (update new)
 
   pub judged-by : WellAsked l s a named → Sized l t i → {page page₁ : List ℕ} {n : ℕ} {j : Judgement} → Prints page 0 (encode new) page₁ n → n ≤ length page
-      → j ≡ judgeDecoded l s (decode (take n page₁)) → Judged n j
+      → j ≡ judgeDecoded l s (decode (l .terms .bounds) (take n page₁)) → Judged n j
   judged-by asked sized prints room e = record {
     asked = asked;
     sized = sized;
     long = prints .past ∙ zero-add (length (encode new));
-    judged = e ∙ ap (λ (c : List ℕ). judgeDecoded l s (decode c)) (cut-is new prints room) ∙ ap (judgeDecoded l s) (decode-complete new (bounded asked sized));
+    judged = e ∙ ap (λ (c : List ℕ). judgeDecoded l s (decode (l .terms .bounds) c)) (cut-is new prints room) ∙ ap (judgeDecoded l s) (decode-complete new (bounded asked sized));
   }
 
   module _ {n : ℕ} {j : Judgement} (w : Judged n j) (o : List ℕ) where
-    may : (h : ℕ) → j ≡ Holds h → (us : List Update) → Stands l s us → writableOf ident us a op ≡ true
-    may h e us stands = go (writableOf ident us a op) refl
+    may : (h : ℕ) → j ≡ Holds h → (us : List Update) → Stands l s us → writableOf rules (l .terms .bounds .predecessors) us a op ≡ true
+    may h e us stands = go (writableOf rules (l .terms .bounds .predecessors) us a op) refl
       where
-        go : (c : Bool) → writableOf ident us a op ≡ c → c ≡ true
+        go : (c : Bool) → writableOf rules (l .terms .bounds .predecessors) us a op ≡ c → c ≡ true
         go true f = refl
         go false f = absurd (holds-fails (sym e ∙ w .judged ∙ unwritable-fails l s us stands a op f))
 
-    may-not : ((h : ℕ) → j ≡ Holds h → ⊥) → (us : List Update) → Stands l s us → writableOf ident us a op ≡ false
-    may-not never us stands = go (writableOf ident us a op) refl
+    may-not : ((h : ℕ) → j ≡ Holds h → ⊥) → (us : List Update) → Stands l s us → writableOf rules (l .terms .bounds .predecessors) us a op ≡ false
+    may-not never us stands = go (writableOf rules (l .terms .bounds .predecessors) us a op) refl
       where
-        go : (c : Bool) → writableOf ident us a op ≡ c → c ≡ false
+        go : (c : Bool) → writableOf rules (l .terms .bounds .predecessors) us a op ≡ c → c ≡ false
         go true f = let h = writable-holds l s us stands a op f in absurd (never (h .0) (w .judged ∙ h .1))
         go false f = refl
 

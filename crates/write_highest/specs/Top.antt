@@ -32,6 +32,6 @@ module _ (l : Book) (s : List ℕ) where
 
   -- k is a taken place, and t the author's highest below it
   pub record TopSoFar (a k : ℕ) (t : Found) : Type 0 where
-    pub used-within : l .used ≤ places
+    pub used-within : l .used ≤ l .terms .places
     pub place-taken : k < l .used
     pub top-right : t ≡ foundOf (topBelow a k)

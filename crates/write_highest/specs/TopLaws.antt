@@ -28,7 +28,7 @@ use Rattle.bitset.specs.BelowLaws.{upTo-∈, ∈-upTo, countBelow-length}
 use Rattle.bitset.specs.Bits.{has}
 use Rattle.bitset.specs.BitsLaws.{count-within}
 use Rattle.ledger_state.specs.State.{Book, placeAt}
-use Rattle.ledger_state.specs.Stands.{ident, Stands}
+use Rattle.ledger_state.specs.Stands.{rules, Stands}
 use Rattle.ledger_relations.specs.PlaceTests.{idAt, heldAt, authorAt, rankAt, idOrder}
 use Rattle.ledger_relations.specs.PlaceLaws.{from-used, to-used, places-distinct}
 use Rattle.ledger_relations.specs.RowLaws.{rowAt, row-id, order-∈, ∈-order, table-rows, held-agrees, author-agrees, above-agrees}
@@ -86,20 +86,20 @@ module _ (l : Book) (s : List ℕ) where
 
 module _ {l : Book} {s : List ℕ} {us : List Update} (stands : Stands l s us) where
   abbrev T : Table
-  T = settledTable ident us
+  T = settledTable rules us
 
-  pub decides : Decides ident us (settledTable ident us)
-  decides = settled-decides ident us (stands .holds .distinct)
+  pub decides : Decides rules us (settledTable rules us)
+  decides = settled-decides rules us (stands .holds .distinct)
 
   -- the rows of the table are those of the places
-  pub row-at : {k : ℕ} → k < length us → rowAt us k ∈ settledTable ident us
+  pub row-at : {k : ℕ} → k < length us → rowAt us k ∈ settledTable rules us
   row-at {k} h = subst (λ (rs : Table). rowAt us k ∈ rs) (sym (table-rows stands)) (∈-map (rowAt us) (∈-order stands h))
 
-  pub at-row : {r : Row} → r ∈ settledTable ident us → (k : ℕ) × (k < length us) × (rowAt us k ≡ r)
+  pub at-row : {r : Row} → r ∈ settledTable rules us → (k : ℕ) × (k < length us) × (rowAt us k ≡ r)
   at-row {r} m =
       let f = map-∈ (rowAt us) (idOrder l s) (subst (λ (rs : Table). r ∈ rs) (table-rows stands) m) in (f .0, order-∈ stands (f .1), f .2)
 
-  held-row-at : {k : ℕ} → k < length us → heldAt l s k ≡ true → HeldRow (settledTable ident us) (rowAt us k)
+  held-row-at : {k : ℕ} → k < length us → heldAt l s k ≡ true → HeldRow (settledTable rules us) (rowAt us k)
   held-row-at {k} h e =
       keep-held→ T (λ (r : Row). true)
       (∈-keep (λ (r : Row). heldRow r && true) (row-at h) (and-true (heldRow (rowAt us k)) true (held-agrees stands k h ∙ e) refl)) .0
@@ -150,7 +150,7 @@ module _ {l : Book} {s : List ℕ} {us : List Update} (stands : Stands l s us) w
   RankedBy rs none = rs ≡ []
   RankedBy rs (some t) = (t < length us) × (heldAt l s t ≡ true) × (ts : Table) × (rs ≡ rowAt us t ∷ ts)
 
-  pub top-right : (a : ℕ) → RankedBy (ranked (heldBy (settledTable ident us) a)) (topBelow l s a (l .used))
+  pub top-right : (a : ℕ) → RankedBy (ranked (heldBy (settledTable rules us) a)) (topBelow l s a (l .used))
   unfolding RankedBy Top ranked heldBy own sort
   top-right a = step (topBelow l s a (l .used)) (top-below l s a (l .used))
     where

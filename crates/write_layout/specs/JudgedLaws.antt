@@ -29,7 +29,7 @@ use Rattle.ledger_state.specs.State.{Book, placeAt, findIn, isHeld}
 use Rattle.ledger_judging.specs.Antichain.{antichainAt}
 use Rattle.ledger_judging.specs.AntichainLaws.{→antichain-at}
 use Rattle.ledger_judging.specs.Judge.{nothingGathered, gather, namesAt, namesAncestor, valid, judgeReady, judgeGathered, judgeDecoded}
-use Rattle.ledger_state.specs.Stands.{ident, updateAt, Stands}
+use Rattle.ledger_state.specs.Stands.{ident, rules, updateAt, Stands}
 use Rattle.ledger_state.specs.FindLaws.{find-right, find-none}
 use Rattle.ledger_judging.specs.GatherLaws.{AllHeld, gathered-void→, gathered-ready←, gathered-direct→, gathered-direct←, gathered-held, gathered-above→, gathered-above←}
 use Rattle.ledger_relations.specs.PlaceTests.{heldAt}
@@ -39,7 +39,7 @@ use Rattle.write_highest.specs.TopLaws.{decides, row-at, at-row}
 
 module _ {l : Book} {s : List ℕ} {us : List Update} (stands : Stands l s us) where
   abbrev T : Table
-  T = settledTable ident us
+  T = settledTable rules us
 
   abbrev row : ℕ → Row
   row = rowAt us
@@ -50,13 +50,13 @@ module _ {l : Book} {s : List ℕ} {us : List Update} (stands : Stands l s us) w
   is-row : {r : Row} {k : ℕ} → r ∈ T → k < length us → r .id ≡ row k .id → r ≡ row k
   is-row m h e = row-eq (stands .holds .distinct) (decides stands) m (row-at stands h) e
 
-  standing-held : {k : ℕ} → k < length us → Held ident us (updateAt us k) → placeAt l k .standing ≡ IsHeld
+  standing-held : {k : ℕ} → k < length us → Held rules us (updateAt us k) → placeAt l k .standing ≡ IsHeld
   standing-held {k} h d = step (placeAt l k .standing) refl
     where
       step : (t : Standing) → placeAt l k .standing ≡ t → t ≡ IsHeld
       step IsHeld e = refl
       step IsWaiting e = absurd (stands .settled .waiting-right k h e .not-held d)
-      step IsVoid e = absurd (held-not-void ident us d (stands .truthful .void-right k h e))
+      step IsVoid e = absurd (held-not-void rules us d (stands .truthful .void-right k h e))
 
   held-at : (k : ℕ) → placeAt l k .standing ≡ IsHeld → heldAt l s k ≡ true
   unfolding heldAt isHeld
@@ -77,15 +77,15 @@ module _ {l : Book} {s : List ℕ} {us : List Update} (stands : Stands l s us) w
       passes : Row → Bool
       passes r = same (r .id) (row j .id) && p (r .update .op)
 
-  module _ (w : Update) (named : (i : Id) → i ∈ w .preds → (u : Update) × Head ident us u × (ident u ≡ i)) where
+  module _ (w : Update) (named : (i : Id) → i ∈ w .preds → (u : Update) × Head rules us u × (ident u ≡ i)) where
     abbrev gathered : Gathered
     gathered = gather l nothingGathered (w .preds)
 
     -- the predecessors are heads
-    pred-head : {j : ℕ} → j < length us → ident (updateAt us j) ∈ w .preds → Head ident us (updateAt us j)
+    pred-head : {j : ℕ} → j < length us → ident (updateAt us j) ∈ w .preds → Head rules us (updateAt us j)
     pred-head {j} h m =
         let f = named (ident (updateAt us j)) m in
-        subst (Head ident us) (distinct-eq (stands .holds .distinct) (held-stored ident us (f .1 .is-held)) (place-in stands h) (f .2)) (f .1)
+        subst (Head rules us) (distinct-eq (stands .holds .distinct) (held-stored rules us (f .1 .is-held)) (place-in stands h) (f .2)) (f .1)
 
     pred-standing : {j : ℕ} → j < length us → ident (updateAt us j) ∈ w .preds → placeAt l j .standing ≡ IsHeld
     pred-standing h m = standing-held h (pred-head h m .is-held)
@@ -93,7 +93,7 @@ module _ {l : Book} {s : List ℕ} {us : List Update} (stands : Stands l s us) w
     all-held : AllHeld l us (w .preds)
     all-held i m =
         let f = named i m in
-        let g = place-of stands (held-stored ident us (f .1 .is-held)) in
+        let g = place-of stands (held-stored rules us (f .1 .is-held)) in
         let e : ident (updateAt us (g .0)) ≡ i = ap ident (g .2) ∙ f .2 in
         (g .0, g .1, e, pred-standing (g .1) (∈-cast e m))
 
@@ -102,7 +102,7 @@ module _ {l : Book} {s : List ℕ} {us : List Update} (stands : Stands l s us) w
         not-true→false (gathered .void)
         (λ e.
         let r = gathered-void→ l s us (stands .holds) (w .preds) e in
-        held-not-void ident us (pred-head (r .1) (r .2) .is-held) (stands .truthful .void-right (r .0) (r .1) (r .3)))
+        held-not-void rules us (pred-head (r .1) (r .2) .is-held) (stands .truthful .void-right (r .0) (r .1) (r .3)))
 
     ready : gathered .ready ≡ true
     ready = gathered-ready← l s us (stands .holds) (w .preds) all-held
@@ -195,7 +195,7 @@ module _ {l : Book} {s : List ℕ} {us : List Update} (stands : Stands l s us) w
     valid-agrees (Insert a v) = ap (λ (b : Bool). same a beginning || b) (names-agrees isInsert a)
     valid-agrees (Delete i) = names-agrees isInsert i
 
-    pub judged : judgeDecoded l s (update w) ≡ cond (validOp (settledTable ident us) (ancestorsOf (settledTable ident us) w) (w .op)) (Holds ancestorWord) Fails
+    pub judged : judgeDecoded l s (update w) ≡ cond (validOp (settledTable rules us) (ancestorsOf (settledTable rules us) w) (w .op)) (Holds ancestorWord) Fails
     unfolding judgeDecoded judgeGathered judgeReady ancestorWord
     judged = λ i.
         cond (not-void i) Fails

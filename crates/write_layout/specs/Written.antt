@@ -27,5 +27,5 @@ pub record IdsAt (o : Places) (at : ℕ) : Type 0 where
   pub at-within : at ≤ firstPredecessor
 
 pub record Composable (l : Book) (named : List ℕ) : Type 0 where
-  pub used-within : l .used ≤ places
+  pub used-within : l .used ≤ l .terms .places
   pub named-good : badNamed named ≡ false

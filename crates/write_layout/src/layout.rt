@@ -2,7 +2,7 @@
 ghost use mathlib.Core.Path.{_≡_};
 ghost use mathlib.Core.List.{[], _∷_, map};
 ghost use Prim.Native.Nat.{ℕ, _+_, _*_, _≤_};
-ghost use Rattle.update_format.specs.Update.{idLength, maxPredecessors};
+ghost use Rattle.update_format.specs.Update.{idLength, documentBounds};
 ghost use Rattle.update_format.specs.Slices.{joined};
 ghost use Rattle.ledger_state.specs.State.{placeAt};
 ghost use Rattle.ledger_state.specs.View.{bookOf};
@@ -16,7 +16,7 @@ use update_format::bounds::VERSION;
 
 // The version, the author and the count of predecessors.
 pub fn put_header(author: u8, count: usize, page: &mut [u8]) -> usize
-    requires { ⌜ count ≤ maxPredecessors ⌝ }
+    requires { ⌜ count ≤ documentBounds .predecessors ⌝ }
     ensures { λ r. ⌜ Prints (now (page .entry)) 0 (1 ∷ author ∷ count ∷ []) (now (page .exit)) r ⌝ }
 {
     let bytes = [VERSION, author, count as u8];

@@ -1,6 +1,6 @@
 // Writing a new update: its bytes, with the chosen predecessors.
 ghost use Prim.Native.Nat.{_≤_};
-ghost use Rattle.update_format.specs.Update.{maxLength, encode};
+ghost use Rattle.update_format.specs.Update.{documentBounds, maxLength, encode};
 ghost use Rattle.bytes_print.specs.Page.{Prints};
 ghost use Rattle.write_operations.specs.Operations.{operationFor};
 ghost use Rattle.ledger_state.specs.View.{bookOf};
@@ -28,7 +28,7 @@ pub fn compose(
 ) -> usize
     requires { ⌜ Composable (bookOf l) (now named) ⌝ }
     ensures prints { λ r. ⌜ Prints (now (page .entry)) 0 (encode (writtenAt (bookOf l) (now (store .entry)) author (operationFor kind tag id (now (named .entry))))) (now (page .exit)) r ⌝ }
-    ensures small { λ r. ⌜ r ≤ maxLength ⌝ }
+    ensures small { λ r. ⌜ r ≤ maxLength documentBounds ⌝ }
 {
     let places = chosen(l, store, author);
     let start = layout::put_header(author, places.count, page);

@@ -11,7 +11,6 @@ use lib.ListN.{length, getD, take}
 use lib.Seq.{getD-take, take-take, take-all}
 use Rattle.bytes_order.specs.Member.{keep}
 use Rattle.bytes_order.specs.MemberLaws.{keep-append, all→∈, ∈→all, take-∈}
-use Rattle.update_format.specs.Update.{maxPredecessors}
 use Rattle.rules.specs.CausalOrder.{sameOrBefore}
 use Rattle.bitset.specs.Below.{firstBelow, orElse}
 use Rattle.bitset.specs.BelowLaws.{firstBelow-more, firstBelow-some→, firstBelow-some←, firstBelow-none→}
@@ -24,7 +23,7 @@ use Rattle.ledger_relations.specs.PlaceTests.{headAt, idOrder}
 use Rattle.ledger_sorting.specs.PlaceLists.{placesIn, ins, small, PlaceList, Lists}
 use Rattle.ledger_sorting.proofs.Inserting.{length-is, passed, ins-end}
 use Rattle.write_highest.specs.Top.{topBelow}
-use Rattle.write_predecessors.specs.Choose.{headsOf, aboveAt, eightWith, eightFor, chosenPlaces}
+use Rattle.write_predecessors.specs.Choose.{headsOf, aboveAt, mostWith, mostFor, chosenPlaces}
 
 -- heads
 
@@ -106,43 +105,43 @@ first-lists o n s h =
     isPlace : ℕ → Bool
     isPlace k = ltb k places
 
--- eight of the heads
+-- as many of the heads as an update names
 module _ (l : Book) (s : List ℕ) (o : Places) (lists : Lists o (headsOf l s)) where
   module _ (t : ℕ) where
-    pub eight-none : firstBelow (length (headsOf l s)) (aboveAt l s t) ≡ none → take maxPredecessors (placesIn o) ≡ eightFor l s (some t)
-    unfolding eightFor eightWith
-    eight-none e = ap (take maxPredecessors) (lists .are) ∙ ap (eightWith l s) (sym e)
+    pub most-none : firstBelow (length (headsOf l s)) (aboveAt l s t) ≡ none → take (l .terms .bounds .predecessors) (placesIn o) ≡ mostFor l s (some t)
+    unfolding mostFor mostWith
+    most-none e = ap (take (l .terms .bounds .predecessors)) (lists .are) ∙ ap (mostWith l s) (sym e)
 
-    pub eight-low : (j : ℕ) → firstBelow (length (headsOf l s)) (aboveAt l s t) ≡ some j → j < maxPredecessors → take maxPredecessors (placesIn o) ≡ eightFor l s (some t)
-    unfolding eightFor eightWith
-    eight-low j e h =
-        ap (take maxPredecessors) (lists .are)
+    pub most-low : (j : ℕ) → firstBelow (length (headsOf l s)) (aboveAt l s t) ≡ some j → j < l .terms .bounds .predecessors → take (l .terms .bounds .predecessors) (placesIn o) ≡ mostFor l s (some t)
+    unfolding mostFor mostWith
+    most-low j e h =
+        ap (take (l .terms .bounds .predecessors)) (lists .are)
         ∙ sym
-        (ap (eightWith l s) e
-        ∙ ap (λ (b : Bool). cond b (take maxPredecessors (headsOf l s)) (take (maxPredecessors - 1) (headsOf l s) ++ (getD (headsOf l s) j 0 ∷ []))) (lt-ltb j maxPredecessors h))
+        (ap (mostWith l s) e
+        ∙ ap (λ (b : Bool). cond b (take (l .terms .bounds .predecessors) (headsOf l s)) (take (l .terms .bounds .predecessors - 1) (headsOf l s) ++ (getD (headsOf l s) j 0 ∷ []))) (lt-ltb j (l .terms .bounds .predecessors) h))
 
-    pub eight-high : (j : ℕ) → firstBelow (length (headsOf l s)) (aboveAt l s t) ≡ some j → maxPredecessors ≤ j → j < o .count
-        → {x : Places} → Lists x (take (maxPredecessors - 1) (placesIn o)) → x .count ≡ maxPredecessors - 1 → ins (maxPredecessors - 1) (getD (o .items) j 0) (placesIn x) ≡ eightFor l s (some t)
-    unfolding eightFor eightWith
-    eight-high j e h g {x} a c =
+    pub most-high : (j : ℕ) → firstBelow (length (headsOf l s)) (aboveAt l s t) ≡ some j → l .terms .bounds .predecessors ≤ j → j < o .count
+        → {x : Places} → Lists x (take (l .terms .bounds .predecessors - 1) (placesIn o)) → x .count ≡ l .terms .bounds .predecessors - 1 → ins (l .terms .bounds .predecessors - 1) (getD (o .items) j 0) (placesIn x) ≡ mostFor l s (some t)
+    unfolding mostFor mostWith
+    most-high j e h g {x} a c =
         ap (λ (n : ℕ). ins n (getD (o .items) j 0) (placesIn x)) (sym c)
         ∙ ins-end x (a .is-list) (getD (o .items) j 0)
-        ∙ ap₂ (λ (xs : List ℕ) (k : ℕ). xs ++ (k ∷ [])) (a .are ∙ ap (take (maxPredecessors - 1)) (lists .are)) (sym (head-is l s o lists t j g))
+        ∙ ap₂ (λ (xs : List ℕ) (k : ℕ). xs ++ (k ∷ [])) (a .are ∙ ap (take (l .terms .bounds .predecessors - 1)) (lists .are)) (sym (head-is l s o lists t j g))
         ∙ sym
-        (ap (eightWith l s) e
-        ∙ ap (λ (b : Bool). cond b (take maxPredecessors (headsOf l s)) (take (maxPredecessors - 1) (headsOf l s) ++ (getD (headsOf l s) j 0 ∷ []))) (le-ltb j maxPredecessors h))
+        (ap (mostWith l s) e
+        ∙ ap (λ (b : Bool). cond b (take (l .terms .bounds .predecessors) (headsOf l s)) (take (l .terms .bounds .predecessors - 1) (headsOf l s) ++ (getD (headsOf l s) j 0 ∷ []))) (le-ltb j (l .terms .bounds .predecessors) h))
 
-  chosen-by : (a : ℕ) {b : Bool} → leb (length (headsOf l s)) maxPredecessors ≡ b → chosenPlaces l s a ≡ cond b (headsOf l s) (eightFor l s (topBelow l s a (l .used)))
+  chosen-by : (a : ℕ) {b : Bool} → leb (length (headsOf l s)) (l .terms .bounds .predecessors) ≡ b → chosenPlaces l s a ≡ cond b (headsOf l s) (mostFor l s (topBelow l s a (l .used)))
   unfolding chosenPlaces
-  chosen-by a e = ap (λ (b : Bool). cond b (headsOf l s) (eightFor l s (topBelow l s a (l .used)))) e
+  chosen-by a e = ap (λ (b : Bool). cond b (headsOf l s) (mostFor l s (topBelow l s a (l .used)))) e
 
-  pub chosen-few : (a : ℕ) → o .count ≤ maxPredecessors → headsOf l s ≡ chosenPlaces l s a
-  chosen-few a h = sym (chosen-by a (le-leb (length (headsOf l s)) maxPredecessors (omega (arith, heads-length l s o lists 0))))
+  pub chosen-few : (a : ℕ) → o .count ≤ l .terms .bounds .predecessors → headsOf l s ≡ chosenPlaces l s a
+  chosen-few a h = sym (chosen-by a (le-leb (length (headsOf l s)) (l .terms .bounds .predecessors) (omega (arith, heads-length l s o lists 0))))
 
-  pub chosen-many : (a : ℕ) (t : Option ℕ) → maxPredecessors < o .count → topBelow l s a (l .used) ≡ t → eightFor l s t ≡ chosenPlaces l s a
+  pub chosen-many : (a : ℕ) (t : Option ℕ) → l .terms .bounds .predecessors < o .count → topBelow l s a (l .used) ≡ t → mostFor l s t ≡ chosenPlaces l s a
   chosen-many a t h e =
-      ap (eightFor l s) (sym e) ∙ sym (chosen-by a (lt-leb (length (headsOf l s)) maxPredecessors (omega (arith, heads-length l s o lists 0))))
+      ap (mostFor l s) (sym e) ∙ sym (chosen-by a (lt-leb (length (headsOf l s)) (l .terms .bounds .predecessors) (omega (arith, heads-length l s o lists 0))))
 
-  pub chosen-lowest : (a : ℕ) → maxPredecessors < o .count → topBelow l s a (l .used) ≡ none → take maxPredecessors (placesIn o) ≡ chosenPlaces l s a
-  unfolding eightFor
-  chosen-lowest a h e = ap (take maxPredecessors) (lists .are) ∙ chosen-many a none h e
+  pub chosen-lowest : (a : ℕ) → l .terms .bounds .predecessors < o .count → topBelow l s a (l .used) ≡ none → take (l .terms .bounds .predecessors) (placesIn o) ≡ chosenPlaces l s a
+  unfolding mostFor
+  chosen-lowest a h e = ap (take (l .terms .bounds .predecessors)) (lists .are) ∙ chosen-many a none h e

@@ -7,7 +7,6 @@ use mathlib.Core.Bool.{Bool, cond}
 use lib.ListN.{length, getD, take}
 use lib.Dec.{leb, ltb}
 use Rattle.bytes_order.specs.Member.{keep}
-use Rattle.update_format.specs.Update.{maxPredecessors}
 use Rattle.rules.specs.CausalOrder.{sameOrBefore}
 use Rattle.bitset.specs.Below.{firstBelow}
 use Rattle.ledger_state.specs.State.{places, Book}
@@ -26,18 +25,18 @@ module _ (l : Book) (s : List ℕ) where
   unfoldable pub aboveAt : ℕ → ℕ → Bool
   aboveAt t j = sameOrBefore (orderAt l t (getD headsOf j 0))
 
-  -- eight of more than eight heads, with the one at index j among them
-  unfoldable pub eightWith : Option ℕ → List ℕ
-  eightWith none = take maxPredecessors headsOf
-  eightWith (some j) =
-      cond (ltb j maxPredecessors) (take maxPredecessors headsOf) (take (maxPredecessors - 1) headsOf ++ (getD headsOf j 0 ∷ []))
+  -- as many as an update names of more heads, with the one at index j among them
+  unfoldable pub mostWith : Option ℕ → List ℕ
+  mostWith none = take (l .terms .bounds .predecessors) headsOf
+  mostWith (some j) =
+      cond (ltb j (l .terms .bounds .predecessors)) (take (l .terms .bounds .predecessors) headsOf) (take (l .terms .bounds .predecessors - 1) headsOf ++ (getD headsOf j 0 ∷ []))
 
-  unfoldable pub eightFor : Option ℕ → List ℕ
-  eightFor none = take maxPredecessors headsOf
-  eightFor (some t) = eightWith (firstBelow (length headsOf) (aboveAt t))
+  unfoldable pub mostFor : Option ℕ → List ℕ
+  mostFor none = take (l .terms .bounds .predecessors) headsOf
+  mostFor (some t) = mostWith (firstBelow (length headsOf) (aboveAt t))
 
   unfoldable pub chosenPlaces : ℕ → List ℕ
-  chosenPlaces a = cond (leb (length headsOf) maxPredecessors) headsOf (eightFor (topBelow l s a (l .used)))
+  chosenPlaces a = cond (leb (length headsOf) (l .terms .bounds .predecessors)) headsOf (mostFor (topBelow l s a (l .used)))
 
   -- the list has the heads, and t is a place
   pub record HeadsFor (o : Places) (t : ℕ) : Type 0 where
@@ -47,7 +46,7 @@ module _ (l : Book) (s : List ℕ) where
   -- and they are more than an update names
   pub record ManyHeads (o : Places) (t : ℕ) : Type 0 where
     pub heads-for : HeadsFor o t
-    pub over-most : maxPredecessors < o .count
+    pub over-most : l .terms .bounds .predecessors < o .count
 
 -- it is a list of n places or more
 pub record FirstOf (o : Places) (n : ℕ) : Type 0 where

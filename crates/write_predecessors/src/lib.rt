@@ -5,7 +5,7 @@ ghost use mathlib.Core.List.{[], _∷_, _++_};
 ghost use Prim.Native.Nat.{_+_, _≤_, _<_};
 ghost use lib.ListN.{length, take};
 ghost use Rattle.bytes_order.specs.Member.{keep};
-ghost use Rattle.update_format.specs.Update.{maxPredecessors};
+ghost use Rattle.update_format.specs.Update.{documentBounds};
 ghost use Rattle.bitset.specs.Below.{firstBelow};
 ghost use Rattle.rules.specs.CausalOrder.{sameOrBefore};
 ghost use Rattle.ledger_state.specs.State.{places, foundOf};
@@ -14,7 +14,7 @@ ghost use Rattle.ledger_state.specs.Bounds.{TwoPlaces};
 ghost use Rattle.ledger_state.specs.PlaceOrder.{orderAt};
 ghost use Rattle.ledger_relations.specs.PlaceTests.{headAt};
 ghost use Rattle.ledger_sorting.specs.PlaceLists.{placesIn, Lists, RoomIn};
-ghost use Rattle.write_predecessors.specs.Choose.{headsOf, aboveAt, eightFor, chosenPlaces, HeadsFor, ManyHeads, FirstOf};
+ghost use Rattle.write_predecessors.specs.Choose.{headsOf, aboveAt, mostFor, chosenPlaces, HeadsFor, ManyHeads, FirstOf};
 use ledger_sorting::Key;
 use ledger_sorting::Places;
 use ledger_sorting::sorted;
@@ -97,10 +97,10 @@ fn first(places: Places, n: usize) -> Places
     Places { count: n, items }
 }
 
-// Eight of more than eight heads, with the first at or above place t among them.
-fn eight_above(l: Ledger, store: &[u8], heads: Places, t: usize) -> Places
+// As many of the heads as an update names, where there are more, with the first at or above place t among them.
+fn most_above(l: Ledger, store: &[u8], heads: Places, t: usize) -> Places
     requires { ⌜ ManyHeads (bookOf l) (now store) heads t ⌝ }
-    ensures { λ r. ⌜ Lists r (eightFor (bookOf l) (now (store .entry)) (some t)) × (r .count ≤ maxPredecessors) ⌝ }
+    ensures { λ r. ⌜ Lists r (mostFor (bookOf l) (now (store .entry)) (some t)) × (r .count ≤ documentBounds .predecessors) ⌝ }
 {
     match first_above(l, store, heads, t) {
         Found::At(j) => {
@@ -118,14 +118,14 @@ fn eight_above(l: Ledger, store: &[u8], heads: Places, t: usize) -> Places
 // The heads that a new update of the author names.
 pub fn chosen(l: Ledger, store: &[u8], author: u8) -> Places
     requires { ⌜ bookOf l .used ≤ places ⌝ }
-    ensures { λ r. ⌜ Lists r (chosenPlaces (bookOf l) (now (store .entry)) author) × (r .count ≤ maxPredecessors) ⌝ }
+    ensures { λ r. ⌜ Lists r (chosenPlaces (bookOf l) (now (store .entry)) author) × (r .count ≤ documentBounds .predecessors) ⌝ }
 {
     let all = heads(l, store);
     if all.count <= NAMED_HEADS {
         return all;
     }
     match top(l, store, author) {
-        Found::At(t) => eight_above(l, store, all, t),
+        Found::At(t) => most_above(l, store, all, t),
         Found::Nowhere => first(all, NAMED_HEADS),
     }
 }

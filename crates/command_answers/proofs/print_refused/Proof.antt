@@ -1,8 +1,5 @@
 -- `print_refused` meets its contract.
-use mathlib.Core.Path.{sym, subst}
-use Prim.Native.Nat.{ℕ, _<_}
 use native.Mathlib.Omega.{arith}
-use Rattle.bytes_ascii.specs.Ascii.{twoDigits}
 use Rattle.bytes_print.proofs.Printing.{both, same-text}
 use Rattle.command_answers.proofs.AnswerLaws.{refused-text, refusal-small}
 use borrow.Author.Needs.{needs}
@@ -31,12 +28,15 @@ put-requires c κs = search needs
 number-requires : tie.Need-number-requires
 number-requires c κs = search needs
 
+cast-decimal : tie.Need-cast-decimal
+cast-decimal c = search needs
+
 decimal-requires : tie.Need-decimal-requires
 decimal-requires c κs =
     let at-start = put→start (number→put c) in
     record {
       at-within = search needs;
-      two-digits = subst (λ (n : ℕ). n < twoDigits) (sym (c .number .ensures)) (refusal-small (at-start .args .refusal));
+      number-within = omega (arith, c .number .ensures, refusal-small (at-start .args .refusal));
     }
 
 slice-aggregate-put-2 : tie.Need-slice-aggregate-put-2
@@ -67,4 +67,4 @@ returns c =
 pub print-refused-spec : {M : Type 1} → statement M
 print-refused-spec =
     tie.close
-    (tie.spec slice-aggregate-put put-requires number-requires decimal-requires slice-aggregate-put-2 put-requires-2 same-length returns)
+    (tie.spec slice-aggregate-put put-requires number-requires cast-decimal decimal-requires slice-aggregate-put-2 put-requires-2 same-length returns)

@@ -1,5 +1,6 @@
 -- `print_taken` meets its contract.
 use native.Mathlib.Omega.{arith}
+use Rattle.bytes_ascii.specs.AsciiLaws.{decimal-length}
 use Rattle.bytes_print.proofs.Printing.{both, same-text}
 use Rattle.command_answers.proofs.AnswerLaws.{taken-text}
 use borrow.Author.Needs.{needs}
@@ -46,9 +47,6 @@ slice-aggregate-put-2 c = search needs
 put-requires-2 : tie.Need-put-requires-2
 put-requires-2 c κs = search needs
 
-cast-decimal : tie.Need-cast-decimal
-cast-decimal c = search needs
-
 decimal-requires : tie.Need-decimal-requires
 decimal-requires c κs = search needs
 
@@ -57,9 +55,6 @@ slice-aggregate-put-3 c = search needs
 
 put-requires-3 : tie.Need-put-requires-3
 put-requires-3 c κs = search needs
-
-cast-decimal-2 : tie.Need-cast-decimal-2
-cast-decimal-2 c = search needs
 
 decimal-requires-2 : tie.Need-decimal-requires-2
 decimal-requires-2 c κs = search needs
@@ -84,6 +79,7 @@ returns c =
     let at-put = print-standing→put at-print-standing in
     let at-start = put→start at-put in
     let args = at-start .args in
+    let pre = at-start .pre in
     let put′ = at-put .put in
     let standing = at-print-standing .print-standing in
     let put2 = at-put2 .put2 in
@@ -92,11 +88,11 @@ returns c =
     let void = at-decimal2 .decimal2 in
     let put4 = at-put4 .put4 in (
       same-text (taken-text (args .standing) (args .held) (args .void)) (both (put′ .ensures) (both (standing .ensures .0) (both (put2 .ensures) (both (held .ensures .0) (both (put3 .ensures) (both (void .ensures .0) (put4 .ensures))))))),
-      omega (arith, put4 .ensures .past, void .ensures .1, put3 .ensures .past, held .ensures .1, put2 .ensures .past, standing .ensures .1, put′ .ensures .past),
+      omega (arith, put4 .ensures .past, void .ensures .0 .past, put3 .ensures .past, held .ensures .0 .past, put2 .ensures .past, standing .ensures .1, put′ .ensures .past, decimal-length 2 (args .held) (omega arith) (pre .held-two-digits), decimal-length 2 (args .void) (omega arith) (pre .void-two-digits)),
     )
 
 pub print-taken-spec : {M : Type 1} → statement M
 print-taken-spec =
     tie.close
-    (tie.spec slice-aggregate-put put-requires print-standing-requires slice-aggregate-put-2 put-requires-2 cast-decimal decimal-requires
-    slice-aggregate-put-3 put-requires-3 cast-decimal-2 decimal-requires-2 slice-aggregate-put-4 put-requires-4 same-length returns)
+    (tie.spec slice-aggregate-put put-requires print-standing-requires slice-aggregate-put-2 put-requires-2 decimal-requires
+    slice-aggregate-put-3 put-requires-3 decimal-requires-2 slice-aggregate-put-4 put-requires-4 same-length returns)

@@ -9,6 +9,7 @@ use borrow.Author.Tests.{not-true, not-false}
 use lib.ListN.{length}
 use denote.Ref.{now}
 use Rattle.update_format.specs.Update.{idLength}
+use Rattle.rules.specs.ReportLaws.{document-size}
 use Rattle.ledger_state.specs.State.{placeAt}
 use Rattle.ledger_state.specs.View.{bookOf}
 use Rattle.ledger_state.specs.Row1.{sound}
@@ -89,7 +90,7 @@ returns-2 c =
     let in-else1 = then2→else1 in-then2 in
     let a = else1→start in-else1 .args in
     reported-at-once (a .form) (bookOf (a .ledger)) (now (a .store)) (fits in-else1) (now (a .out)) (sized in-else1)
-    (omega (arith, at-room .room .ensures, in-then2 .if2 .taken)) (at-print .print .ensures)
+    (omega (arith, document-size (a .form), at-room .room .ensures, in-then2 .if2 .taken)) (at-print .print .ensures)
 
 slice-aggregate-print : tie.Need-slice-aggregate-print
 slice-aggregate-print c = search needs

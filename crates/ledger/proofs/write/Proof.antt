@@ -1,8 +1,11 @@
 -- `write` meets its contract: rows 1, 4, 8 and 9 in their order, then the update.
 use mathlib.Core.Path.{_≡_, sym, _∙_}
+use Prim.Native.Nat.{ℕ, _≤_, _<_}
+use native.Mathlib.Omega.{arith}
 use mathlib.Core.Bool.{Bool, true, false, not}
 use borrow.Author.Needs.{needs}
 use borrow.Author.Tests.{not-true, not-false}
+use Rattle.update_format.specs.Update.{documentBounds}
 use Rattle.write_asking.specs.Write.{unfit, author, layout, unordered}
 use Rattle.ledger.proofs.write.Statement.{statement}
 use Rattle.ledger.proofs.write.Tie as tie
@@ -17,7 +20,11 @@ passed {r} e f = answered e (not-false r f)
 failed : {r b : Bool} → r ≡ b → not r ≡ true → b ≡ false
 failed {r} e f = answered e (not-true r f)
 
-ruleset rows = (needs, unfit, author, layout, unordered, answered, passed, failed)
+-- an author that is not above the last is one
+an-author : {a : ℕ} → a ≤ 15 → a < documentBounds .authors
+an-author h = omega arith
+
+ruleset rows = (needs, unfit, author, layout, unordered, answered, passed, failed, an-author)
 
 sound-requires : tie.Need-sound-requires
 sound-requires c κs = search needs

@@ -2,10 +2,12 @@
 use Prim.Native.Nat.{_<_}
 use mathlib.Core.Path.{sym, _∙_}
 use native.Mathlib.Omega.{arith}
+use native.Mathlib.Nat.{le-of-eq}
 use borrow.Author.Needs.{needs}
 use denote.Ref.{now}
 use Rattle.ledger_state.specs.State.{places, findIn}
 use Rattle.ledger_state.specs.View.{bookOf}
+use Rattle.ledger_state.specs.RoomLaws.{→room, →no-room}
 use Rattle.ledger_state.specs.Row1Laws.{sound→}
 use Rattle.ledger_state.specs.FindLaws.{find-taken}
 use Rattle.ledger_state.proofs.FindLaws.{found-at, found-nowhere}
@@ -80,7 +82,9 @@ take-requires c κs =
       formed = at-start .pre;
       id-right = at-digest .digest .ensures;
       id-new = found-nowhere (findIn (bookOf (at-start .args .t1)) (at-digest .digest .result)) (sym (at-find .find .ensures) ∙ at-enum-told .enum-told .given .1);
-      place-free = omega (arith, sound→ (bookOf (at-start .args .t1)) (now (at-start .args .store)) (at-start .pre .is-sound) .few, in-else1 .if1 .left);
+      room =
+          →room (bookOf (at-start .args .t1)) (now (at-start .args .store)) (at-start .pre .value)
+          (omega (arith, sound→ (bookOf (at-start .args .t1)) (now (at-start .args .store)) (at-start .pre .is-sound) .few, in-else1 .if1 .left));
     }
 
 returns : tie.Need-returns
@@ -104,7 +108,7 @@ returns-2 c =
     let a = at-start .args in
     offered-full (a .t1) (now (a .store)) (now (a .update)) (at-start .pre) _ (at-digest .digest .ensures)
     (found-nowhere (findIn (bookOf (a .t1)) (at-digest .digest .result)) (sym (at-find .find .ensures) ∙ at-enum-told .enum-told .given .1))
-    (in-then1 .if1 .taken)
+    (→no-room (bookOf (a .t1)) (now (a .store)) (at-start .pre .value) (le-of-eq (sym (in-then1 .if1 .taken))))
     (c .left2 .ensures)
 
 same-length : tie.Need-same-length

@@ -1,9 +1,13 @@
 -- `take` meets its contract: what settling ensures of the ledger with the place taken, and the counts.
+use Prim.Native.Nat.{_<_}
 use borrow.Author.Needs.{needs}
 use denote.Ref.{now}
 use lib.ListN.{length}
+use Rattle.update_format.specs.Update.{documentBounds}
 use Rattle.update_format.specs.Laws.{accepted}
+use Rattle.ledger_state.specs.State.{places}
 use Rattle.ledger_state.specs.View.{bookOf}
+use Rattle.ledger_state.specs.RoomLaws.{room→}
 use Rattle.ledger_state.specs.Row1Laws.{sound→}
 use Rattle.ledger_offering.proofs.TakeLaws.{taken-newest, took-with}
 use Rattle.ledger_offering.proofs.OfferLaws.{offered-taken}
@@ -26,14 +30,21 @@ settle→taken c = c .before .before
 abbrev p→settle : tie.After-p → tie.After-settle
 p→settle c = c .before .before
 
+abbrev settle→start : tie.After-settle → tie.Start
+settle→start c = write-at→start (taken→write-at (settle→taken c))
+
+-- a place is free
+free : (c : tie.Start) → c .args .ledger .used < places
+free c = room→ (bookOf (c .args .ledger)) (now (c .args .store)) (c .pre .formed .value) (c .pre .room)
+
 write-at-requires : tie.Need-write-at-requires
 write-at-requires c κs =
     let at-start = write-at-arg→start c in
     let f = at-start .pre .formed in
     record {
       store-whole = sound→ (bookOf (at-start .args .ledger)) (now (at-start .args .store)) (f .is-sound) .store;
-      place-within = at-start .pre .place-free;
-      update-within = accepted (now (at-start .args .update)) (f .value) (f .decodes) .short;
+      place-within = free at-start;
+      update-within = accepted documentBounds (now (at-start .args .update)) (f .value) (f .decodes) .short;
     }
 
 taken-requires : tie.Need-taken-requires
@@ -44,13 +55,13 @@ settle-requires c κs =
     let at-taken = c .before in
     let at-start = write-at→start (taken→write-at at-taken) in
     let a = at-start .args in
-    taken-newest (bookOf (a .ledger)) (a .id) (length (now (a .update))) (at-taken .taken .ensures .free (at-start .pre .place-free)) (at-start .pre .place-free)
+    taken-newest (bookOf (a .ledger)) (a .id) (length (now (a .update))) (at-taken .taken .ensures .free (free at-start)) (free at-start)
 
 mul-p : tie.Need-mul-p
-mul-p c = search needs
+mul-p c = let h = free (settle→start (c .before)) in search needs
 
 element-copy-out-p : tie.Need-element-copy-out-p
-element-copy-out-p c = search needs
+element-copy-out-p c = let h = free (settle→start (c .before)) in search needs
 
 same-length : tie.Need-same-length
 same-length c = search needs
@@ -64,9 +75,9 @@ returns c =
     let a = at-start .args in
     let q = at-start .pre in
     let f = q .formed in
-    offered-taken (a .ledger) (now (a .store)) (now (a .update)) f _ (q .id-right) (q .id-new) (q .place-free)
-    (took-with (bookOf (a .ledger)) (now (a .store)) (now (a .update)) (f .value) (f .is-sound) (f .decodes) (q .place-free) (q .id-right) (q .id-new)
-    (at-taken .taken .ensures .free (q .place-free))
+    offered-taken (a .ledger) (now (a .store)) (now (a .update)) f _ (q .id-right) (q .id-new) (q .room)
+    (took-with (bookOf (a .ledger)) (now (a .store)) (now (a .update)) (f .value) (f .is-sound) (f .decodes) (q .room) (q .id-right) (q .id-new)
+    (at-taken .taken .ensures .free (free at-start))
     (at-write-at .write-at .ensures)
     (at-write-at .write-at .kept .0)
     (at-settle .settle .ensures))

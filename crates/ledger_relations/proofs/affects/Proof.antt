@@ -4,9 +4,11 @@ use mathlib.Core.Path.{sym, ap, _∙_}
 use mathlib.Core.List.{List}
 use borrow.Author.Needs.{needs}
 use denote.Ref.{now}
+use Rattle.update_format.specs.Update.{documentBounds}
 use Rattle.update_format.specs.Decode.{decode}
 use Rattle.rules.specs.Settle.{names, deletes}
 use Rattle.update_fields.specs.Fields.{testOf}
+use Rattle.ledger_state.specs.State.{documentTerms}
 use Rattle.ledger_state.specs.View.{placeOf}
 use Rattle.ledger_relations.specs.declared.Effect.{Effect}
 use Rattle.ledger_relations.specs.Effects.{affects}
@@ -73,14 +75,14 @@ returns c =
     let at-enum-told = c .before in
     let at-start = enum-told→start at-enum-told in
     let args = at-start .args in
-    c .covers .ensures ∙ ap (λ (e : Effect). affects (now (args .store)) e (placeOf (args .own)) (args .k) (placeOf (args .other)) (args .q)) (sym (at-enum-told .enum-told .given .1))
+    c .covers .ensures ∙ ap (λ (e : Effect). affects documentTerms (now (args .store)) e (placeOf (args .own)) (args .k) (placeOf (args .other)) (args .q)) (sym (at-enum-told .enum-told .given .1))
 
 returns-2 : tie.Need-returns-2
 returns-2 c =
     let at-enum-told2 = c .before in
     let at-start = enum-told2→start at-enum-told2 in
     let args = at-start .args in
-    c .forks .ensures ∙ ap (λ (e : Effect). affects (now (args .store)) e (placeOf (args .own)) (args .k) (placeOf (args .other)) (args .q)) (sym (at-enum-told2 .enum-told2 .given .1))
+    c .forks .ensures ∙ ap (λ (e : Effect). affects documentTerms (now (args .store)) e (placeOf (args .own)) (args .k) (placeOf (args .other)) (args .q)) (sym (at-enum-told2 .enum-told2 .given .1))
 
 returns-3 : tie.Need-returns-3
 returns-3 c =
@@ -88,7 +90,7 @@ returns-3 c =
     let at-enum-told3 = at-stored .before in
     let at-start = enum-told3→start at-enum-told3 in
     let args = at-start .args in
-    (c .removes .ensures ∙ ap (λ (b : List ℕ). testOf (names (args .own .id)) (decode b)) (at-stored .stored .ensures)) ∙ ap (λ (e : Effect). affects (now (args .store)) e (placeOf (args .own)) (args .k) (placeOf (args .other)) (args .q)) (sym (at-enum-told3 .enum-told3 .given .1))
+    (c .removes .ensures ∙ ap (λ (b : List ℕ). testOf (names (args .own .id)) (decode documentBounds b)) (at-stored .stored .ensures)) ∙ ap (λ (e : Effect). affects documentTerms (now (args .store)) e (placeOf (args .own)) (args .k) (placeOf (args .other)) (args .q)) (sym (at-enum-told3 .enum-told3 .given .1))
 
 returns-4 : tie.Need-returns-4
 returns-4 c =
@@ -96,7 +98,7 @@ returns-4 c =
     let at-enum-told4 = at-stored2 .before in
     let at-start = enum-told4→start at-enum-told4 in
     let args = at-start .args in
-    (c .erases .ensures ∙ ap (λ (b : List ℕ). testOf (deletes (args .own .id)) (decode b)) (at-stored2 .stored2 .ensures)) ∙ ap (λ (e : Effect). affects (now (args .store)) e (placeOf (args .own)) (args .k) (placeOf (args .other)) (args .q)) (sym (at-enum-told4 .enum-told4 .given .1))
+    (c .erases .ensures ∙ ap (λ (b : List ℕ). testOf (deletes (args .own .id)) (decode documentBounds b)) (at-stored2 .stored2 .ensures)) ∙ ap (λ (e : Effect). affects documentTerms (now (args .store)) e (placeOf (args .own)) (args .k) (placeOf (args .other)) (args .q)) (sym (at-enum-told4 .enum-told4 .given .1))
 
 pub affects-spec : {M : Type 1} → statement M
 affects-spec =

@@ -4,8 +4,10 @@ use mathlib.Core.Path.{ap, _∙_}
 use mathlib.Core.List.{List}
 use borrow.Author.Needs.{needs}
 use denote.Ref.{now}
+use Rattle.update_format.specs.Update.{documentBounds}
 use Rattle.update_format.specs.Decode.{decode}
 use Rattle.update_fields.specs.Fields.{authorIn}
+use Rattle.ledger_state.specs.State.{documentTerms}
 use Rattle.ledger_state.specs.View.{placeOf}
 use Rattle.ledger_relations.proofs.Testing.{fork-apart, fork-comparable}
 use Rattle.ledger_relations.proofs.forks.Statement.{statement}
@@ -22,7 +24,7 @@ returns : tie.Need-returns
 returns c =
     let at-comparable = c .before in
     let args = comparable→start at-comparable .args in
-    fork-comparable (placeOf (args .own)) (args .k) (placeOf (args .other)) (args .q) (now (args .store)) (at-comparable .comparable .ensures) (c .if1 .taken)
+    fork-comparable (placeOf (args .own)) (args .k) (placeOf (args .other)) (args .q) documentTerms (now (args .store)) (at-comparable .comparable .ensures) (c .if1 .taken)
 
 stored-requires : tie.Need-stored-requires
 stored-requires c κs = search needs
@@ -44,7 +46,7 @@ returns-2 c =
     let in-else1 = at-stored .before in
     let at-comparable = in-else1 .before in
     let args = comparable→start at-comparable .args in
-    fork-apart (placeOf (args .own)) (args .k) (placeOf (args .other)) (args .q) (now (args .store)) (at-comparable .comparable .ensures) (in-else1 .if1 .left) (at-author-of .author-of .ensures .0 ∙ ap (λ (b : List ℕ). authorIn (decode b)) (at-stored .stored .ensures)) (c .author-of2 .ensures .0 ∙ ap (λ (b : List ℕ). authorIn (decode b)) (at-stored2 .stored2 .ensures))
+    fork-apart (placeOf (args .own)) (args .k) (placeOf (args .other)) (args .q) documentTerms (now (args .store)) (at-comparable .comparable .ensures) (in-else1 .if1 .left) (at-author-of .author-of .ensures .0 ∙ ap (λ (b : List ℕ). authorIn (decode documentBounds b)) (at-stored .stored .ensures)) (c .author-of2 .ensures .0 ∙ ap (λ (b : List ℕ). authorIn (decode documentBounds b)) (at-stored2 .stored2 .ensures))
 
 pub forks-spec : {M : Type 1} → statement M
 forks-spec =

@@ -5,6 +5,7 @@ use mathlib.Core.List.{List}
 use borrow.Author.Needs.{needs}
 use borrow.Author.Tests.{not-true, not-false}
 use denote.Ref.{now}
+use Rattle.update_format.specs.Update.{documentBounds}
 use Rattle.update_format.specs.Decode.{decode}
 use Rattle.update_fields.specs.Fields.{testOf, isAnyAdd}
 use Rattle.ledger_state.specs.View.{bookOf}
@@ -52,7 +53,7 @@ returns-2 c =
     let args = at-start .args in
     let standing = at-has-standing .has-standing in
     let if1 = in-else1 .if1 in
-    present-add (bookOf (args .t1)) (now (args .store)) (args .k) (standing .ensures) (not-false _ (if1 .left)) (at-is-add .is-add .ensures ∙ ap (λ (b : List ℕ). testOf isAnyAdd (decode b)) (at-stored .stored .ensures)) (in-then2 .if2 .taken) (c .some-held .ensures)
+    present-add (bookOf (args .t1)) (now (args .store)) (args .k) (standing .ensures) (not-false _ (if1 .left)) (at-is-add .is-add .ensures ∙ ap (λ (b : List ℕ). testOf isAnyAdd (decode documentBounds b)) (at-stored .stored .ensures)) (in-then2 .if2 .taken) (c .some-held .ensures)
 
 returns-3 : tie.Need-returns-3
 returns-3 c =
@@ -63,7 +64,7 @@ returns-3 c =
     let at-start = has-standing→start at-has-standing in
     let args = at-start .args in
     let standing = at-has-standing .has-standing in
-    present-other (bookOf (args .t1)) (now (args .store)) (args .k) (standing .ensures) (not-false _ (in-else1 .if1 .left)) (at-is-add .is-add .ensures ∙ ap (λ (b : List ℕ). testOf isAnyAdd (decode b)) (at-stored .stored .ensures)) (c .if2 .left)
+    present-other (bookOf (args .t1)) (now (args .store)) (args .k) (standing .ensures) (not-false _ (in-else1 .if1 .left)) (at-is-add .is-add .ensures ∙ ap (λ (b : List ℕ). testOf isAnyAdd (decode documentBounds b)) (at-stored .stored .ensures)) (c .if2 .left)
 
 pub is-present-spec : {M : Type 1} → statement M
 is-present-spec =

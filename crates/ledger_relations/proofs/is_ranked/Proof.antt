@@ -5,9 +5,11 @@ use mathlib.Core.List.{List}
 use borrow.Author.Needs.{needs}
 use borrow.Author.Tests.{not-true, not-false}
 use denote.Ref.{now}
+use Rattle.update_format.specs.Update.{documentBounds}
 use Rattle.update_format.specs.Decode.{decode}
 use Rattle.rules.specs.Settle.{isInsert}
 use Rattle.update_fields.specs.Fields.{testOf}
+use Rattle.ledger_state.specs.State.{documentTerms}
 use Rattle.ledger_state.specs.View.{placeOf}
 use Rattle.ledger_relations.proofs.Testing.{ranked-none, ranked-other, ranked-insert}
 use Rattle.ledger_relations.proofs.is_ranked.Statement.{statement}
@@ -25,7 +27,7 @@ returns c =
     let at-has-standing = c .before in
     let at-start = has-standing→start at-has-standing in
     let args = at-start .args in
-    ranked-none (now (args .store)) (placeOf (args .p)) (args .k) (at-has-standing .has-standing .ensures) (args .n) (not-true _ (c .if1 .taken))
+    ranked-none documentTerms (now (args .store)) (placeOf (args .p)) (args .k) (at-has-standing .has-standing .ensures) (args .n) (not-true _ (c .if1 .taken))
 
 count-requires : tie.Need-count-requires
 count-requires c κs = search needs
@@ -47,7 +49,7 @@ returns-2 c =
     let args = at-start .args in
     let standing = at-has-standing .has-standing in
     let if1 = in-else1 .if1 in
-    ranked-insert (now (args .store)) (placeOf (args .p)) (args .k) (standing .ensures) (args .n) (not-false _ (if1 .left)) (at-count .count .ensures) (in-then2 .if2 .taken) (c .is-insert .ensures ∙ ap (λ (b : List ℕ). testOf isInsert (decode b)) (at-stored .stored .ensures))
+    ranked-insert documentTerms (now (args .store)) (placeOf (args .p)) (args .k) (standing .ensures) (args .n) (not-false _ (if1 .left)) (at-count .count .ensures) (in-then2 .if2 .taken) (c .is-insert .ensures ∙ ap (λ (b : List ℕ). testOf isInsert (decode documentBounds b)) (at-stored .stored .ensures))
 
 returns-3 : tie.Need-returns-3
 returns-3 c =
@@ -55,7 +57,7 @@ returns-3 c =
     let at-has-standing = at-count .before .before in
     let at-start = has-standing→start at-has-standing in
     let args = at-start .args in
-    ranked-other (now (args .store)) (placeOf (args .p)) (args .k) (at-has-standing .has-standing .ensures) (args .n) (at-count .count .ensures) (c .if2 .left)
+    ranked-other documentTerms (now (args .store)) (placeOf (args .p)) (args .k) (at-has-standing .has-standing .ensures) (args .n) (at-count .count .ensures) (c .if2 .left)
 
 pub is-ranked-spec : {M : Type 1} → statement M
 is-ranked-spec =

@@ -16,7 +16,7 @@ use Rattle.ledger_relations.proofs.some_held.Tie as tie
 
 -- place q is held and does so to place k
 abbrev passes : Book → List ℕ → Effect → ℕ → ℕ → Bool
-passes l s e k q = heldAffects s e (placeAt l k) k (placeAt l q) q
+passes l s e k q = heldAffects (l .terms) s e (placeAt l k) k (placeAt l q) q
 
 abbrev Inv-loop : tie.InvT-loop
 Inv-loop store effect k l used own q₀ q = (q ≤ used) × (anyBelow q (passes (bookOf l) store effect k) ≡ false)

@@ -7,6 +7,7 @@ use borrow.Author.Tests.{not-true, not-false}
 use denote.Ref.{now}
 use Rattle.bitset.specs.Below.{allBelow}
 use Rattle.bitset.specs.BelowLaws.{allBelow-none, allBelow-next, allBelow-stop, allBelow-end}
+use Rattle.rules.specs.TermsLaws.{document-allowed}
 use Rattle.ledger_state.specs.View.{bookOf}
 use Rattle.ledger_row1.proofs.Row1Laws.{soundAt, wrong-store, too-many, by-places}
 use Rattle.ledger_row1.proofs.sound.Statement.{statement}
@@ -34,12 +35,12 @@ sound-place→loop c = c .before .before .before
 returns : tie.Need-returns Inv-loop μ-loop
 returns c =
     let at-start = then1→start c in
-    let a = at-start .args in wrong-store (bookOf (a .t1)) (now (a .store)) (c .if1 .taken)
+    let a = at-start .args in wrong-store (bookOf (a .t1)) (now (a .store)) document-allowed (c .if1 .taken)
 
 returns-2 : tie.Need-returns-2 Inv-loop μ-loop
 returns-2 c =
     let at-start = then2→start c in
-    let a = at-start .args in too-many (bookOf (a .t1)) (now (a .store)) (search needs) (search needs)
+    let a = at-start .args in too-many (bookOf (a .t1)) (now (a .store)) document-allowed (search needs) (search needs)
 
 loop-holds : tie.Need-loop-holds Inv-loop μ-loop
 loop-holds c = (search needs, allBelow-none _)
@@ -60,7 +61,7 @@ returns-3 c =
     let at-start = loop→start at-loop in
     let a = at-start .args in
     allBelow-stop (a .t1 .used) (soundAt (bookOf (a .t1))) (at-loop .loop .k) (search needs) (sym (at-sound-place .sound-place .ensures) ∙ not-true _ (c .if3 .taken))
-    ∙ by-places (bookOf (a .t1)) (now (a .store)) (search needs) (search needs)
+    ∙ by-places (bookOf (a .t1)) (now (a .store)) document-allowed (search needs) (search needs)
 
 add-k : tie.Need-add-k Inv-loop μ-loop
 add-k c = search needs
@@ -85,7 +86,7 @@ returns-4 c =
     let at-start = loop→start at-loop in
     let a = at-start .args in
     allBelow-end (a .t1 .used) (soundAt (bookOf (a .t1))) (at-loop .loop .k) (search needs) (search needs) (at-loop .loop .inv .1)
-    ∙ by-places (bookOf (a .t1)) (now (a .store)) (search needs) (search needs)
+    ∙ by-places (bookOf (a .t1)) (now (a .store)) document-allowed (search needs) (search needs)
 
 pub sound-spec : {M : Type 1} → statement M
 sound-spec =

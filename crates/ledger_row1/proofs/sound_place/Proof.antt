@@ -9,7 +9,7 @@ pub sound-place-spec : {M : Type 1} → statement M
 sound-place-spec =
     tie.close
     (tie.spec
-    (λ c. short _ _ (search needs))
-    (λ c. long _ _ (search needs) (search needs))
+    (λ c. short _ _ _ (search needs))
+    (λ c. long _ _ _ (search needs) (search needs))
     (λ c κs. search needs)
-    (λ c. c .within .ensures ∙ by-ancestors _ _ (search needs) (search needs)))
+    (λ c. c .within .ensures ∙ by-ancestors _ _ _ (search needs) (search needs)))

@@ -3,6 +3,7 @@ use Prim.Native.Nat.{ℕ}
 use mathlib.Core.Path.{sym, _∙_, ap}
 use mathlib.Core.List.{List}
 use borrow.Author.Needs.{needs}
+use Rattle.update_format.specs.Update.{documentBounds}
 use Rattle.update_format.specs.Decode.{decode}
 use Rattle.ledger_state.specs.NumberLaws.{is-waiting}
 use Rattle.ledger_settling.specs.Settle.{follows}
@@ -33,7 +34,7 @@ returns c =
     let at-has-standing = in-then1 .before in
     let a = has-standing→start at-has-standing .args in
     both (sym (at-has-standing .has-standing .ensures ∙ is-waiting _) ∙ in-then1 .if1 .taken)
-    (c .follows .ensures ∙ ap (λ (b : List ℕ). follows (a .t4) (decode b)) (at-stored .stored .ensures))
+    (c .follows .ensures ∙ ap (λ (b : List ℕ). follows (a .t4) (decode documentBounds b)) (at-stored .stored .ensures))
 
 returns-2 : tie.Need-returns-2
 returns-2 c =

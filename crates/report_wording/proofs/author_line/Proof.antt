@@ -2,6 +2,7 @@
 use native.Mathlib.Omega.{arith}
 use borrow.Author.Needs.{needs}
 use denote.Ref.{now}
+use Rattle.update_format.specs.Update.{documentBounds}
 use Rattle.update_format.specs.Decode.{decode}
 use Rattle.bytes_print.proofs.Printing.{both, same-text}
 use Rattle.report_wording.proofs.LineLaws.{author-line}
@@ -42,6 +43,9 @@ slice-aggregate-put c = search needs
 put-requires : tie.Need-put-requires
 put-requires c κs = search needs
 
+cast-decimal : tie.Need-cast-decimal
+cast-decimal c = search needs
+
 decimal-requires : tie.Need-decimal-requires
 decimal-requires c κs =
     let at-put = decimal-arg→put c in
@@ -52,7 +56,7 @@ decimal-requires c κs =
     let pre = at-start .pre in
     record {
       at-within = omega (arith, put′ .ensures .past, at-open-bytes .open-bytes .ensures .1, pre .line-within);
-      two-digits = omega (arith, at-author-of .author-of .ensures .1);
+      number-within = omega (arith, at-author-of .author-of .ensures .1);
     }
 
 slice-aggregate-put-2 : tie.Need-slice-aggregate-put-2
@@ -76,11 +80,11 @@ returns c =
     let decimal′ = at-decimal .decimal in
     let put′ = at-put .put in
     let args = at-start .args in (
-      same-text (author-line (now (args .bytes)) (decode (now (args .b))) (at-author-of .author-of .result) (at-author-of .author-of .ensures .0)) (both (at-open-bytes .open-bytes .ensures .0) (both (put′ .ensures) (both (decimal′ .ensures .0) (put2 .ensures)))),
+      same-text (author-line (now (args .bytes)) (decode documentBounds (now (args .b))) (at-author-of .author-of .result) (at-author-of .author-of .ensures .0)) (both (at-open-bytes .open-bytes .ensures .0) (both (put′ .ensures) (both (decimal′ .ensures .0) (put2 .ensures)))),
       omega (arith, put2 .ensures .past, decimal′ .ensures .1, put′ .ensures .past, at-open-bytes .open-bytes .ensures .1),
     )
 
 pub author-line-spec : {M : Type 1} → statement M
 author-line-spec =
     tie.close
-    (tie.spec author-of-requires open-bytes-requires slice-aggregate-put put-requires decimal-requires slice-aggregate-put-2 put-requires-2 same-length returns)
+    (tie.spec author-of-requires open-bytes-requires slice-aggregate-put put-requires cast-decimal decimal-requires slice-aggregate-put-2 put-requires-2 same-length returns)

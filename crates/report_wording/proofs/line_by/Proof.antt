@@ -2,6 +2,7 @@
 use mathlib.Core.Path.{sym, ap, _∙_}
 use borrow.Author.Needs.{needs}
 use denote.Ref.{now}
+use Rattle.update_format.specs.Update.{documentBounds}
 use Rattle.update_format.specs.Decode.{decode}
 use Rattle.rules.specs.Report.{bytesLine}
 use Rattle.report_wording.specs.declared.Part.{Part}
@@ -85,7 +86,7 @@ returns-update c =
     let at-start = match-keys1→start at-match-keys1 in
     let args = at-start .args in
     let line = at-author-line .author-line in
-    (same-text (update-lines (now (args .id)) (decode (now (args .b))) (args .part) (at-match-keys1 .match .keys1)) (line .ensures .0), line .ensures .1)
+    (same-text (update-lines (now (args .id)) (decode documentBounds (now (args .b))) (args .part) (at-match-keys1 .match .keys1)) (line .ensures .0), line .ensures .1)
 
 same-length-2 : tie.Need-same-length-2
 same-length-2 c = search needs
@@ -97,7 +98,7 @@ returns-id c =
     let at-start = enum-told→start at-enum-told in
     let args = at-start .args in
     let line = at-bytes-line .bytes-line in
-    (same-text (ap (λ (p : Part). lineBy p (now (args .id)) (decode (now (args .b)))) (sym (at-enum-told .enum-told .given .1))) (line .ensures .0), line .ensures .1)
+    (same-text (ap (λ (p : Part). lineBy p (now (args .id)) (decode documentBounds (now (args .b)))) (sym (at-enum-told .enum-told .given .1))) (line .ensures .0), line .ensures .1)
 
 same-length-3 : tie.Need-same-length-3
 same-length-3 c = search needs
@@ -110,7 +111,7 @@ returns-set c =
     let at-start = enum-told2→start at-enum-told2 in
     let args = at-start .args in
     let line = at-author-line2 .author-line2 in
-    (same-text (set-line (decode (now (args .b))) (at-tag-of .tag-of .ensures .0) ∙ ap (λ (p : Part). lineBy p (now (args .id)) (decode (now (args .b)))) (sym (at-enum-told2 .enum-told2 .given .1))) (line .ensures .0), line .ensures .1)
+    (same-text (set-line (decode documentBounds (now (args .b))) (at-tag-of .tag-of .ensures .0) ∙ ap (λ (p : Part). lineBy p (now (args .id)) (decode documentBounds (now (args .b)))) (sym (at-enum-told2 .enum-told2 .given .1))) (line .ensures .0), line .ensures .1)
 
 same-length-4 : tie.Need-same-length-4
 same-length-4 c = search needs
@@ -123,7 +124,7 @@ returns-value c =
     let at-start = enum-told3→start at-enum-told3 in
     let args = at-start .args in
     let line = at-bytes-line2 .bytes-line2 in
-    (same-text (ap bytesLine (at-value-of .value-of .ensures .0) ∙ ap (λ (p : Part). lineBy p (now (args .id)) (decode (now (args .b)))) (sym (at-enum-told3 .enum-told3 .given .1))) (line .ensures .0), line .ensures .1)
+    (same-text (ap bytesLine (at-value-of .value-of .ensures .0) ∙ ap (λ (p : Part). lineBy p (now (args .id)) (decode documentBounds (now (args .b)))) (sym (at-enum-told3 .enum-told3 .given .1))) (line .ensures .0), line .ensures .1)
 
 pub line-by-spec : {M : Type 1} → statement M
 line-by-spec =

@@ -25,9 +25,6 @@ slice-aggregate-put c = search needs
 put-requires : tie.Need-put-requires
 put-requires c κs = search needs
 
-cast-decimal : tie.Need-cast-decimal
-cast-decimal c = search needs
-
 decimal-requires : tie.Need-decimal-requires
 decimal-requires c κs = search needs
 
@@ -54,4 +51,4 @@ returns c =
 pub mark-line-spec : {M : Type 1} → statement M
 mark-line-spec =
     tie.close
-    (tie.spec slice-aggregate-put put-requires cast-decimal decimal-requires mark-end-requires same-length returns)
+    (tie.spec slice-aggregate-put put-requires decimal-requires mark-end-requires same-length returns)

@@ -2,6 +2,7 @@
 use native.Mathlib.Omega.{arith}
 use borrow.Author.Needs.{needs}
 use denote.Ref.{now}
+use Rattle.update_format.specs.Update.{documentBounds}
 use Rattle.update_fields.specs.FieldLaws.{author-small}
 use Rattle.update_fields.proofs.FieldsRead.{author-laid}
 use Rattle.update_fields.proofs.author_of.Statement.{statement}
@@ -15,4 +16,4 @@ author-of-spec =
     (λ c.
     let args = c .before .before .args in
     let e = author-laid (now (args .b)) (c .layout-of .ensures) in
-    (e, omega (arith, e, author-small (now (args .b))))))
+    (e, omega (arith, e, author-small documentBounds (omega arith) (now (args .b))))))

@@ -8,6 +8,7 @@ use native.Mathlib.Omega.{arith}
 use borrow.Author.Needs.{needs}
 use lib.ListN.{getD}
 use denote.Ref.{now}
+use Rattle.update_format.specs.Update.{documentBounds}
 use Rattle.update_format.specs.Decode.{authorOf, countOf, row2, row3, row4, decode}
 use Rattle.update_format.specs.ParseResult.{decodedOf, parseOf, parse-decodes}
 use Rattle.update_format.specs.declared.ParseResult.{ParseResult}
@@ -17,8 +18,8 @@ use Rattle.update_parsing.proofs.read.Statement.{statement}
 use Rattle.update_parsing.proofs.read.Tie as tie
 
 -- both clauses, from the second
-both : (b : List ℕ) (r : ParseResult) → r ≡ parseOf b → (decodedOf b r ≡ decode b) × (r ≡ parseOf b)
-both b r e = (ap (decodedOf b) e ∙ parse-decodes b, e)
+both : (b : List ℕ) (r : ParseResult) → r ≡ parseOf documentBounds b → (decodedOf b r ≡ decode documentBounds b) × (r ≡ parseOf documentBounds b)
+both b r e = (ap (decodedOf b) e ∙ parse-decodes documentBounds b, e)
 
 -- the bytes, as the place behind row 2 has them
 abbrev bytes : tie.Else2 → List ℕ
@@ -41,20 +42,20 @@ author h = ap (λ (r : Header). r .author) (h .read-header .ensures)
 count : (h : tie.After-read-header) → h .read-header .result .count ≡ countOf (bytes (h .before))
 count h = ap (λ (r : Header). r .count) (h .read-header .ensures)
 
-row2-passed : (e : tie.Else2) → row2 (bytes e) ≡ false
-row2-passed e = row2-no (bytes e) (omega arith) (omega arith)
+row2-passed : (e : tie.Else2) → row2 documentBounds (bytes e) ≡ false
+row2-passed e = row2-no documentBounds (bytes e) (omega arith) (omega arith)
 
 row3-passed : (c : tie.Else3) → row3 (bytes (at-author c .before)) ≡ false
 row3-passed c = row3-no (bytes (at-author c .before)) (omega (arith, version (at-author c)))
 
-row4-passed : (c : tie.Else4) → row4 (bytes (at-count c .before)) ≡ false
-row4-passed c = row4-no (bytes (at-count c .before)) (omega (arith, author (at-count c)))
+row4-passed : (c : tie.Else4) → row4 documentBounds (bytes (at-count c .before)) ≡ false
+row4-passed c = row4-no documentBounds (bytes (at-count c .before)) (omega (arith, author (at-count c)))
 
 returns : tie.Need-returns
-returns c = let s = now (c .before .before .args .s) in both s _ (row2-short s (omega arith))
+returns c = let s = now (c .before .before .args .s) in both s _ (row2-short documentBounds s (omega arith))
 
 returns-2 : tie.Need-returns-2
-returns-2 c = let s = now (c .before .before .before .args .s) in both s _ (row2-long s (omega arith) (omega arith))
+returns-2 c = let s = now (c .before .before .before .args .s) in both s _ (row2-long documentBounds s (omega arith) (omega arith))
 
 read-header-requires : tie.Need-read-header-requires
 read-header-requires c κs = search needs
@@ -63,21 +64,21 @@ returns-3 : tie.Need-returns-3
 returns-3 c =
     let h = c .before .before in
     let e = h .before in
-    both (bytes e) _ (row3-yes (bytes e) (row2-passed e) (λ v. c .if3 .taken (version h ∙ v)))
+    both (bytes e) _ (row3-yes documentBounds (bytes e) (row2-passed e) (λ v. c .if3 .taken (version h ∙ v)))
 
 returns-4 : tie.Need-returns-4
 returns-4 c =
     let v = c .before .before in
     let h = at-author v in
     let e = h .before in
-    both (bytes e) _ (row4-yes (bytes e) (row2-passed e) (row3-passed v) (omega (arith, author h)))
+    both (bytes e) _ (row4-yes documentBounds (bytes e) (row2-passed e) (row3-passed v) (omega (arith, author h)))
 
 returns-5 : tie.Need-returns-5
 returns-5 c =
     let a = c .before .before in
     let h = at-count a in
     let e = h .before in
-    both (bytes e) _ (row5-yes (bytes e) (row2-passed e) (row3-passed (a .before .before)) (row4-passed a) (omega (arith, count h)))
+    both (bytes e) _ (row5-yes documentBounds (bytes e) (row2-passed e) (row3-passed (a .before .before)) (row4-passed a) (omega (arith, count h)))
 
 read-requires : tie.Need-read-requires
 read-requires c κs = record { found = at-count (c .before .before) .read-header .ensures; few = omega arith }
@@ -88,7 +89,7 @@ returns-6 c =
     let h = at-count a in
     let e = h .before in
     both (bytes e) _
-    (c .read .ensures ∙ row5-no (bytes e) (row2-passed e) (row3-passed (a .before .before)) (row4-passed a) (omega (arith, count h)))
+    (c .read .ensures ∙ row5-no documentBounds (bytes e) (row2-passed e) (row3-passed (a .before .before)) (row4-passed a) (omega (arith, count h)))
 
 pub read-spec : {M : Type 1} → statement M
 read-spec = tie.close (tie.spec returns returns-2 read-header-requires returns-3 returns-4 returns-5 read-requires returns-6)

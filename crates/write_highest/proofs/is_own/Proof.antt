@@ -4,6 +4,7 @@ use mathlib.Core.Path.{ap, _∙_}
 use mathlib.Core.List.{List}
 use borrow.Author.Needs.{needs}
 use denote.Ref.{now}
+use Rattle.update_format.specs.Update.{documentBounds}
 use Rattle.update_format.specs.Decode.{decode}
 use Rattle.update_fields.specs.Fields.{authorIn}
 use Rattle.ledger_state.specs.View.{bookOf}
@@ -48,7 +49,7 @@ returns c =
     let at-enum-told = at-stored .before in
     let at-start = enum-told→start at-enum-told in
     let args = at-start .args in
-    own-held (bookOf (args .t1)) (now (args .store)) (args .author) (args .k) (at-enum-told .enum-told .given .1) (c .author-of .ensures .0 ∙ ap (λ (b : List ℕ). authorIn (decode b)) (at-stored .stored .ensures))
+    own-held (bookOf (args .t1)) (now (args .store)) (args .author) (args .k) (at-enum-told .enum-told .given .1) (c .author-of .ensures .0 ∙ ap (λ (b : List ℕ). authorIn (decode documentBounds b)) (at-stored .stored .ensures))
 
 returns-2 : tie.Need-returns-2
 returns-2 c =

@@ -28,8 +28,8 @@ t→top c = c .before .before
 abbrev enum-told→top : tie.After-enum-told → tie.After-top
 enum-told→top c = c .before .before
 
-abbrev eight-above→t : tie.After-eight-above → tie.After-t
-eight-above→t c = c .before .before
+abbrev most-above→t : tie.After-most-above → tie.After-t
+most-above→t c = c .before .before
 
 heads-requires : tie.Need-heads-requires
 heads-requires c κs = search needs
@@ -49,8 +49,8 @@ top-requires c κs = search needs
 enum-known-t : tie.Need-enum-known-t
 enum-known-t c = search needs
 
-eight-above-requires : tie.Need-eight-above-requires
-eight-above-requires c κs =
+most-above-requires : tie.Need-most-above-requires
+most-above-requires c κs =
     let at-t = c .before in
     let at-top = t→top at-t in
     let in-else1 = at-top .before in
@@ -80,7 +80,7 @@ first-requires c κs =
 
 returns-2 : tie.Need-returns-2
 returns-2 c =
-    let at-t = eight-above→t c in
+    let at-t = most-above→t c in
     let at-top = t→top at-t in
     let in-else1 = at-top .before in
     let at-heads = else1→heads in-else1 in
@@ -90,8 +90,8 @@ returns-2 c =
     let if1 = in-else1 .if1 in
     let top = at-top .top in
     let t = at-t .t in
-    let eight-above = c .eight-above in
-    (renamed (chosen-many (bookOf (args .l)) (now (args .store)) (heads .result) (heads .ensures) (args .author) _ (if1 .left) (found-at (topBelow (bookOf (args .l)) (now (args .store)) (args .author) (args .l .used)) _ (sym (top .ensures) ∙ t .given .1))) (eight-above .ensures .0), eight-above .ensures .1)
+    let most-above = c .most-above in
+    (renamed (chosen-many (bookOf (args .l)) (now (args .store)) (heads .result) (heads .ensures) (args .author) _ (if1 .left) (found-at (topBelow (bookOf (args .l)) (now (args .store)) (args .author) (args .l .used)) _ (sym (top .ensures) ∙ t .given .1))) (most-above .ensures .0), most-above .ensures .1)
 
 returns-3 : tie.Need-returns-3
 returns-3 c =
@@ -110,4 +110,4 @@ returns-3 c =
 pub chosen-spec : {M : Type 1} → statement M
 chosen-spec =
     tie.close
-    (tie.spec heads-requires returns top-requires enum-known-t eight-above-requires enum-told first-requires returns-2 returns-3)
+    (tie.spec heads-requires returns top-requires enum-known-t most-above-requires enum-told first-requires returns-2 returns-3)

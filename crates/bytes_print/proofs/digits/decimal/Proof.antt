@@ -1,93 +1,100 @@
--- `decimal` meets its contract.
-use Prim.Native.Nat.{ℕ}
-use mathlib.Core.Path.{ap, ap₂, _∙_}
-use mathlib.Core.List.{[], _∷_}
+-- `decimal` meets its contract. The loop's invariant: the digits of n are those of the rest and then those that the text has. The rest falls.
+use mathlib.Core.Path.{refl}
+use mathlib.Core.List.{append-nil}
 use native.Mathlib.Omega.{arith}
+use lib.ListN.{length-set}
 use borrow.Author.Needs.{needs}
+use Rattle.bytes_ascii.specs.AsciiLaws.{decimal-length}
+use Rattle.bytes_print.proofs.DecimalLaws.{Spelled, more-room, spelled-more, spelled-all}
 use Rattle.bytes_print.proofs.Printing.{same-text}
-use Rattle.bytes_ascii.specs.AsciiLaws.{decimal-one, decimal-two}
 use Rattle.bytes_print.proofs.digits.decimal.Statement.{statement}
 use Rattle.bytes_print.proofs.digits.decimal.Tie as tie
 
+abbrev Inv-loop : tie.InvT-loop
+Inv-loop page at n text₀ first₀ rest₀ text first rest = Spelled n text first rest
+
+abbrev μ-loop : tie.MeasureT-loop
+μ-loop page at n text₀ first₀ rest₀ text first rest = rest
+
 -- places of the code, each from a later one
-abbrev then1→start : tie.Then1 → tie.Start
-then1→start c = c .before .before
+abbrev loop→start : tie.At-loop Inv-loop μ-loop → tie.Start Inv-loop μ-loop
+loop→start c = c .before .before
 
-abbrev else1→start : tie.Else1 → tie.Start
-else1→start c = c .before .before
+abbrev digit→loop : tie.After-digit Inv-loop μ-loop → tie.At-loop Inv-loop μ-loop
+digit→loop c = c .before .before
 
-abbrev put→digit : tie.After-put → tie.After-digit
-put→digit c = c .before .before .before
+abbrev digit2→loop : tie.After-digit2 Inv-loop μ-loop → tie.At-loop Inv-loop μ-loop
+digit2→loop c = c .before .before
 
-abbrev put2→digit3 : tie.After-put2 → tie.After-digit3
-put2→digit3 c = c .before .before .before
+abbrev text→digit2 : tie.After-text Inv-loop μ-loop → tie.After-digit2 Inv-loop μ-loop
+text→digit2 c = c .before .before
 
-abbrev slice-known2→put : tie.After-slice-known2 → tie.After-put
+abbrev put→text : tie.After-put Inv-loop μ-loop → tie.After-text Inv-loop μ-loop
+put→text c = c .before .before
+
+abbrev slice-known2→put : tie.After-slice-known2 Inv-loop μ-loop → tie.After-put Inv-loop μ-loop
 slice-known2→put c = c .before .before
 
-abbrev slice-known3→put2 : tie.After-slice-known3 → tie.After-put2
-slice-known3→put2 c = c .before .before
+loop-holds : tie.Need-loop-holds Inv-loop μ-loop
+loop-holds c =
+    record { text-length = refl; first-within = search needs; rest-within = omega arith; spelled = append-nil _ }
 
-digit-requires : tie.Need-digit-requires
+cast-digit : tie.Need-cast-digit Inv-loop μ-loop
+cast-digit c = search needs
+
+digit-requires : tie.Need-digit-requires Inv-loop μ-loop
 digit-requires c κs = search needs
 
-slice-aggregate-put : tie.Need-slice-aggregate-put
-slice-aggregate-put c = search needs
+array-write-text : tie.Need-array-write-text Inv-loop μ-loop
+array-write-text c = search needs
 
-put-requires : tie.Need-put-requires
-put-requires c κs = search needs
+sub-first : tie.Need-sub-first Inv-loop μ-loop
+sub-first c = more-room (digit→loop c .loop .inv) (omega arith)
 
-same-length : tie.Need-same-length
-same-length c = search needs
+loop-less : tie.Need-loop-less Inv-loop μ-loop
+loop-less c = search needs
 
-returns : tie.Need-returns
-returns c =
-    let at-put = slice-known2→put c in
-    let at-digit = put→digit at-put in
-    let in-then1 = at-digit .before in
-    let at-start = then1→start in-then1 in
-    let args = at-start .args in
-    let if1 = in-then1 .if1 in
-    let digit′ = at-digit .digit in
-    let put′ = at-put .put in (
-      same-text (ap (λ (x : ℕ). x ∷ []) (digit′ .ensures) ∙ decimal-one (args .n) (if1 .taken)) (put′ .ensures),
-      omega (arith, put′ .ensures .past),
-    )
+loop-again : tie.Need-loop-again Inv-loop μ-loop
+loop-again c = spelled-more (digit→loop c .loop .inv) (omega arith) (c .digit .ensures)
 
-digit-requires-2 : tie.Need-digit-requires-2
+cast-digit-2 : tie.Need-cast-digit-2 Inv-loop μ-loop
+cast-digit-2 c = search needs
+
+digit-requires-2 : tie.Need-digit-requires-2 Inv-loop μ-loop
 digit-requires-2 c κs = search needs
 
-digit-requires-3 : tie.Need-digit-requires-3
-digit-requires-3 c κs = search needs
+array-write-text-2 : tie.Need-array-write-text-2 Inv-loop μ-loop
+array-write-text-2 c = search needs
 
-slice-aggregate-put-2 : tie.Need-slice-aggregate-put-2
-slice-aggregate-put-2 c = search needs
+sub-put : tie.Need-sub-put Inv-loop μ-loop
+sub-put c = search needs
 
-put-requires-2 : tie.Need-put-requires-2
-put-requires-2 c κs = search needs
+part-put-start : tie.Need-part-put-start Inv-loop μ-loop
+part-put-start c = search needs
 
-same-length-2 : tie.Need-same-length-2
-same-length-2 c = search needs
+part-put-end : tie.Need-part-put-end Inv-loop μ-loop
+part-put-end c =
+    let at-digit2 = text→digit2 c in
+    let loop = digit2→loop at-digit2 .loop in
+    omega (arith, length-set (loop .text) (loop .first) (at-digit2 .digit2 .result), loop .inv .text-length)
 
-returns-2 : tie.Need-returns-2
-returns-2 c =
-    let at-put2 = slice-known3→put2 c in
-    let at-digit3 = put2→digit3 at-put2 in
-    let at-digit2 = at-digit3 .before in
-    let in-else1 = at-digit2 .before in
-    let at-start = else1→start in-else1 in
-    let args = at-start .args in
-    let pre = at-start .pre in
-    let if1 = in-else1 .if1 in
-    let digit2 = at-digit2 .digit2 in
-    let digit3 = at-digit3 .digit3 in
-    let put2 = at-put2 .put2 in (
-      same-text (ap₂ (λ (x y : ℕ). x ∷ y ∷ []) (digit2 .ensures) (digit3 .ensures) ∙ decimal-two (args .n) (if1 .left) (pre .two-digits)) (put2 .ensures),
-      omega (arith, put2 .ensures .past),
-    )
+put-requires : tie.Need-put-requires Inv-loop μ-loop
+put-requires c κs = search needs
+
+same-length : tie.Need-same-length Inv-loop μ-loop
+same-length c = search needs
+
+returns : tie.Need-returns Inv-loop μ-loop
+returns c =
+    let at-put = slice-known2→put c in
+    let at-digit2 = text→digit2 (put→text at-put) in
+    let at-loop = digit2→loop at-digit2 in
+    let at-start = loop→start at-loop in
+    let printed = same-text (spelled-all (at-loop .loop .inv) (omega (arith, at-digit2 .before .loop-test .left)) (at-digit2 .digit2 .ensures)) (at-put .put .ensures) in
+    (printed, omega (arith, printed .past, decimal-length 4 (at-start .args .n) (omega arith) (at-start .pre .number-within)))
 
 pub decimal-spec : {M : Type 1} → statement M
 decimal-spec =
     tie.close
-    (tie.spec digit-requires slice-aggregate-put put-requires same-length returns digit-requires-2 digit-requires-3 slice-aggregate-put-2
-    put-requires-2 same-length-2 returns-2)
+    (tie.spec Inv-loop μ-loop loop-holds cast-digit digit-requires array-write-text sub-first loop-less loop-again cast-digit-2 digit-requires-2
+    array-write-text-2 sub-put part-put-start part-put-end put-requires same-length returns)

@@ -4,6 +4,7 @@ use mathlib.Core.Bool.{true}
 use borrow.Author.Needs.{needs}
 use denote.Ref.{now}
 use Rattle.bytes_order.specs.Compare.{orderOf}
+use Rattle.ledger_state.specs.State.{documentTerms}
 use Rattle.ledger_state.specs.View.{placeOf}
 use Rattle.ledger_sorting.specs.declared.Key.{Key}
 use Rattle.ledger_sorting.specs.PlaceLists.{keyIn, hasKey}
@@ -34,8 +35,8 @@ compare-entries-requires c κs =
     let chosen = c .enum-told2 .given .1 in
     record {
       two-places = pre .two-places;
-      own-keyed = subst (λ (y : Key). hasKey (now (args .store)) y (placeOf (args .own)) (args .j) ≡ true) chosen (pre .own-keyed);
-      other-keyed = subst (λ (y : Key). hasKey (now (args .store)) y (placeOf (args .other)) (args .k) ≡ true) chosen (pre .other-keyed);
+      own-keyed = subst (λ (y : Key). hasKey documentTerms (now (args .store)) y (placeOf (args .own)) (args .j) ≡ true) chosen (pre .own-keyed);
+      other-keyed = subst (λ (y : Key). hasKey documentTerms (now (args .store)) y (placeOf (args .other)) (args .k) ≡ true) chosen (pre .other-keyed);
     }
 
 returns : tie.Need-returns
@@ -43,14 +44,14 @@ returns c =
     let at-enum-told = c .before in
     let at-start = enum-told→start at-enum-told in
     let args = at-start .args in
-    c .compare-ids .ensures ∙ ap (λ (y : Key). orderOf (keyIn (now (args .store)) y (placeOf (args .own)) (args .j)) (keyIn (now (args .store)) y (placeOf (args .other)) (args .k))) (sym (at-enum-told .enum-told .given .1))
+    c .compare-ids .ensures ∙ ap (λ (y : Key). orderOf (keyIn documentTerms (now (args .store)) y (placeOf (args .own)) (args .j)) (keyIn documentTerms (now (args .store)) y (placeOf (args .other)) (args .k))) (sym (at-enum-told .enum-told .given .1))
 
 returns-2 : tie.Need-returns-2
 returns-2 c =
     let at-enum-told2 = c .before in
     let at-start = enum-told2→start at-enum-told2 in
     let args = at-start .args in
-    c .compare-entries .ensures ∙ ap (λ (y : Key). orderOf (keyIn (now (args .store)) y (placeOf (args .own)) (args .j)) (keyIn (now (args .store)) y (placeOf (args .other)) (args .k))) (sym (at-enum-told2 .enum-told2 .given .1))
+    c .compare-entries .ensures ∙ ap (λ (y : Key). orderOf (keyIn documentTerms (now (args .store)) y (placeOf (args .own)) (args .j)) (keyIn documentTerms (now (args .store)) y (placeOf (args .other)) (args .k))) (sym (at-enum-told2 .enum-told2 .given .1))
 
 pub compare-spec : {M : Type 1} → statement M
 compare-spec =

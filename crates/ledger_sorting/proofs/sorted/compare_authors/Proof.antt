@@ -3,6 +3,7 @@ use Prim.Native.Nat.{ℕ}
 use mathlib.Core.Path.{ap, ap₂, _∙_}
 use mathlib.Core.List.{List, [], _∷_}
 use borrow.Author.Needs.{needs}
+use Rattle.update_format.specs.Update.{documentBounds}
 use Rattle.bytes_order.specs.Compare.{orderOf}
 use Rattle.update_format.specs.Decode.{decode}
 use Rattle.update_fields.specs.Fields.{authorIn}
@@ -42,8 +43,8 @@ returns c =
     let at-stored = at-author-of .before in
     c .compare .ensures
     ∙ ap₂ (λ (a b : ℕ). orderOf (a ∷ []) (b ∷ []))
-    (at-author-of .author-of .ensures .0 ∙ ap (λ (b : List ℕ). authorIn (decode b)) (at-stored .stored .ensures))
-    (at-author-of2 .author-of2 .ensures .0 ∙ ap (λ (b : List ℕ). authorIn (decode b)) (at-stored2 .stored2 .ensures))
+    (at-author-of .author-of .ensures .0 ∙ ap (λ (b : List ℕ). authorIn (decode documentBounds b)) (at-stored .stored .ensures))
+    (at-author-of2 .author-of2 .ensures .0 ∙ ap (λ (b : List ℕ). authorIn (decode documentBounds b)) (at-stored2 .stored2 .ensures))
 
 pub compare-authors-spec : {M : Type 1} → statement M
 compare-authors-spec =

@@ -1,6 +1,7 @@
 -- `compare_entries` meets its contract, by how the tags stand to each other.
 use mathlib.Core.Path.{sym, _∙_}
 use borrow.Author.Needs.{needs}
+use Rattle.update_format.specs.Update.{documentBounds}
 use Rattle.ledger_sorting.proofs.Keys.{set-entries-order}
 use Rattle.ledger_sorting.proofs.sorted.compare_entries.Statement.{statement}
 use Rattle.ledger_sorting.proofs.sorted.compare_entries.Tie as tie
@@ -38,7 +39,7 @@ returns c =
     let at-compare-tags = enum-told→compare-tags c in
     let at-start = compare-tags→start at-compare-tags in
     let pre = at-start .pre in
-    set-entries-order _ _ (pre .own-keyed) (pre .other-keyed) (sym (c .enum-told .given .1) ∙ at-compare-tags .compare-tags .ensures)
+    set-entries-order documentBounds _ _ (pre .own-keyed) (pre .other-keyed) (sym (c .enum-told .given .1) ∙ at-compare-tags .compare-tags .ensures)
 
 returns-2 : tie.Need-returns-2
 returns-2 c =
@@ -46,14 +47,14 @@ returns-2 c =
     let at-compare-tags = enum-told2→compare-tags at-enum-told2 in
     let at-start = compare-tags→start at-compare-tags in
     let pre = at-start .pre in
-    c .compare-authors .ensures ∙ set-entries-order _ _ (pre .own-keyed) (pre .other-keyed) (sym (at-enum-told2 .enum-told2 .given .1) ∙ at-compare-tags .compare-tags .ensures)
+    c .compare-authors .ensures ∙ set-entries-order documentBounds _ _ (pre .own-keyed) (pre .other-keyed) (sym (at-enum-told2 .enum-told2 .given .1) ∙ at-compare-tags .compare-tags .ensures)
 
 returns-3 : tie.Need-returns-3
 returns-3 c =
     let at-compare-tags = enum-told3→compare-tags c in
     let at-start = compare-tags→start at-compare-tags in
     let pre = at-start .pre in
-    set-entries-order _ _ (pre .own-keyed) (pre .other-keyed) (sym (c .enum-told3 .given .1) ∙ at-compare-tags .compare-tags .ensures)
+    set-entries-order documentBounds _ _ (pre .own-keyed) (pre .other-keyed) (sym (c .enum-told3 .given .1) ∙ at-compare-tags .compare-tags .ensures)
 
 pub compare-entries-spec : {M : Type 1} → statement M
 compare-entries-spec =

@@ -3,6 +3,7 @@ use Prim.Native.Nat.{ℕ}
 use mathlib.Core.Path.{ap, ap₂, _∙_}
 use mathlib.Core.List.{List}
 use borrow.Author.Needs.{needs}
+use Rattle.update_format.specs.Update.{documentBounds}
 use Rattle.bytes_order.specs.Compare.{orderOf}
 use Rattle.update_format.specs.Decode.{decode}
 use Rattle.update_fields.specs.Fields.{tagIn}
@@ -31,7 +32,7 @@ returns c =
     let at-tag-of = at-stored2 .before in
     let at-stored = at-tag-of .before in
     let stored = at-stored .stored in
-    c .compare .ensures ∙ ap₂ orderOf (at-tag-of .tag-of .ensures .0 ∙ ap (λ (b : List ℕ). tagIn (decode b)) (stored .ensures)) (at-tag-of2 .tag-of2 .ensures .0 ∙ ap (λ (b : List ℕ). tagIn (decode b)) (at-stored2 .stored2 .ensures))
+    c .compare .ensures ∙ ap₂ orderOf (at-tag-of .tag-of .ensures .0 ∙ ap (λ (b : List ℕ). tagIn (decode documentBounds b)) (stored .ensures)) (at-tag-of2 .tag-of2 .ensures .0 ∙ ap (λ (b : List ℕ). tagIn (decode documentBounds b)) (at-stored2 .stored2 .ensures))
 
 pub compare-tags-spec : {M : Type 1} → statement M
 compare-tags-spec =

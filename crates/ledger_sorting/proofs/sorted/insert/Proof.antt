@@ -7,7 +7,7 @@ use borrow.Author.Needs.{needs}
 use lib.ListN.{getD, take, drop}
 use denote.Ref.{now}
 use Rattle.bytes_order.specs.Sort.{insert}
-use Rattle.ledger_state.specs.State.{placeAt}
+use Rattle.ledger_state.specs.State.{documentTerms, placeAt}
 use Rattle.ledger_state.specs.View.{bookOf}
 use Rattle.ledger_sorting.specs.PlaceLists.{placesIn, hasKey, keyOf}
 use Rattle.ledger_sorting.proofs.Inserting.{next, passed, ended, below, listed-passes, renamed}
@@ -89,7 +89,7 @@ compare-requires c κs =
     record {
       two-places = record { first-within = pre .room-for .place-within; second-within = below (args .t4) (pre .room-for .is-list) i (search needs) };
       own-keyed = pre .own-keyed;
-      other-keyed = listed-passes (args .t4) (pre .room-for .is-list) i (λ (k : ℕ). hasKey (now (args .store)) (args .key) (placeAt (bookOf (args .t1)) k) k) (pre .listed-keyed) (search needs);
+      other-keyed = listed-passes (args .t4) (pre .room-for .is-list) i (λ (k : ℕ). hasKey documentTerms (now (args .store)) (args .key) (placeAt (bookOf (args .t1)) k) k) (pre .listed-keyed) (search needs);
     }
 
 enum-told : tie.Need-enum-told Inv-loop μ-loop

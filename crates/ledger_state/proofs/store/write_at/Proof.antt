@@ -1,9 +1,9 @@
 -- `write_at` meets its contract.
-use Prim.Native.Nat.{_*_, _-_}
+use Prim.Native.Nat.{_-_}
 use native.Mathlib.Nat.{le-refl}
 use denote.Ref.{now}
 use lib.ListN.{length}
-use Rattle.update_format.specs.Update.{maxLength}
+use Rattle.ledger_state.specs.State.{documentTerms, startOf}
 use borrow.Author.Needs.{needs}
 use Rattle.bytes_copy.specs.OverwrittenLaws.{put-back}
 use Rattle.ledger_state.proofs.store.write_at.Statement.{statement}
@@ -35,11 +35,12 @@ same-length : tie.Need-same-length
 same-length c = search needs
 
 returns : tie.Need-returns
+unfolding startOf
 returns c =
     let at-copy = slice-known2→copy c in
     let at-start = copy→start at-copy in
     let a = at-start .args in
-    let at = maxLength * a .k in
+    let at = startOf documentTerms (a .k) in
     put-back (now (a .store)) at (length (now (a .store)) - at) (now (a .update)) (le-refl _) (at-copy .copy .ensures)
 
 pub write-at-spec : {M : Type 1} → statement M

@@ -4,6 +4,7 @@ use mathlib.Core.Path.{ap, _∙_}
 use mathlib.Core.List.{List}
 use borrow.Author.Needs.{needs}
 use denote.Ref.{now}
+use Rattle.update_format.specs.Update.{documentBounds}
 use Rattle.update_format.specs.Decode.{decode}
 use Rattle.update_fields.specs.Fields.{anchorIn}
 use Rattle.ledger_sorting.specs.PlaceLists.{placesIn}
@@ -46,7 +47,7 @@ returns c =
     let args = at-start .args in
     let anchor-of = at-anchor-of .anchor-of in
     let stored = at-stored .stored in
-    (search needs, put-first (bookOf (args .t1)) (now (args .store)) (args .k) (placesIn (args .entries)) (now (anchor-of .result)) (anchor-of .ensures ∙ ap (λ (b : List ℕ). anchorIn (decode b)) (stored .ensures)) (at-same .same .ensures) (c .if1 .taken))
+    (search needs, put-first (bookOf (args .t1)) (now (args .store)) (args .k) (placesIn (args .entries)) (now (anchor-of .result)) (anchor-of .ensures ∙ ap (λ (b : List ℕ). anchorIn (decode documentBounds b)) (stored .ensures)) (at-same .same .ensures) (c .if1 .taken))
 
 index-after-requires : tie.Need-index-after-requires
 index-after-requires c κs =
@@ -65,7 +66,7 @@ returns-2 c =
     let args = at-start .args in
     let anchor-of = at-anchor-of .anchor-of in
     let stored = at-stored .stored in
-    (index-after .ensures .0, index-after .ensures .1 (now (args .store)) (args .k) ∙ put-after (bookOf (args .t1)) (now (args .store)) (args .k) (placesIn (args .entries)) (now (anchor-of .result)) (anchor-of .ensures ∙ ap (λ (b : List ℕ). anchorIn (decode b)) (stored .ensures)) (at-same .same .ensures) (in-else1 .if1 .left))
+    (index-after .ensures .0, index-after .ensures .1 (now (args .store)) (args .k) ∙ put-after (bookOf (args .t1)) (now (args .store)) (args .k) (placesIn (args .entries)) (now (anchor-of .result)) (anchor-of .ensures ∙ ap (λ (b : List ℕ). anchorIn (decode documentBounds b)) (stored .ensures)) (at-same .same .ensures) (in-else1 .if1 .left))
 
 pub index-of-spec : {M : Type 1} → statement M
 index-of-spec =

@@ -2,8 +2,10 @@
 use Prim.Native.Nat.{ℕ}
 use mathlib.Core.Path.{ap, _∙_}
 use mathlib.Core.List.{List}
+use native.Mathlib.Omega.{arith}
 use borrow.Author.Needs.{needs}
 use denote.Ref.{now}
+use Rattle.update_format.specs.Update.{documentBounds}
 use Rattle.update_format.specs.Decode.{decode}
 use Rattle.bitset.specs.Bits.{wordBits, includingBelow}
 use Rattle.update_fields.specs.Fields.{authorIn}
@@ -52,7 +54,7 @@ returns c =
     let is-evidence = at-is-evidence .is-evidence in
     let if1 = in-then1 .if1 in
     let author-of = at-author-of .author-of in
-    λ a. author-added (bookOf (args .t1)) (now (args .store)) (args .evidence) (args .authors) (args .k) a (is-evidence .ensures) (if1 .taken) (author-of .ensures .0 ∙ ap (λ (b : List ℕ). authorIn (decode b)) (at-stored .stored .ensures)) (author-of .ensures .1) (c .including .ensures ∙ ap (includingBelow wordBits (args .authors)) (at-wide .wide .ensures))
+    λ a. author-added (bookOf (args .t1)) (now (args .store)) (args .evidence) wordBits (args .authors) (args .k) a (is-evidence .ensures) (if1 .taken) (author-of .ensures .0 ∙ ap (λ (b : List ℕ). authorIn (decode documentBounds b)) (at-stored .stored .ensures)) (omega (arith, author-of .ensures .1)) (c .including .ensures ∙ ap (includingBelow wordBits (args .authors)) (at-wide .wide .ensures))
 
 returns-2 : tie.Need-returns-2
 returns-2 c =

@@ -1,5 +1,5 @@
 -- `lines` meets its contract. The loop's invariant: the lines of the authors below a that are in one of the sets are printed.
-use Prim.Native.Nat.{suc, _+_, _*_, _-_, _≤_}
+use Prim.Native.Nat.{_+_, _*_, _-_, _≤_}
 use mathlib.Core.Path.{_≡_, refl}
 use native.Mathlib.Omega.{arith}
 use borrow.Author.Needs.{needs}
@@ -8,7 +8,7 @@ use denote.Ref.{now}
 use Rattle.bytes_print.specs.Page.{Prints}
 use Rattle.bytes_print.proofs.Printing.{both, nothing, same-text}
 use Rattle.bitset.specs.Bits.{has}
-use Rattle.update_format.specs.Update.{maxAuthor}
+use Rattle.update_format.specs.Update.{documentBounds}
 use Rattle.report_wording.specs.Lines.{maxReportLine}
 use Rattle.report_text.proofs.MarkLaws.{linesBelow, lines-start, lines-more, lines-all}
 use Rattle.report_text.proofs.marks.lines.Statement.{statement}
@@ -16,10 +16,10 @@ use Rattle.report_text.proofs.marks.lines.Tie as tie
 
 abbrev Inv-loop : tie.InvT-loop
 Inv-loop forked faulty page₀ at end₀ a₀ page end a =
-    (a ≤ suc maxAuthor) × (length page ≡ length page₀) × (end ≤ at + maxReportLine * a) × Prints page₀ at (linesBelow (has forked) (has faulty) a) page end
+    (a ≤ documentBounds .authors) × (length page ≡ length page₀) × (end ≤ at + maxReportLine * a) × Prints page₀ at (linesBelow (has forked) (has faulty) a) page end
 
 abbrev μ-loop : tie.MeasureT-loop
-μ-loop forked faulty page₀ at end₀ a₀ page end a = suc maxAuthor - a
+μ-loop forked faulty page₀ at end₀ a₀ page end a = documentBounds .authors - a
 
 -- places of the code, each from a later one
 abbrev loop→start : tie.At-loop Inv-loop μ-loop → tie.Start Inv-loop μ-loop
@@ -70,7 +70,7 @@ returns c =
     let at-start = loop→start at-loop in
     let loop = at-loop .loop in
     let args = at-start .args in
-    (same-text (lines-all (has (args .forked)) (has (args .faulty)) (loop .a) (search needs) (search needs)) (loop .inv .3), omega arith)
+    (same-text (lines-all (has (args .forked)) (has (args .faulty)) (documentBounds .authors) (loop .a) (search needs) (search needs)) (loop .inv .3), omega arith)
 
 pub lines-spec : {M : Type 1} → statement M
 lines-spec =

@@ -1,6 +1,7 @@
 -- `print` meets its contract.
 use native.Mathlib.Omega.{arith}
 use borrow.Author.Needs.{needs}
+use Rattle.update_format.specs.Update.{documentBounds}
 use Rattle.bytes_print.proofs.Printing.{both, same-text}
 use Rattle.bitset.specs.Bits.{has}
 use Rattle.report_parts.specs.PlaceParts.{authorMarks}
@@ -46,7 +47,7 @@ returns c =
     let at-put = lines→put at-lines in
     let at-start = put→start at-put in
     let args = at-start .args in (
-      same-text (marks-is (authorMarks (has (args .forked)) (has (args .faulty)))) (both (at-put .put .ensures) (both (at-lines .lines .ensures .0) (at-put2 .put2 .ensures))),
+      same-text (marks-is (authorMarks (documentBounds .authors) (has (args .forked)) (has (args .faulty)))) (both (at-put .put .ensures) (both (at-lines .lines .ensures .0) (at-put2 .put2 .ensures))),
       omega (arith, at-put2 .put2 .ensures .past, at-lines .lines .ensures .1, at-put .put .ensures .past),
     )
 

@@ -5,7 +5,7 @@ use mathlib.Core.List.{List}
 use native.Mathlib.Omega.{arith}
 use borrow.Author.Needs.{needs}
 use lib.ListN.{length}
-use Rattle.update_format.specs.Update.{idLength}
+use Rattle.update_format.specs.Update.{documentBounds, idLength}
 use Rattle.update_format.specs.Decode.{decode}
 use Rattle.report_wording.specs.Lines.{lineBy}
 use Rattle.bytes_print.proofs.Printing.{same-text}
@@ -44,7 +44,7 @@ returns c =
     let at-start = stored→start at-stored in
     let args = at-start .args in
     let line-by = at-line-by .line-by in
-    (same-text (ap (λ (b : List ℕ). lineBy (args .part) (args .p .id) (decode b)) (at-stored .stored .ensures)) (line-by .ensures .0), line-by .ensures .1)
+    (same-text (ap (λ (b : List ℕ). lineBy (args .part) (args .p .id) (decode documentBounds b)) (at-stored .stored .ensures)) (line-by .ensures .0), line-by .ensures .1)
 
 pub line-spec : {M : Type 1} → statement M
 line-spec =

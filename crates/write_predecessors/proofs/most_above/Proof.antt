@@ -1,4 +1,4 @@
--- `eight_above` meets its contract, by where the first head at or above the place stands.
+-- `most_above` meets its contract, by where the first head at or above the place stands.
 use mathlib.Core.Path.{sym, _∙_}
 use native.Mathlib.Omega.{arith}
 use borrow.Author.Needs.{needs}
@@ -9,9 +9,9 @@ use Rattle.ledger_state.proofs.FindLaws.{found-at, found-nowhere}
 use Rattle.ledger_sorting.proofs.Inserting.{renamed, below}
 use Rattle.ledger_state.specs.View.{bookOf}
 use Rattle.write_predecessors.specs.Choose.{headsOf, aboveAt}
-use Rattle.write_predecessors.proofs.Choosing.{eight-none, eight-low, eight-high, found-below}
-use Rattle.write_predecessors.proofs.eight_above.Statement.{statement}
-use Rattle.write_predecessors.proofs.eight_above.Tie as tie
+use Rattle.write_predecessors.proofs.Choosing.{most-none, most-low, most-high, found-below}
+use Rattle.write_predecessors.proofs.most_above.Statement.{statement}
+use Rattle.write_predecessors.proofs.most_above.Tie as tie
 
 -- places of the code, each from a later one
 abbrev first-above→start : tie.After-first-above → tie.Start
@@ -118,7 +118,7 @@ returns c =
     let first-above = at-first-above .first-above in
     let j = at-j .j in
     let first = c .first in
-    (renamed (eight-low (bookOf (args .l)) (now (args .store)) (args .t3) (pre .heads-for .heads-listed) (args .t) _ (found-at (firstBelow (length (headsOf (bookOf (args .l)) (now (args .store)))) (aboveAt (bookOf (args .l)) (now (args .store)) (args .t))) _ (sym (first-above .ensures) ∙ j .given .1)) (in-then1 .if1 .taken)) (first .ensures .0), omega (arith, first .ensures .1))
+    (renamed (most-low (bookOf (args .l)) (now (args .store)) (args .t3) (pre .heads-for .heads-listed) (args .t) _ (found-at (firstBelow (length (headsOf (bookOf (args .l)) (now (args .store)))) (aboveAt (bookOf (args .l)) (now (args .store)) (args .t))) _ (sym (first-above .ensures) ∙ j .given .1)) (in-then1 .if1 .taken)) (first .ensures .0), omega (arith, first .ensures .1))
 
 returns-2 : tie.Need-returns-2
 returns-2 c =
@@ -135,7 +135,7 @@ returns-2 c =
     let first2 = at-first2 .first2 in
     let insert = c .insert in
     let g = found-below (bookOf (args .l)) (now (args .store)) (args .t3) (pre .heads-for .heads-listed) (args .t) (sym (first-above .ensures) ∙ j .given .1) in
-    (renamed (eight-high (bookOf (args .l)) (now (args .store)) (args .t3) (pre .heads-for .heads-listed) (args .t) _ (found-at (firstBelow (length (headsOf (bookOf (args .l)) (now (args .store)))) (aboveAt (bookOf (args .l)) (now (args .store)) (args .t))) _ (sym (first-above .ensures) ∙ j .given .1)) (if1 .left) g (first2 .ensures .0) (first2 .ensures .1)) (insert .ensures .0), omega (arith, insert .ensures .1, first2 .ensures .1))
+    (renamed (most-high (bookOf (args .l)) (now (args .store)) (args .t3) (pre .heads-for .heads-listed) (args .t) _ (found-at (firstBelow (length (headsOf (bookOf (args .l)) (now (args .store)))) (aboveAt (bookOf (args .l)) (now (args .store)) (args .t))) _ (sym (first-above .ensures) ∙ j .given .1)) (if1 .left) g (first2 .ensures .0) (first2 .ensures .1)) (insert .ensures .0), omega (arith, insert .ensures .1, first2 .ensures .1))
 
 returns-3 : tie.Need-returns-3
 returns-3 c =
@@ -146,10 +146,10 @@ returns-3 c =
     let pre = at-start .pre in
     let first-above = at-first-above .first-above in
     let first3 = c .first3 in
-    (renamed (eight-none (bookOf (args .l)) (now (args .store)) (args .t3) (pre .heads-for .heads-listed) (args .t) (found-nowhere (firstBelow (length (headsOf (bookOf (args .l)) (now (args .store)))) (aboveAt (bookOf (args .l)) (now (args .store)) (args .t))) (sym (first-above .ensures) ∙ at-enum-told .enum-told .given .1))) (first3 .ensures .0), omega (arith, first3 .ensures .1))
+    (renamed (most-none (bookOf (args .l)) (now (args .store)) (args .t3) (pre .heads-for .heads-listed) (args .t) (found-nowhere (firstBelow (length (headsOf (bookOf (args .l)) (now (args .store)))) (aboveAt (bookOf (args .l)) (now (args .store)) (args .t))) (sym (first-above .ensures) ∙ at-enum-told .enum-told .given .1))) (first3 .ensures .0), omega (arith, first3 .ensures .1))
 
-pub eight-above-spec : {M : Type 1} → statement M
-eight-above-spec =
+pub most-above-spec : {M : Type 1} → statement M
+most-above-spec =
     tie.close
     (tie.spec first-above-requires enum-known-j first-requires mul-h element-copy-out-h sub-first first-requires-2 sub-insert insert-requires
     enum-told first-requires-3 returns returns-2 returns-3)

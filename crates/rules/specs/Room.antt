@@ -1,0 +1,17 @@
+-- "There are 64 places. Every distinct well-formed update takes the next one and keeps it": for which updates there is room. Row 10 of document 01's table, "all 64 places
+-- taken", is said here alone; the view of a ledger has the same of its places (`roomIn`, ledger_state).
+use Prim.Native.Nat.{_≤_}
+use mathlib.Core.List.{List}
+use mathlib.Core.Bool.{Bool}
+use lib.ListN.{length}
+use lib.Dec.{ltb}
+use Rattle.update_format.specs.Update.{Update}
+use Rattle.rules.specs.Terms.{Terms}
+
+-- where the updates us are stored there is room for the new update u
+unfoldable pub hasRoom : Terms → List Update → Update → Bool
+hasRoom t us u = ltb (length us) (t .places)
+
+-- there is room for all of these updates together
+pub record RoomForAll (t : Terms) (us : List Update) : Type 0 where
+  pub few : length us ≤ t .places
