@@ -25,7 +25,7 @@ use update_format::Id;
 use update_format::Malformed;
 use update_format::ParseResult;
 use update_format::Tag;
-use update_format::bounds::MAX_AUTHOR;
+use update_format::numbers::MAX_AUTHOR;
 pub use write_asking::Wrote;
 use write_asking::write_asked;
 pub use write_operations::Kind;

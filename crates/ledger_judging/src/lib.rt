@@ -29,8 +29,8 @@ use rules::CausalOrder;
 use update_format::Operation;
 use update_format::ParseResult;
 use update_format::Parsed;
-use update_format::bounds::ID_LENGTH;
-use update_format::bounds::TAG_LENGTH;
+use update_format::numbers::ID_LENGTH;
+use update_format::numbers::TAG_LENGTH;
 
 // What the predecessors of an update say: whether all are held, whether some is void, their places, and their ancestors.
 pub struct Gathered {

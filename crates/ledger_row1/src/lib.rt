@@ -7,8 +7,8 @@ use ledger_state::Ledger;
 use ledger_state::PLACES;
 use ledger_state::Place;
 use ledger_state::STORE_LENGTH;
-use update_format::bounds::MAX_LENGTH;
-use update_format::bounds::MIN_LENGTH;
+use update_format::numbers::MAX_LENGTH;
+use update_format::numbers::MIN_LENGTH;
 
 // Whether a taken place's length and ancestors are possible ones.
 fn sound_place(used: usize, p: Place) -> bool

@@ -19,7 +19,7 @@ use ledger_state::places::has_standing;
 use ledger_state::store::stored;
 use update_format::Id;
 use update_format::ParseResult;
-use update_format::bounds::FIRST_PREDECESSOR;
+use update_format::numbers::FIRST_PREDECESSOR;
 
 // How far settling has come: the ledger; the places settled so far, in order, which are the first `held + void` elements of the worklist; and how many of them became held,
 // and how many void.

@@ -3,7 +3,7 @@ use Prim.Native.Nat.{ℕ}
 use mathlib.Core.Path.{_≡_, refl, sym, _∙_, ap}
 use mathlib.Core.List.{List, [], _∷_}
 use mathlib.Core.Bool.{true, not, _&&_}
-use Rattle.update_format.specs.Update.{Bounds}
+use Rattle.update_format.specs.declared.Bounds.{Bounds}
 use Rattle.bytes_order.specs.BoolLaws.{and-true→}
 use Rattle.bytes_order.specs.declared.Order.{Order}
 use Rattle.bytes_order.specs.Compare.{orderOf, thenBy}

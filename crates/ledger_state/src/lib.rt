@@ -9,8 +9,8 @@ ghost use Rattle.ledger_state.specs.Methods.{TakesPlace, ChangesStanding
 use bitset::Set;
 pub use rules::Standing;
 use update_format::Id;
-use update_format::bounds::ID_LENGTH;
-use update_format::bounds::MAX_LENGTH;
+use update_format::numbers::ID_LENGTH;
+use update_format::numbers::MAX_LENGTH;
 
 // How many places a ledger has.
 pub const PLACES: usize = 64;

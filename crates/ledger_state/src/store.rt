@@ -6,7 +6,7 @@ ghost use Rattle.update_format.specs.Decode.{slice};
 ghost use Rattle.ledger_state.specs.State.{places, documentTerms, startOf};
 ghost use Rattle.ledger_state.specs.Bounds.{WritableAt};
 use bytes_copy::copy;
-use update_format::bounds::MAX_LENGTH;
+use update_format::numbers::MAX_LENGTH;
 
 // Writes one update into place k: "no other byte changes".
 pub fn write_at(store: &mut [u8], k: usize, update: &[u8])

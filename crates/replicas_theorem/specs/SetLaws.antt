@@ -9,7 +9,8 @@ use Rattle.bytes_order.specs.Distinct.{Distinct}
 use Rattle.bytes_order.specs.DistinctLaws.{distinct-map}
 use Rattle.bytes_order.specs.SortLaws.{∈-sort, sort-∈, sort-ascending, sort-distinct, ascending-unique}
 use Rattle.sha256_fips180.specs.Fips180.{SHA-256}
-use Rattle.update_format.specs.Update.{Bounds, Update, encode}
+use Rattle.update_format.specs.declared.Bounds.{Bounds}
+use Rattle.update_format.specs.Update.{Update, encode}
 use Rattle.update_format.specs.Decode.{Decoded, refused, update, decode, updateOf}
 use Rattle.update_format.specs.Rows.{update-none}
 use Rattle.update_format.specs.Laws.{decode-sound}

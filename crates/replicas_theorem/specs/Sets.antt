@@ -6,7 +6,8 @@ use mathlib.Core.Bool.{Bool, true, false}
 use Rattle.bytes_order.specs.Member.{_∈_, keep}
 use Rattle.bytes_order.specs.Sort.{sort}
 use Rattle.sha256_fips180.specs.Fips180.{SHA-256}
-use Rattle.update_format.specs.Update.{Bounds, Update}
+use Rattle.update_format.specs.declared.Bounds.{Bounds}
+use Rattle.update_format.specs.Update.{Update}
 use Rattle.update_format.specs.Decode.{Decoded, refused, update, decode, updateOf}
 use Rattle.rules.specs.declared.Form.{Form}
 use Rattle.rules.specs.Report.{reportOf}

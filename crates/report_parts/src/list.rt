@@ -13,7 +13,7 @@ use ledger_state::Ledger;
 use ledger_state::PLACES;
 use ledger_state::find::has_id;
 use ledger_state::store::stored;
-use update_format::bounds::ID_LENGTH;
+use update_format::numbers::ID_LENGTH;
 
 // The index after the first entry with this id; past the end where there is none.
 fn index_after(l: Ledger, entries: Places, id: &[u8]) -> usize

@@ -9,7 +9,8 @@ use Rattle.bytes_order.specs.Member.{_∈_, keep, concatMap}
 use Rattle.bytes_order.specs.MemberLaws.{keep-∈, keep-length}
 use Rattle.bytes_order.specs.CountLaws.{concatMap-length}
 use Rattle.bytes_ascii.specs.Ascii.{codes, ascii}
-use Rattle.update_format.specs.Update.{Bounds, idLength}
+use Rattle.update_format.specs.declared.Bounds.{Bounds}
+use Rattle.update_format.specs.Update.{idLength}
 use Rattle.rules.specs.declared.Form.{Form}
 use Rattle.rules.specs.declared.Form.the-variants.{Full, Short}
 use Rattle.rules.specs.Report.{setLine, bytesLine, markLine, authorDigits, reportSize}

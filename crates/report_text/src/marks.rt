@@ -13,7 +13,7 @@ use bitset::Set;
 use bytes_print::put;
 use report_wording::mark_line;
 use rules::MarkKind;
-use update_format::bounds::AUTHORS;
+use update_format::numbers::AUTHORS;
 
 // The line of author a, if it is in one of the sets.
 fn shown_line(forked: Set, faulty: Set, a: usize, page: &mut [u8], at: usize) -> usize

@@ -8,7 +8,8 @@ use lib.ListN.{length}
 use lib.Dec.{eqb}
 use Rattle.bytes_order.specs.Member.{concatMap}
 use Rattle.bytes_ascii.specs.Ascii.{ascii, hex, decimal}
-use Rattle.update_format.specs.Update.{Bounds, Update}
+use Rattle.update_format.specs.declared.Bounds.{Bounds}
+use Rattle.update_format.specs.Update.{Update}
 use Rattle.rules.specs.Standing.{Rules}
 use Rattle.rules.specs.declared.Form.{Form}
 use Rattle.rules.specs.declared.Form.the-variants.{Full, Short}

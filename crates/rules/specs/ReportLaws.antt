@@ -18,7 +18,8 @@ use Rattle.bytes_order.specs.Order.{before}
 use Rattle.bytes_order.specs.Sort.{sort}
 use Rattle.bytes_order.specs.Ascending.{Ascending}
 use Rattle.bytes_order.specs.SortLaws.{ascending-head, ascending-tail, same-sort}
-use Rattle.update_format.specs.Update.{Bounds, documentBounds, Id, idLength, tagLength, Update, Bounded}
+use Rattle.update_format.specs.declared.Bounds.{Bounds}
+use Rattle.update_format.specs.Update.{documentBounds, Id, idLength, tagLength, Update, Bounded}
 use Rattle.rules.specs.declared.Form.{Form}
 use Rattle.rules.specs.declared.Form.the-variants.{Full, Short}
 use Rattle.rules.specs.declared.MarkKind.{MarkKind}

@@ -15,7 +15,8 @@ use Rattle.bytes_order.specs.MemberLaws.{∈-singleton, map-∈, ∈-keep, keep
 use Rattle.bytes_order.specs.Distinct.{Distinct}
 use Rattle.bytes_order.specs.DistinctLaws.{distinct-length, distinct-subset-length}
 use Rattle.bytes_order.specs.SortLaws.{sort-∈, sort-length, sort-distinct}
-use Rattle.update_format.specs.Update.{Bounds, idLength, tagLength, Operation, Add, Remove, Insert, Delete, BoundedOperation, add, remove, insert, delete, Update, Bounded}
+use Rattle.update_format.specs.declared.Bounds.{Bounds}
+use Rattle.update_format.specs.Update.{idLength, tagLength, Operation, Add, Remove, Insert, Delete, BoundedOperation, add, remove, insert, delete, Update, Bounded}
 use Rattle.rules.specs.Standing.{Rules}
 use Rattle.rules.specs.declared.Form.the-variants.{Full, Short}
 use Rattle.rules.specs.declared.MarkKind.{MarkKind}

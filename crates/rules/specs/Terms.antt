@@ -2,7 +2,8 @@
 use Prim.Native.Nat.{ℕ}
 use mathlib.Core.Bool.{Bool, _&&_, _||_}
 use lib.Dec.{leb, eqb}
-use Rattle.update_format.specs.Update.{Bounds, documentBounds}
+use Rattle.update_format.specs.declared.Bounds.{Bounds}
+use Rattle.update_format.specs.Update.{documentBounds}
 
 -- how many places there are, and the bounds of an update
 pub record Terms : Type 0 where

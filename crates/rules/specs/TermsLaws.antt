@@ -9,7 +9,8 @@ use borrow.Author.Tests.{leb-true, eqb-true}
 use native.Mathlib.Omega.{arith}
 use Rattle.bytes_order.specs.BoolLaws.{and-true→, or-true→}
 use Rattle.bytes_ascii.specs.Ascii.{decimalLimit}
-use Rattle.update_format.specs.Update.{Bounds, documentBounds}
+use Rattle.update_format.specs.declared.Bounds.{Bounds}
+use Rattle.update_format.specs.Update.{documentBounds}
 use Rattle.rules.specs.Terms.{Terms, places, documentTerms, allowedPlaces, allowedBounds, allowed}
 
 pub record AllowedBounds (b : Bounds) : Type 0 where

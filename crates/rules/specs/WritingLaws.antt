@@ -12,7 +12,8 @@ use Rattle.bytes_order.specs.MemberLaws.{∈-singleton, ∈-cast, ∈-append-ri
 use Rattle.bytes_order.specs.Distinct.{Distinct, distinct-nil, distinct-cons}
 use Rattle.bytes_order.specs.DistinctLaws.{distinct-eq, distinct-append}
 use Rattle.bytes_order.specs.SortLaws.{Ascending→ascending}
-use Rattle.update_format.specs.Update.{Bounds, Id, idLength, Operation, Add, Update, Bounded, BoundedOperation}
+use Rattle.update_format.specs.declared.Bounds.{Bounds}
+use Rattle.update_format.specs.Update.{Id, idLength, Operation, Add, Update, Bounded, BoundedOperation}
 use Rattle.rules.specs.Standing.{Rules, Ancestor, Known, Fine, Held, PredsHeld, Void}
 use Rattle.rules.specs.ReadOff.{Head, Forked, Fault}
 use Rattle.rules.specs.Settle.{held, Row, Table, settledTable, heads, validOp}

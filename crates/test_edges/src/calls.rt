@@ -18,8 +18,8 @@ use test_script::number;
 use test_script::set;
 use test_script::slot;
 use test_script::word;
-use update_format::bounds::ID_LENGTH;
-use update_format::bounds::TAG_LENGTH;
+use update_format::numbers::ID_LENGTH;
+use update_format::numbers::TAG_LENGTH;
 use update_format::slice_of;
 
 // Offers an update.

@@ -7,7 +7,8 @@ use mathlib.Core.Bool.{true, false≢true}
 use lib.ListN.{length}
 use Rattle.bytes_order.specs.Member.{concatMap}
 use Rattle.bytes_order.specs.CountLaws.{oneIf}
-use Rattle.update_format.specs.Update.{Bounds, tagLength, Operation, Add, Remove, Insert, Delete, BoundedOperation, add, remove, insert, delete}
+use Rattle.update_format.specs.declared.Bounds.{Bounds}
+use Rattle.update_format.specs.Update.{tagLength, Operation, Add, Remove, Insert, Delete, BoundedOperation, add, remove, insert, delete}
 use Rattle.update_format.specs.Decode.{Decoded, refused, update, decode}
 use Rattle.update_format.specs.Laws.{decode-sound}
 use Rattle.rules.specs.Settle.{isInsert, tagsOf, valuesOf}

@@ -10,12 +10,12 @@ ghost use Rattle.update_fields.specs.Fields.{testOf, authorIn, isAnyAdd,
 ghost use Rattle.update_fields.specs.Laid.{Laid};
 use update_format::Operation;
 use update_format::ParseResult;
-use update_format::bounds::ADD;
-use update_format::bounds::DELETE;
-use update_format::bounds::ID_LENGTH;
-use update_format::bounds::INSERT;
-use update_format::bounds::REMOVE;
-use update_format::bounds::TAG_LENGTH;
+use update_format::numbers::ADD;
+use update_format::numbers::DELETE;
+use update_format::numbers::ID_LENGTH;
+use update_format::numbers::INSERT;
+use update_format::numbers::REMOVE;
+use update_format::numbers::TAG_LENGTH;
 
 // What bytes lay out: the kind byte of an update, 0 where they are none; the author; where the tag or the value begins; where the ids
 // begin, and how many they are (those that a Remove names, the anchor of an Insert, the id that a Delete deletes).

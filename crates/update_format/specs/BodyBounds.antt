@@ -12,14 +12,14 @@ pub record AtBody (b : List ℕ) (kind at named : ℕ) : Type 0 where
   pub count : named ≡ namedCountOf b
   pub least : 1 ≤ kind
   pub most : kind ≤ 4
-  pub small : at < 512
+  pub small : at < 8192
 
 -- .. and where a Remove's count byte stands
 pub record AtCount (b : List ℕ) (at named : ℕ) : Type 0 where
   pub remove : kindOf b ≡ 2
   pub place : at ≡ namedCountAt b
   pub count : named ≡ namedCountOf b
-  pub small : at < 1024
+  pub small : at < 16384
 
 -- what is known once the count of the predecessors and the offsets of the operation's fields are read
 pub record OffsetsRead (b : List ℕ) (count : ℕ) (operation : Operation) : Type 0 where

@@ -5,7 +5,8 @@ use mathlib.Core.Bool.{Bool, cond, not, _&&_, _||_}
 use lib.ListN.{length, getD, take, drop}
 use lib.Dec.{ltb, leb, eqb}
 use Rattle.bytes_order.specs.Order.{ascending}
-use Rattle.update_format.specs.Update.{Bounds, maxNamed, idLength, tagLength, minLength, maxLength, Id, Operation, Add, Remove, Insert, Delete, Update}
+use Rattle.update_format.specs.declared.Bounds.{Bounds}
+use Rattle.update_format.specs.Update.{maxNamed, idLength, tagLength, minLength, maxLength, Id, Operation, Add, Remove, Insert, Delete, Update}
 
 -- the k bytes of b from byte at on
 abbrev pub slice : List ℕ → ℕ → ℕ → List ℕ

@@ -15,7 +15,8 @@ use lib.Seq.{take-all, take-at, drop-at, getD-append-add, getD-at}
 use lib.Dec.{ltb, leb, eqb}
 use Rattle.bytes_order.specs.Order.{ascending}
 use Rattle.bytes_order.specs.BoolLaws.{or-false→, and-true→}
-use Rattle.update_format.specs.Update.{Bounds, documentBounds, maxNamed, idLength, tagLength, minLength, maxLength, Id, Operation, Add, Remove, Insert, Delete, Update, encode, encodeOperation, Ids, BoundedOperation, add, remove, insert, delete, Bounded, WellFormed}
+use Rattle.update_format.specs.declared.Bounds.{Bounds}
+use Rattle.update_format.specs.Update.{documentBounds, maxNamed, idLength, tagLength, minLength, maxLength, Id, Operation, Add, Remove, Insert, Delete, Update, encode, encodeOperation, Ids, BoundedOperation, add, remove, insert, delete, Bounded, WellFormed}
 use Rattle.update_format.specs.Decode.{slice, idsAt, authorOf, countOf, firstPredecessor, kindAt, kindOf, bodyAt, namedCountAt, namedCountOf, lengthOf, namedOf, row2, row3, row4, row5, row6, row7, row8, row9, operationOf, updateOf, update, decode}
 use Rattle.update_format.specs.Slices.{joined, slice-length, slice-rest, slice-all, byte-rest, slice-shift, ids-length, ids-joined, ids-sized, ids-shift, joined-length, ids-back}
 use Rattle.update_format.specs.Rows.{rows, applies, update-none}

@@ -5,7 +5,8 @@ use mathlib.Core.List.{List, []}
 use mathlib.Core.Bool.{Bool, true, false, cond}
 use lib.Dec.{eqb}
 use Rattle.update_format.specs.Update as U
-use Rattle.update_format.specs.Update.{Bounds, idLength, tagLength, Update}
+use Rattle.update_format.specs.declared.Bounds.{Bounds}
+use Rattle.update_format.specs.Update.{idLength, tagLength, Update}
 use Rattle.update_format.specs.Decode.{slice, idsAt, authorOf, countOf, firstPredecessor, kindOf, bodyAt, namedCountAt, namedCountOf, namedOf, row2, row3, row4, row5, row6, row7, row8, row9, operationOf, updateOf, Decoded, refused, update, decode}
 use Rattle.update_format.specs.declared.Malformed.{Malformed}
 use Rattle.update_format.specs.declared.Malformed.the-variants.{Length, Version, Author, Predecessors, Truncated, Kind, Layout, Unordered}

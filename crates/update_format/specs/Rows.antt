@@ -5,7 +5,8 @@ use mathlib.Core.List.{List, [], _∷_}
 use mathlib.Core.Bool.{Bool, true, false, cond, false≢true}
 use native.Mathlib.Omega.{arith}
 use lib.ListN.{length, getD}
-use Rattle.update_format.specs.Update.{Bounds, Update}
+use Rattle.update_format.specs.declared.Bounds.{Bounds}
+use Rattle.update_format.specs.Update.{Update}
 use Rattle.update_format.specs.Decode.{row2, row3, row4, row5, row6, row7, row8, row9, updateOf, Decoded, refused, update, decode}
 
 -- the rows' tests, each at its number; rows 0 and 1 say nothing of the bytes

@@ -5,16 +5,16 @@ use mathlib.Core.List.{List, _∷_, _++_}
 use mathlib.Core.Bool.{true}
 use lib.ListN.{length}
 use Rattle.bytes_order.specs.Order.{ascending}
+use Rattle.update_format.specs.declared.Bounds.{Bounds}
 use Rattle.bytes_order.specs.Member.{_∈_, concatMap}
 
--- what the terms of a ledger choose of an update's layout: how many authors there are, numbered from 0, and how many predecessors an update names at most
-pub record Bounds : Type 0 where
-  pub authors : ℕ
-  pub predecessors : ℕ
-
--- document 01's own: "author, 0 to 15"; "count n of predecessors, 0 to 8"
+-- the bounds of an update that are document 01's own: "author, 0 to 15"; "count n of predecessors, 0 to 8"
 abbrev pub documentBounds : Bounds
 documentBounds = record { authors = 16; predecessors = 8 }
+
+-- what a count byte can say
+abbrev pub maxCount : ℕ
+maxCount = 255
 
 -- the numbers of document 01 that no terms choose, each named once
 abbrev pub maxNamed : ℕ

@@ -4,8 +4,8 @@ ghost use Prim.Native.Nat.{_+_, _*_};
 ghost use Rattle.update_format.specs.Update.{idLength};
 ghost use Rattle.update_format.specs.Decode.{slice, idsAt, firstPredecessor};
 ghost use Rattle.bytes_order.specs.Order.{before, ascending};
-use crate::bounds::FIRST_PREDECESSOR;
-use crate::bounds::ID_LENGTH;
+use crate::numbers::FIRST_PREDECESSOR;
+use crate::numbers::ID_LENGTH;
 use bytes_order::Order;
 
 // The len bytes of s from byte at on, as far as there are bytes.

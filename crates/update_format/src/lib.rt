@@ -3,21 +3,27 @@
 ghost use mathlib.Core.Path.{_≡_};
 ghost use Rattle.update_format.specs.ParseResult.{malformedNumber};
 
-pub mod bounds;
 mod ids;
+pub mod numbers;
 
-use bounds::ID_LENGTH;
-use bounds::TAG_LENGTH;
 pub use ids::ascends;
 pub use ids::named;
 pub use ids::predecessor;
 pub use ids::slice_of;
+use numbers::ID_LENGTH;
+use numbers::TAG_LENGTH;
 
 // An update's id.
 pub type Id = [u8; ID_LENGTH];
 
 // A tag, or the value of an Insert.
 pub type Tag = [u8; TAG_LENGTH];
+
+// What the terms of a ledger choose of an update's layout: how many authors there are, numbered from 0, and how many predecessors an update names at most.
+pub struct Bounds {
+    pub authors: usize,
+    pub predecessors: usize,
+}
 
 // The offsets of an operation's fields.
 pub enum Operation {

@@ -4,8 +4,8 @@ ghost use mathlib.Core.Path.{_≡_};
 ghost use Prim.Native.Nat.{_+_, _<_, _^_};
 ghost use lib.ListN.{getD};
 ghost use Rattle.update_header.specs.Header.{headerOf};
-use update_format::bounds::ID_LENGTH;
-use update_format::bounds::TAG_LENGTH;
+use update_format::numbers::ID_LENGTH;
+use update_format::numbers::TAG_LENGTH;
 
 pub struct Reader<'a> {
     pub bytes: &'a [u8],

@@ -5,7 +5,8 @@ use mathlib.Core.List.{List}
 use mathlib.Core.Bool.{true, false}
 use borrow.Author.Tests.{lt-ltb, le-ltb, le-leb, lt-leb, eq-eqb, ne-eqb}
 use lib.ListN.{length, getD}
-use Rattle.update_format.specs.Update.{Bounds, minLength, maxLength}
+use Rattle.update_format.specs.declared.Bounds.{Bounds}
+use Rattle.update_format.specs.Update.{minLength, maxLength}
 use Rattle.update_format.specs.Decode.{authorOf, countOf, kindAt, kindOf, row2, row3, row4, row5, row6, row7, row8, row9}
 use Rattle.update_format.specs.ParseResult.{parsedOf, offsetsOf, operationParse, parseOf}
 use Rattle.update_format.specs.declared.Malformed.the-variants.{Length, Version, Author, Predecessors, Truncated, Kind, Layout, Unordered}

@@ -8,7 +8,7 @@ use ledger_refusals::Refusal;
 use ledger_state::Ledger;
 use update_format::Id;
 use update_format::Tag;
-use update_format::bounds::MAX_LENGTH;
+use update_format::numbers::MAX_LENGTH;
 use write_operations::Kind;
 
 // What the writer answers: how many bytes of the output buffer the update takes.

@@ -12,7 +12,7 @@ ghost use Rattle.write_layout.specs.Written.{IdAt, IdsAt};
 use bytes_print::put;
 use ledger_sorting::Places;
 use ledger_state::Ledger;
-use update_format::bounds::VERSION;
+use update_format::numbers::VERSION;
 
 // The version, the author and the count of predecessors.
 pub fn put_header(author: u8, count: usize, page: &mut [u8]) -> usize

@@ -8,12 +8,12 @@ ghost use Rattle.write_operations.specs.Operations.{farthestField, opera
 use bytes_print::put;
 use update_format::Id;
 use update_format::Tag;
-use update_format::bounds::ADD;
-use update_format::bounds::DELETE;
-use update_format::bounds::ID_LENGTH;
-use update_format::bounds::INSERT;
-use update_format::bounds::MAX_NAMED;
-use update_format::bounds::REMOVE;
+use update_format::numbers::ADD;
+use update_format::numbers::DELETE;
+use update_format::numbers::ID_LENGTH;
+use update_format::numbers::INSERT;
+use update_format::numbers::MAX_NAMED;
+use update_format::numbers::REMOVE;
 
 // How many bytes of named ids there are at most.
 const MAX_NAMED_LENGTH: usize = ID_LENGTH * (MAX_NAMED as usize);

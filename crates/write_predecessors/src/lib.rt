@@ -22,7 +22,7 @@ use ledger_state::Found;
 use ledger_state::Ledger;
 use ledger_state::places::causal_order;
 use rules::CausalOrder;
-use update_format::bounds::MAX_PREDECESSORS;
+use update_format::numbers::MAX_PREDECESSORS;
 use write_highest::top;
 
 // How many heads an update names at most.
