@@ -547,6 +547,14 @@ byBytes = record { ident = encode }
 unfoldable pub bookedBy : ℕ → ℕ
 bookedBy i = cond (ltb i 20) (i / 2) (10 + i % 6)
 
-unfoldable pub booked : ℕ → List Update
-booked zero = []
-booked (suc i) = record { author = bookedBy i; preds = []; op = Add (i ∷ replicate 15 0) } ∷ booked i
+-- Adds without predecessors, each of another tag, the i-th by the author `who i`
+unfoldable pub booked : (ℕ → ℕ) → ℕ → List Update
+booked who zero = []
+booked who (suc i) = record { author = who i; preds = []; op = Add (i ∷ replicate 15 0) } ∷ booked who i
+
+-- With 256 authors (document 02, E6) it gets longer: 64 Adds, two by each of the authors 100 to 131. 36 bytes of an empty report; 32 mark lines of 11; 64 set lines of 39.
+abbrev pub longerShort : ℕ
+longerShort = 2884
+
+unfoldable pub bookedWidely : ℕ → ℕ
+bookedWidely i = 100 + i / 2

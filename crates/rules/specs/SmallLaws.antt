@@ -23,7 +23,7 @@ use Rattle.rules.specs.Settle.{partsOf}
 use Rattle.rules.specs.Terms.{places}
 use Rattle.rules.specs.Report.{reportText, reportOf}
 use Rattle.rules.specs.Writing.{writtenOf}
-use Rattle.rules.specs.Small.{#a, Small, by, a, c, rulesOf, smallSet, smallLedgers, apart, oneAdd, twoAdds, addRules, SmallChoice, choiceRules, choiceSet, smallChoices, longestShort, byBytes, booked}
+use Rattle.rules.specs.Small.{#a, Small, by, a, c, rulesOf, smallSet, smallLedgers, apart, oneAdd, twoAdds, addRules, SmallChoice, choiceRules, choiceSet, smallChoices, longestShort, byBytes, bookedBy, booked}
 use Rattle.rules.specs.Cases.{computed, ids-apart, forms-computed, choices-computed, choice-ids-apart, choices-some, longest-computed}
 use Rattle.rules.specs.TableLaws.{not-true→}
 use Rattle.rules.specs.PartsLaws.{read-right}
@@ -75,6 +75,6 @@ pub unequal-full-reports : reportOf Full addRules oneAdd ≡ reportOf Full addRu
 unequal-full-reports e = true-false (eq→same (reportOf Full addRules oneAdd) (reportOf Full addRules twoAdds) e) (forms-computed .2)
 
 -- the longest short report, of 64 updates
-pub longest-short-report : length (reportOf Short byBytes (booked places)) ≡ longestShort
+pub longest-short-report : length (reportOf Short byBytes (booked bookedBy places)) ≡ longestShort
 unfolding reportOf reportText
 longest-short-report = longest-computed .0
