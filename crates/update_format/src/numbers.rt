@@ -4,7 +4,7 @@ ghost use Prim.Native.Nat.{_≤_};
 ghost use Rattle.update_format.specs.Update.{documentBounds, maxLength, maxCount};
 use crate::Bounds;
 
-// Document 01's own.
+// Document 01's own bounds.
 pub fn document() -> Bounds
     ensures { λ r. ⌜ r ≡ documentBounds ⌝ }
 {
@@ -14,12 +14,12 @@ pub fn document() -> Bounds
     }
 }
 
-// The longest update within the bounds.
-pub fn longest(bounds: Bounds) -> usize
+// The longest update within the bounds: a Remove has one byte more than an Add, and as many predecessors and named ids as can be.
+pub fn max_length(bounds: Bounds) -> usize
     requires { ⌜ bounds .predecessors ≤ maxCount ⌝ }
     ensures { λ r. ⌜ r ≡ maxLength bounds ⌝ }
 {
-    REMOVE_LENGTH + ID_LENGTH * bounds.predecessors + ID_LENGTH * MAX_NAMED as usize
+    MIN_LENGTH + 1 + ID_LENGTH * bounds.predecessors + ID_LENGTH * MAX_NAMED as usize
 }
 
 pub const VERSION: u8 = 1;
@@ -34,9 +34,6 @@ pub const MAX_PREDECESSORS: u8 = 8;
 pub const MAX_NAMED: u8 = 8;
 
 pub const MIN_LENGTH: usize = 20;
-
-// A Remove without predecessors and named ids.
-pub const REMOVE_LENGTH: usize = 21;
 
 pub const MAX_LENGTH: usize = 533;
 

@@ -13,7 +13,7 @@ use update_format::ParseResult;
 use update_format::numbers::MIN_LENGTH;
 use update_format::numbers::VERSION;
 use update_format::numbers::document;
-use update_format::numbers::longest;
+use update_format::numbers::max_length;
 use update_header::read_header;
 use update_header::wide;
 
@@ -26,7 +26,7 @@ pub fn read_within(bounds: Bounds, s: &[u8]) -> ParseResult
     if s.len() < MIN_LENGTH {
         return ParseResult::Refused(Malformed::Length);
     }
-    if longest(bounds) < s.len() {
+    if max_length(bounds) < s.len() {
         return ParseResult::Refused(Malformed::Length);
     }
     let header = read_header(s);

@@ -22,11 +22,11 @@ both : (bounds : Bounds) (b : List ℕ) (r : ParseResult) → r ≡ parseOf boun
 both bounds b r e = (ap (decodedOf b) e ∙ parse-decodes bounds b, e)
 
 -- places of the code, each from a later one
-abbrev longest→start : tie.After-longest → tie.Start
-longest→start c = c .before .before .before
+abbrev max-length→start : tie.After-max-length → tie.Start
+max-length→start c = c .before .before .before
 
 abbrev else2→start : tie.Else2 → tie.Start
-else2→start c = longest→start (c .before)
+else2→start c = max-length→start (c .before)
 
 abbrev else3→header : tie.Else3 → tie.After-read-header
 else3→header c = c .before .before
@@ -64,7 +64,7 @@ count : (h : tie.After-read-header) → h .read-header .result .count ≡ countO
 count h = ap (λ (r : Header). r .count) (h .read-header .ensures)
 
 row2-passed : (e : tie.Else2) → row2 (bounds e) (bytes e) ≡ false
-row2-passed e = row2-no (bounds e) (bytes e) (omega arith) (omega (arith, e .before .longest .ensures))
+row2-passed e = row2-no (bounds e) (bytes e) (omega arith) (omega (arith, e .before .max-length .ensures))
 
 row3-passed : (c : tie.Else3) → row3 (bytes (else3→header c .before)) ≡ false
 row3-passed c = row3-no (bytes (else3→header c .before)) (omega (arith, version (else3→header c)))
@@ -79,13 +79,13 @@ returns c =
     let a = c .before .before .args in
     both (a .bounds) (now (a .s)) _ (row2-short (a .bounds) (now (a .s)) (omega arith))
 
-longest-requires : tie.Need-longest-requires
-longest-requires c κs = search needs
+max-length-requires : tie.Need-max-length-requires
+max-length-requires c κs = search needs
 
 returns-2 : tie.Need-returns-2
 returns-2 c =
-    let a = longest→start (c .before) .args in
-    both (a .bounds) (now (a .s)) _ (row2-long (a .bounds) (now (a .s)) (omega arith) (omega (arith, c .before .longest .ensures)))
+    let a = max-length→start (c .before) .args in
+    both (a .bounds) (now (a .s)) _ (row2-long (a .bounds) (now (a .s)) (omega arith) (omega (arith, c .before .max-length .ensures)))
 
 read-header-requires : tie.Need-read-header-requires
 read-header-requires c κs = search needs
@@ -139,4 +139,4 @@ returns-6 c =
 pub read-within-spec : {M : Type 1} → statement M
 read-within-spec =
     tie.close
-    (tie.spec returns longest-requires returns-2 read-header-requires returns-3 wide-requires returns-4 wide-requires-2 returns-5 read-requires returns-6)
+    (tie.spec returns max-length-requires returns-2 read-header-requires returns-3 wide-requires returns-4 wide-requires-2 returns-5 read-requires returns-6)
