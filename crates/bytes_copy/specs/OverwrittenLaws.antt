@@ -21,7 +21,7 @@ module _ (s : List ℕ) (at : ℕ) (b : List ℕ) (fits : at + length b ≤ leng
       let rest = drop (at + length b) s in
       omega (arith, length-append (take at s) (b ++ rest), length-append b rest, length-drop (at + length b) s, front)
 
-  -- they are read back, and what ends before them is as it was
+  -- they are read back, and what ends before them or begins after them is as it was
   pub overwritten-back : take (length b) (drop at (overwritten s at b)) ≡ b
   overwritten-back =
       let rest = drop (at + length b) s in ap (take (length b)) (drop-at (take at s) (b ++ rest) at front) ∙ take-append-seam b rest
@@ -31,6 +31,20 @@ module _ (s : List ℕ) (at : ℕ) (b : List ℕ) (fits : at + length b ≤ leng
       slice-append (take at s) (b ++ drop (at + length b) s) j n (omega (arith, front))
       ∙ sym (slice-append (take at s) (drop at s) j n (omega (arith, front)))
       ∙ ap (λ (r : List ℕ). take n (drop j r)) (take-append-drop at s)
+
+  pub overwritten-after : (j : ℕ) → at + length b ≤ j → drop j (overwritten s at b) ≡ drop j s
+  overwritten-after j l =
+      let n = at + length b in
+      let e : length (take at s ++ b) ≡ n = omega (arith, length-append (take at s) b, front) in
+      let d = j - n in
+      let q : j ≡ n + d = omega arith in
+      let rest : drop n (overwritten s at b) ≡ drop n s =
+      ap (drop n) (sym (append-assoc (take at s) b (drop n s))) ∙ drop-at (take at s ++ b) (drop n s) n e in
+      ap (λ (k : ℕ). drop k (overwritten s at b)) q
+      ∙ sym (drop-drop d n (overwritten s at b))
+      ∙ ap (drop d) rest
+      ∙ drop-drop d n s
+      ∙ ap (λ (k : ℕ). drop k s) (sym q)
 
 -- bytes put inside, and bytes put after them
 pub overwritten-both : (p : List ℕ) (at : ℕ) (t t′ : List ℕ) → at + length t ≤ length p → overwritten (overwritten p at t) (at + length t) t′ ≡ overwritten p at (t ++ t′)

@@ -125,7 +125,7 @@ module _ (b : List ℕ) where
   unfolding lengthOf
   delete-length k = rw k
 
-kind-cases : (k : ℕ) → 1 ≤ k → k ≤ 4 → (k ≡ 1) ⊎ ((k ≡ 2) ⊎ ((k ≡ 3) ⊎ (k ≡ 4)))
+pub kind-cases : (k : ℕ) → 1 ≤ k → k ≤ 4 → (k ≡ 1) ⊎ ((k ≡ 2) ⊎ ((k ≡ 3) ⊎ (k ≡ 4)))
 kind-cases zero h l = absurd (omega arith)
 kind-cases (suc zero) h l = inl refl
 kind-cases (suc (suc zero)) h l = inr (inl refl)
