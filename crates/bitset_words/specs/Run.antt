@@ -1,20 +1,18 @@
 -- A set of places as a run of words, the lowest places first: place k is bit k % 64 of word k / 64. As one long number a run is a set of `bitset`, whose definitions and laws speak of it.
-use Prim.Native.Nat.{ℕ, zero, suc, _+_, _-_, _*_, _/_, _%_, _^_, _≤_, _<_}
+use Prim.Native.Nat.{ℕ, zero, suc, _+_, _-_, _*_, _/_, _%_, _^_, _≤_}
 use mathlib.Core.Path.{_≡_}
 use mathlib.Core.Logic.{_⊎_}
 use mathlib.Core.List.{List, [], _∷_}
 use lib.ListN.{length, getD, set, take, drop}
 use Rattle.bitset.specs.Bits.{wordBits, including, join}
 use Rattle.bytes_copy.specs.Overwritten.{overwritten}
+-- each is a word
+pub use Rattle.bytes_words.specs.Words.{Words}
 
 -- the set that the words are: bit k for place k
 unfoldable pub number : List ℕ → ℕ
 number [] = 0
 number (w ∷ ws) = number ws * 2 ^ wordBits + w
-
--- each is a word
-abbrev pub Words : List ℕ → Type 0
-Words ws = (i : ℕ) → getD ws i 0 < 2 ^ wordBits
 
 -- how many places a run has room for
 abbrev pub room : List ℕ → ℕ

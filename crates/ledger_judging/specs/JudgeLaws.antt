@@ -17,8 +17,7 @@ use Rattle.bytes_order.specs.OrderLaws.{same→eq, eq→same}
 use Rattle.bytes_order.specs.MemberLaws.{∈-cast, all→∈, ∈→all}
 use Rattle.bytes_order.specs.DistinctLaws.{distinct-index}
 use Rattle.update_format.specs.Update.{Id, Operation, Add, Remove, Insert, Delete, Update}
-use Rattle.update_format.specs.Decode.{Decoded, update, decode}
-use Rattle.update_format.specs.Laws.{decode-complete}
+use Rattle.update_format.specs.Decode.{Decoded}
 use Rattle.rules.specs.Standing.{beginning, Ancestor, InsertAncestor, Valid, Known, Antichain, Held, PredsHeld, Void}
 use Rattle.rules.specs.Settle.{isAdd, isInsert}
 use Rattle.update_fields.specs.Fields.{testOf}
@@ -35,14 +34,8 @@ use Rattle.ledger_judging.specs.Antichain.{antichainAt}
 use Rattle.ledger_judging.specs.AntichainLaws.{antichain-at→, →antichain-at}
 use Rattle.ledger_judging.specs.Judge.{nothingGathered, gather, namesAt, namesAncestor, valid, judgeReady, judgeGathered, judgeDecoded, judgeAt, allHeld, readyDecoded, readyAt}
 use Rattle.ledger_state.specs.Stands.{ident, rules, noUpdate, updateAt, Holds, Truthful}
-use Rattle.ledger_state.specs.FindLaws.{stored-at, place-of, find-right, find-all}
+use Rattle.ledger_state.specs.FindLaws.{stored-at, stored-update, place-of, find-right, find-all}
 use Rattle.ledger_judging.specs.GatherLaws.{AllHeld, gathered-void→, gathered-void←, gathered-ready→, gathered-ready←, all-held→, all-held←, gathered-direct→, gathered-direct←, gathered-held, gathered-above→, gathered-above←}
-
--- what is read from a place is its update
-stored-update : (l : Book) (s : List ℕ) (us : List Update) → Holds l s us → (k : ℕ) → k < length us
-    → decodedAt l s k ≡ update (updateAt us k)
-stored-update l s us holds k h =
-    ap (decode (l .terms .bounds)) (holds .bytes k h) ∙ decode-complete (updateAt us k) (holds .bounded (updateAt us k) (stored-at us k h))
 
 -- the predecessors of its update are all held exactly where each is at a held place
 module _ (l : Book) (s : List ℕ) (us : List Update) (holds : Holds l s us) (k : ℕ) (h : k < length us) where

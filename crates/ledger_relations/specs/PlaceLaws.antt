@@ -10,8 +10,7 @@ use Rattle.bytes_order.specs.MemberLaws.{getD-∈, ∈-getD}
 use Rattle.bytes_order.specs.DistinctLaws.{distinct-index, distinct-rekey}
 use Rattle.bytes_order.specs.SortLaws.{ascending-distinct}
 use Rattle.update_format.specs.Update.{Operation, Update}
-use Rattle.update_format.specs.Decode.{update, decode}
-use Rattle.update_format.specs.Laws.{decode-complete}
+use Rattle.update_format.specs.Decode.{update}
 use Rattle.rules.specs.Standing.{Ancestor, Held}
 use Rattle.rules.specs.CausalOrder.{OrderExactly}
 use Rattle.rules.specs.LeastSets.{held-not-void}
@@ -21,6 +20,7 @@ use Rattle.bitset.specs.BelowLaws.{upTo-∈, upTo-ascending}
 use Rattle.bitset.specs.Bits.{has}
 use Rattle.rules.specs.declared.Standing.{Standing}
 use Rattle.rules.specs.declared.Standing.the-variants.{Held as IsHeld, Waiting as IsWaiting, Void as IsVoid}
+use Rattle.ledger_state.specs.FindLaws.{stored-update}
 use Rattle.ledger_state.specs.State.{Book, placeAt, decodedAt, isHeld}
 use Rattle.ledger_state.specs.PlaceOrder.{orderAt}
 use Rattle.ledger_state.specs.PlaceOrderLaws.{order-at-exactly}
@@ -54,7 +54,7 @@ module _ {l : Book} {s : List ℕ} {us : List Update} (stands : Stands l s us) w
       (λ j k m n e. ap (λ (i : ℕ). i ∷ []) (same-place (upTo-∈ (length us) m) (upTo-∈ (length us) n) e))
 
   pub place-decoded : {k : ℕ} → k < length us → decodedAt l s k ≡ update (updateAt us k)
-  place-decoded {k} h = ap (decode (l .terms .bounds)) (stands .holds .bytes k h) ∙ decode-complete (updateAt us k) (stands .holds .bounded (updateAt us k) (place-in h))
+  place-decoded {k} h = stored-update l s us (stands .holds) k h
 
   pub place-author : {k : ℕ} → k < length us → authorAt l s k ≡ updateAt us k .author
   unfolding authorAt authorIn

@@ -12,9 +12,11 @@ use Rattle.bytes_order.specs.MemberLaws.{getD-∈, ∈-getD}
 use Rattle.bytes_order.specs.DistinctLaws.{distinct-index}
 use Rattle.sha256_fips180.specs.Lengths.{length-digest}
 use Rattle.update_format.specs.Update.{Id, idLength, Update, encode}
+use Rattle.update_format.specs.Decode.{update, decode}
+use Rattle.update_format.specs.Laws.{decode-complete}
 use Rattle.bitset.specs.Below.{firstBelow}
 use Rattle.bitset.specs.BelowLaws.{firstBelow-some→, firstBelow-one, firstBelow-none→}
-use Rattle.ledger_state.specs.State.{Book, placeAt, findIn}
+use Rattle.ledger_state.specs.State.{Book, placeAt, decodedAt, findIn}
 use Rattle.ledger_state.specs.Stands.{ident, noUpdate, updateAt, Holds}
 
 pub ident-length : (u : Update) → length (ident u) ≡ idLength
@@ -24,6 +26,11 @@ ident-length u = length-digest (encode u)
 -- each update stands at a place
 pub stored-at : (us : List Update) (k : ℕ) → k < length us → updateAt us k ∈ us
 stored-at us k h = getD-∈ us k noUpdate h
+
+-- what is read from a place is its update
+pub stored-update : (l : Book) (s : List ℕ) (us : List Update) → Holds l s us → (k : ℕ) → k < length us → decodedAt l s k ≡ update (updateAt us k)
+stored-update l s us holds k h =
+    ap (decode (l .terms .bounds)) (holds .bytes k h) ∙ decode-complete (updateAt us k) (holds .bounded (updateAt us k) (stored-at us k h))
 
 pub place-of : (us : List Update) {u : Update} → u ∈ us → (k : ℕ) × (k < length us) × (updateAt us k ≡ u)
 place-of us m = ∈-getD noUpdate m
