@@ -128,7 +128,7 @@ decimalIn-more : (k n : ℕ) → 10 ≤ n → decimalIn (suc k) n ≡ decimalIn 
 unfolding decimalIn
 decimalIn-more k n h = ap (λ (t : Bool). cond t (digit n ∷ []) (decimalIn k (n / 10) ++ (digit (n % 10) ∷ []))) (le-ltb n 10 h)
 
--- a number with at most k digits is below 10 ^ k
+-- a number from ten on that is below 10 ^ k: k is at least two
 pub two-digits : (k n : ℕ) → 10 ≤ n → n < 10 ^ k → 2 ≤ k
 two-digits zero n h g = absurd (omega arith)
 two-digits (suc zero) n h g = absurd (omega arith)

@@ -11,7 +11,7 @@ use Rattle.bytes_order.specs.BoolLaws.{true-false}
 use Rattle.update_format.specs.Update.{Update}
 use Rattle.rules.specs.declared.Form.the-variants.{Full}
 use Rattle.rules.specs.Report.{reportOf, reportSize, maxReport}
-use Rattle.rules.specs.ReportLaws.{report-length, size-grows, document-size}
+use Rattle.rules.specs.ReportLaws.{terms-report-length, document-size}
 use Rattle.ledger_state.specs.declared.Ledger.{Ledger}
 use Rattle.ledger_state.specs.State.{Terms, documentTerms, Book}
 use Rattle.ledger_state.specs.View.{bookOf}
@@ -30,9 +30,8 @@ use Rattle.command_session.specs.FeedLaws.{Follows}
 -- a report of a ledger of document 01's terms that stands has at most 12,000 bytes
 report-few : {l : Book} {s : List ℕ} (us : List Update) → l .terms ≡ documentTerms → Stands l s us → length (reportOf Full rules us) ≤ maxReport
 report-few {l} us at h =
-    le-trans (report-length Full rules ident-length us (h .holds .distinct) (h .holds .bounded))
-    (le-trans (size-grows (l .terms .bounds) Full (h .holds .room .few))
-    (subst (λ (t : Terms). reportSize (t .bounds) (t .places) Full ≤ maxReport) (sym at) (document-size Full)))
+    le-trans (terms-report-length (l .terms) Full rules ident-length us (h .holds .distinct) (h .holds .room) (h .holds .bounded))
+    (subst (λ (t : Terms). reportSize (t .bounds) (t .places) Full ≤ maxReport) (sym at) (document-size Full))
 
 module _ {l : Book} {s : List ℕ} {us : List Update} (at : l .terms ≡ documentTerms) (h : Stands l s us) (out : List ℕ) where
   -- .. and so it is written where there is room for 12,000

@@ -113,11 +113,21 @@ module _ (l : Ledger) (s : List ℕ) (us : List Update) (stands : Stands (bookOf
   offer-stands (full u e d f n) = rw (accept-full d (none-new d f) n) stands
   offer-stands (taken u r e d f n t) = rw (accept-new d (none-new d f) n) (t .settles us stands)
 
+-- an offer keeps the terms
+pub offer-terms : {l r : Ledger} {s s′ b : List ℕ} {v : OfferValues} → OfferRow l s b v r s′ → bookOf r .terms ≡ bookOf l .terms
+offer-terms (unfit e) = refl
+offer-terms (malformed n e d) = refl
+offer-terms (known u k e d f) = refl
+offer-terms (full u e d f n) = refl
+offer-terms (taken u r e d f n t) = t .terms-kept
+
 -- from a ledger that stands, offers lead to one that stands for what is stored
 pub calls-stand : {l l′ : Ledger} {s s′ : List ℕ} {bs : List (List ℕ)} (us : List Update) → Stands (bookOf l) s us → Calls l s bs l′ s′ → Stands (bookOf l′) s′ (storedFrom (bookOf l .terms) us bs)
 unfolding storedFrom
 calls-stand us h done = h
-calls-stand us h (call {l = l} {s = s} {b = b} o c) = calls-stand (acceptDecoded (bookOf l .terms) us (decode (bookOf l .terms .bounds) b)) (offer-stands l s us h b o) c
+calls-stand {l′ = l′} {s′ = s′} us h (call {l = l} {s = s} {b = b} {bs = bs} o c) =
+    let next : List Update = acceptDecoded (bookOf l .terms) us (decode (bookOf l .terms .bounds) b) in
+    subst (λ (t : Terms). Stands (bookOf l′) s′ (storedFrom t next bs)) (offer-terms o) (calls-stand next (offer-stands l s us h b o) c)
 
 -- Demand 2 of offers: after any offers to a fresh ledger, with any store of the length, the ledger stands for the updates stored: their set, and each
 -- held, waiting or void exactly as the rules say for that set

@@ -4,7 +4,7 @@ pub mod Report
 pub mod BufferLaws
 pub mod ValueLaws
 pub mod FormLaws
-pub mod RoomLaws
+pub mod ReportRoomLaws
 pub mod Answers
 pub mod AfterOffers
 pub mod WriteLaws

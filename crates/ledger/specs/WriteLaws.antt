@@ -87,7 +87,7 @@ module _ (l : Book) (s : List ℕ) (a : ℕ) (k : Kind) (t : List ℕ) (i : Id) 
       → (us : List Update) → Stands l s us → writableOf rules (l .terms .bounds .predecessors) us a (operationFor k t i named) ≡ false
   says-invalid w = wrote-says w .void refl
 
-  -- a buffer of 533 bytes is never too short, whatever the ledger
+  -- a buffer as long as the longest update of the terms, 533 bytes at document 01's, is never too short, whatever the ledger
   pub says-short : {o′ : List ℕ} → Writing l s a k t i named o (refusedBy row11Number) o′ → length o < maxLength (l .terms .bounds)
   says-short w = wrote-says w .short-of refl
 

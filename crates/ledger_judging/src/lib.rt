@@ -13,7 +13,7 @@ ghost use Rattle.rules.specs.Settle.{isAdd, isInsert};
 ghost use Rattle.update_fields.specs.Fields.{testOf};
 ghost use Rattle.ledger_state.specs.State.{places, Book, placeAt};
 ghost use Rattle.ledger_state.specs.View.{placeOf, bookOf};
-ghost use Rattle.ledger_state.specs.Bounds.{PlaceIn};
+ghost use Rattle.ledger_state.specs.Asked.{PlaceIn};
 ghost use Rattle.ledger_state.specs.PlaceOrder.{placeOrder};
 ghost use Rattle.ledger_judging.specs.Antichain.{clearBelow, antichainAt};
 ghost use Rattle.ledger_judging.specs.Judge.{nothingGathered, gatherAt, gather, namesAncestor, valid, judgeReady, judgeGathered, judgeDecoded, judgeAt, allHeld, readyDecoded, readyAt};

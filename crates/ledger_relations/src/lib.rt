@@ -6,7 +6,7 @@ ghost use Rattle.rules.specs.CausalOrder.{isBefore, isApart};
 ghost use Rattle.ledger_state.specs.State.{places, documentTerms};
 ghost use Rattle.ledger_state.specs.PlaceOrder.{placeOrder};
 ghost use Rattle.ledger_state.specs.View.{placeOf, bookOf};
-ghost use Rattle.ledger_state.specs.Bounds.{PlaceIn, TwoPlaces};
+ghost use Rattle.ledger_state.specs.Asked.{PlaceIn, TwoPlaces};
 ghost use Rattle.ledger_relations.specs.PlaceTests.{headAt, forkedAt, faultAt, presentAt, shownAt};
 ghost use Rattle.ledger_relations.specs.Effects.{forks, affects, heldAffects, someHeld, rankedIn};
 use ledger_state::Ledger;

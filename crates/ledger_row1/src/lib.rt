@@ -1,6 +1,6 @@
 // Whether row 1 of the table applies to a ledger and its store.
 ghost use mathlib.Core.Path.{_≡_};
-ghost use Rattle.ledger_state.specs.State.{places, documentTerms};
+ghost use Rattle.ledger_state.specs.State.{documentTerms};
 ghost use Rattle.ledger_state.specs.View.{placeOf, bookOf};
 ghost use Rattle.ledger_state.specs.Row1.{sound, soundPlace};
 use ledger_state::Ledger;

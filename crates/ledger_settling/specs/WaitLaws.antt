@@ -21,7 +21,7 @@ use Rattle.ledger_judging.specs.declared.Judgement.{Judgement}
 use Rattle.ledger_judging.specs.declared.Judgement.the-variants.{Holds as Judged-holds, Fails, Waits}
 use Rattle.bytes_copy.specs.Overwritten.{overwritten}
 use Rattle.bytes_copy.specs.OverwrittenLaws.{overwritten-before}
-use Rattle.ledger_state.specs.State.{places, Place, Book, placeAt, storedAt, decodedAt, withTaken, findIn, startOf}
+use Rattle.ledger_state.specs.State.{Place, Book, placeAt, storedAt, decodedAt, withTaken, findIn, startOf}
 use Rattle.ledger_judging.specs.Antichain.{antichainAt}
 use Rattle.ledger_judging.specs.Judge.{nothingGathered, gatherBy, gatherAt, gather, valid, judgeReady, judgeGathered, judgeDecoded, judgeAt}
 use Rattle.ledger_settling.specs.Settle.{isWaits, OthersWait}

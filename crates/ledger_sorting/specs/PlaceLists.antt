@@ -11,7 +11,7 @@ use Rattle.bitset.specs.Below.{upTo}
 use Rattle.rules.specs.SetEntry.{entryKey}
 use Rattle.update_fields.specs.Fields.{testOf, isAnyAdd, setEntryIn}
 use Rattle.ledger_state.specs.State.{places, Place, Book, placeAt, decodedIn, Terms}
-use Rattle.ledger_state.specs.Bounds.{TwoPlaces}
+use Rattle.ledger_state.specs.Asked.{TwoPlaces}
 use Rattle.ledger_relations.specs.PlaceTests.{presentAt, idOrder}
 use Rattle.ledger_sorting.specs.declared.Places.{Places}
 use Rattle.ledger_sorting.specs.declared.Key.{Key}

@@ -9,7 +9,7 @@ ghost use Rattle.update_fields.specs.Fields.{authorIn, tagIn};
 ghost use Rattle.ledger_state.specs.State.{places, decodedIn};
 ghost use Rattle.ledger_state.specs.State.{places, documentTerms};
 ghost use Rattle.ledger_state.specs.View.{placeOf, bookOf};
-ghost use Rattle.ledger_state.specs.Bounds.{PlaceIn, TwoPlaces};
+ghost use Rattle.ledger_state.specs.Asked.{PlaceIn, TwoPlaces};
 ghost use Rattle.ledger_sorting.specs.PlaceLists.{placesIn, Lists, keyIn, TwoKeys, keyOf, candidate, KeyedRoomFor, KeyedRoomIn, sortedBy};
 ghost use Rattle.ledger_sorting.specs.declared.Key.the-variants.{SetEntry};
 use crate::Key;

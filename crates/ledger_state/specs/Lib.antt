@@ -1,5 +1,5 @@
 pub mod State
-pub mod Bounds
+pub mod Asked
 pub mod BookLaws
 pub mod View
 pub mod PlaceOrder

@@ -1,6 +1,6 @@
 -- What row 1 asks, as facts; a ledger that holds updates has them. The length of a store, as document 01 has it.
 use mathlib.Core.Path.{_≡_, refl, sym, subst}
-use Prim.Native.Nat.{ℕ, _+_, _≤_, _<_}
+use Prim.Native.Nat.{ℕ, _+_, _*_, _≤_, _<_}
 use native.Mathlib.Nat.{mul-suc, mul-comm, mul-le-mul-left}
 use native.Mathlib.Omega.{arith}
 use mathlib.Core.List.{List}
@@ -23,6 +23,11 @@ use Rattle.ledger_state.specs.Stands.{noUpdate, updateAt, Holds}
 -- "the lent store, which has 34,112 bytes"
 pub store-bytes : storeLength documentTerms ≡ 34112
 store-bytes = refl
+
+-- "from byte 533 × k"
+pub start-bytes : (k : ℕ) → startOf documentTerms k ≡ 533 * k
+unfolding startOf
+start-bytes k = refl
 
 pub record SoundPlace (t : Terms) (used : ℕ) (p : Place) : Type 0 where
   pub long : minLength ≤ p .length

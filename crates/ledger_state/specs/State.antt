@@ -68,7 +68,7 @@ withStanding l k v w =
 abbrev pub storedAt : Book → List ℕ → ℕ → List ℕ
 storedAt l s k = slice s (startOf (l .terms) k) (placeAt l k .length)
 
--- a place is free for the new update u: what `hasRoom` says of the updates stored (`room-stored`, `RoomLaws`), of any ledger and store
+-- a place is free for the new update u: what `hasRoom` says of the updates stored (`room-stored`, `RoomLaws`), of any ledger and store; neither the store nor the update is looked at
 unfoldable pub roomIn : Book → List ℕ → Update → Bool
 roomIn l s u = ltb (l .used) (l .terms .places)
 

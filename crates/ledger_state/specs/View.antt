@@ -1,4 +1,4 @@
--- How a declared ledger is seen: each field of the view is a field of the struct. Laws and contracts speak of the view; a change of how the bookkeeping is kept is a
+-- How a declared ledger is seen: the terms are document 01's, and each other field of the view is a field of the struct. Laws and contracts speak of the view; a change of how the bookkeeping is kept is a
 -- change of this file, of `ViewLaws` and of the functions that read or store a place.
 use Prim.Native.Nat.{ℕ}
 use mathlib.Core.List.{[]}

@@ -4,7 +4,7 @@ ghost use Prim.Native.Nat.{_<_};
 ghost use Rattle.bytes_copy.specs.Overwritten.{overwritten};
 ghost use Rattle.update_format.specs.Decode.{slice};
 ghost use Rattle.ledger_state.specs.State.{places, documentTerms, startOf};
-ghost use Rattle.ledger_state.specs.Bounds.{WritableAt};
+ghost use Rattle.ledger_state.specs.Asked.{WritableAt};
 use bytes_copy::copy;
 use update_format::numbers::MAX_LENGTH;
 

@@ -1,6 +1,7 @@
 -- What the answer of the copy check says of the two sets.
 use mathlib.Core.Path.{_≡_, refl, sym, _∙_, ap}
 use Prim.Native.Nat.{ℕ, _≤_}
+use native.Mathlib.Nat.{le-trans}
 use native.Mathlib.Omega.{arith}
 use mathlib.Core.List.{List}
 use mathlib.Core.Bool.{Bool, true, false}
@@ -9,6 +10,7 @@ use Rattle.update_format.specs.Update.{documentBounds}
 use Rattle.bytes_order.specs.Order.{same}
 use Rattle.bytes_order.specs.OrderLaws.{same→eq, eq→same}
 use Rattle.rules.specs.declared.Form.the-variants.{Full}
+use Rattle.rules.specs.ReportLaws.{document-size}
 use Rattle.ledger_state.specs.declared.Ledger.{Ledger}
 use Rattle.ledger_state.specs.State.{documentTerms, storeLength}
 use Rattle.ledger_state.specs.View.{bookOf, freshLedger}
@@ -127,6 +129,6 @@ check-says (compared n k c h d q) both fits-first fits-second none = compared-sa
 -- Both give one where the stores have the stated length and the buffers 12,000 bytes.
 pub check-answers : {xs ys : List (List ℕ)} {s t o p s′ t′ o′ p′ : List ℕ} {v : CheckValues} → CheckRow xs ys s t o p v s′ t′ o′ p′
     → length s ≡ storeLength documentTerms → length t ≡ storeLength documentTerms → maxReport ≤ length o → maxReport ≤ length p → BothReported v
-check-answers {xs = xs} (first-unreported i c h) u w a b = absurd (report-answers (stored documentTerms xs) refl (offers-stand u c) h a i refl)
-check-answers {ys = ys} (second-unreported n i c h d q) u w a b = absurd (report-answers (stored documentTerms ys) refl (offers-stand w d) q b i refl)
+check-answers {xs = xs} (first-unreported i c h) u w a b = absurd (report-answers (stored documentTerms xs) (offers-stand u c) h (le-trans (document-size Full) a) i refl)
+check-answers {ys = ys} (second-unreported n i c h d q) u w a b = absurd (report-answers (stored documentTerms ys) (offers-stand w d) q (le-trans (document-size Full) b) i refl)
 check-answers (compared {o′ = o′} {p′ = p′} n k c h d q) u w a b = compared-both (take n o′) (take k p′) (same (take n o′) (take k p′)) refl

@@ -1,8 +1,9 @@
 -- The laws of the set of a list of offers: its members, and the updates that they are.
-use mathlib.Core.Path.{_≡_, refl, sym, _∙_, ap}
-use Prim.Native.Nat.{ℕ}
+use mathlib.Core.Path.{_≡_, refl, sym, _∙_, ap, subst}
+use Prim.Native.Nat.{ℕ, _≤_}
 use mathlib.Core.List.{List, _++_}
 use mathlib.Core.Bool.{true, false≢true}
+use lib.ListN.{length, length-map}
 use Rattle.bytes_order.specs.Member.{_∈_, keep, SameMembers}
 use Rattle.bytes_order.specs.MemberLaws.{∈-cast, ∈-append-left, ∈-append-right, ∈-map, map-∈, ∈-keep, keep-∈}
 use Rattle.bytes_order.specs.Distinct.{Distinct}
@@ -14,8 +15,9 @@ use Rattle.update_format.specs.Update.{Update, encode}
 use Rattle.update_format.specs.Decode.{Decoded, refused, update, decode, updateOf}
 use Rattle.update_format.specs.Rows.{update-none}
 use Rattle.update_format.specs.Laws.{decode-sound}
+use Rattle.rules.specs.Terms.{Terms}
 use Rattle.ledger_state.specs.Stands.{ident}
-use Rattle.replicas_theorem.specs.Sets.{isUpdate, wellFormed, setOf, updatesOf, NoCollision}
+use Rattle.replicas_theorem.specs.Sets.{isUpdate, wellFormed, setOf, updatesOf, Fits, NoCollision}
 
 is-update : (d : Decoded) → isUpdate d ≡ true → (u : Update) × (d ≡ update u)
 unfolding isUpdate
@@ -102,3 +104,10 @@ module _ (bounds : Bounds) where
 
   pub updates-unique : (xs ys : List (List ℕ)) → SameMembers (updatesOf bounds xs) (updatesOf bounds ys) → setOf bounds xs ≡ setOf bounds ys
   updates-unique xs ys s = set-unique xs ys (record { forth = updates-⊆ xs ys (s .forth); back = updates-⊆ ys xs (s .back) })
+
+-- a list fits exactly where its set has no more members than there are places
+pub fits← : (t : Terms) (bs : List (List ℕ)) → length (setOf (t .bounds) bs) ≤ t .places → Fits t bs
+fits← t bs h = record { few = subst (λ (n : ℕ). n ≤ t .places) (sym (length-map (setOf (t .bounds) bs) updateOf)) h }
+
+pub fits→ : (t : Terms) (bs : List (List ℕ)) → Fits t bs → length (setOf (t .bounds) bs) ≤ t .places
+fits→ t bs f = subst (λ (n : ℕ). n ≤ t .places) (length-map (setOf (t .bounds) bs) updateOf) (f .few)

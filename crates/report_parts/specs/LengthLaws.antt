@@ -1,5 +1,5 @@
 -- How much each part of the report has to show, for every ledger: the bounds of what a place's bytes show; of the places by standing no more than are taken, in the set
--- and the list together no more either, since no update is an Add and an Insert; and one mark at most of each author.
+-- and the list together no more either, since no update is an Add and an Insert; and one mark at most of each author, but no more than places taken.
 use Prim.Native.Nat.{ℕ, zero, suc, _+_, _≤_, _<_, zero-le}
 use native.Mathlib.Omega.{arith}
 use mathlib.Core.Path.{_≡_, refl, sym, ap, subst}

@@ -32,7 +32,7 @@ use Rattle.bitset.specs.Below.{countBelow, upTo}
 use Rattle.bitset.specs.BelowLaws.{upTo-∈, ∈-upTo, countBelow-le, countBelow-lt, countBelow-length, anyBelow→, anyBelow←}
 use Rattle.bitset.specs.Bits.{has}
 use Rattle.bitset.specs.BitsLaws.{within→lt, count-within, count-lt}
-use Rattle.ledger_state.specs.State.{places, Book, placeAt, decodedAt}
+use Rattle.ledger_state.specs.State.{Book, placeAt, decodedAt}
 use Rattle.update_fields.specs.Fields.{testOf, anchorOf, anchorIn, valueIn}
 use Rattle.ledger_state.specs.Stands.{ident, rules, updateAt, Stands}
 use Rattle.ledger_relations.specs.PlaceTests.{idAt, heldAt, deletedAt, shownAt, idOrder, rankAt}

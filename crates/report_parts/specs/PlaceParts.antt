@@ -13,7 +13,7 @@ use Rattle.rules.specs.Mark.{Mark, marksBy}
 use Rattle.rules.specs.Settle.{isInsert}
 use Rattle.bitset.specs.Below.{anyBelow, upTo}
 use Rattle.update_fields.specs.Fields.{testOf, setEntryIn, valueIn, anchorIn}
-use Rattle.ledger_state.specs.State.{places, Book, decodedAt}
+use Rattle.ledger_state.specs.State.{Book, decodedAt}
 use Rattle.ledger_relations.specs.PlaceTests.{idAt, heldAt, authorAt, rankAt, idOrder, forkedAt, faultAt}
 use Rattle.ledger_sorting.specs.declared.Key.the-variants.{SetEntry as BySetEntry}
 use Rattle.ledger_sorting.specs.PlaceLists.{sortedBy}

@@ -7,7 +7,7 @@ ghost use Rattle.bitset.specs.Bits.{has};
 ghost use Rattle.ledger_relations.specs.PlaceTests.{authorAt};
 ghost use Rattle.ledger_state.specs.State.{places};
 ghost use Rattle.ledger_state.specs.View.{bookOf};
-ghost use Rattle.ledger_state.specs.Bounds.{PlaceIn};
+ghost use Rattle.ledger_state.specs.Asked.{PlaceIn};
 ghost use Rattle.report_parts.specs.PlaceParts.{evidenceAt, markedBy};
 use crate::Evidence;
 use bitset::Set;

@@ -13,7 +13,7 @@ use Rattle.report_parts.specs.PlaceParts.{setEntryAt, valueAt}
 use Rattle.report_wording.specs.declared.Part.{Part}
 use Rattle.report_wording.specs.declared.Part.the-variants.{Held, Heads, Waiting, Void, Set, List as Entries}
 use Rattle.report_wording.specs.Lines.{maxReportLine, wordOf}
-use Rattle.ledger_state.specs.Bounds.{PlaceIn}
+use Rattle.ledger_state.specs.Asked.{PlaceIn}
 use Rattle.bytes_print.specs.Page.{farthest}
 use Rattle.ledger_sorting.specs.declared.Places.{Places}
 use Rattle.ledger_sorting.specs.PlaceLists.{PlaceList, InOrder}

@@ -6,7 +6,7 @@ ghost use Prim.Native.Nat.{_+_, _≤_};
 ghost use Rattle.bytes_print.specs.Page.{Prints};
 ghost use Rattle.ledger_state.specs.State.{decodedIn, documentTerms};
 ghost use Rattle.ledger_state.specs.View.{placeOf, bookOf};
-ghost use Rattle.ledger_state.specs.Bounds.{PlaceIn};
+ghost use Rattle.ledger_state.specs.Asked.{PlaceIn};
 ghost use Rattle.report_text.specs.Parts.{maxLines, maxPart, LineAt, ShownLine, ListOnPage, listedIn, lineOf, partLines, partOf};
 ghost use Rattle.report_wording.specs.Lines.{maxReportLine, lineBy};
 ghost use Rattle.ledger_sorting.specs.PlaceLists.{placesIn};

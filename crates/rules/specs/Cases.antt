@@ -10,14 +10,14 @@ use Rattle.bytes_order.specs.Order.{same, before}
 use Rattle.bytes_order.specs.Member.{member, keep, any, all, concatMap}
 use Rattle.bytes_order.specs.Sort.{insert, sort}
 use Rattle.bytes_ascii.specs.Ascii.{codes, ascii, digit, hexByte, hex, decimalIn, decimal}
-use Rattle.update_format.specs.Update.{Add, Remove, encode, encodeOperation}
+use Rattle.update_format.specs.Update.{documentBounds, Add, Remove, encode, encodeOperation}
 use Rattle.rules.specs.declared.CausalOrder.the-variants.{Same, Before, After, Apart}
 use Rattle.rules.specs.declared.Form.the-variants.{Full, Short}
 use Rattle.rules.specs.SetEntry.{entryKey}
 use Rattle.rules.specs.Mark.{markKey, kindsBy, marksBy}
 use Rattle.rules.specs.CausalOrder.{orderBy, isBefore, isApart, beforeOrAfter, sameOrBefore}
 use Rattle.rules.specs.Settle.{isHeld, isWaiting, isVoid, isAdd, isInsert, heldIn, voidIn, addIn, insertIn, aboveIn, orderIn, ancestorsOf, antichain, validOp, fineBy, ruled, judgeFine, judgeKnown, judgeBy, judgeFrom, judge, round, rounds, start, startAll, settledTable, heldRow, covered, heads, forkedBy, forkedRow, faultRow, someRowBy, marksIn, marks, names, removed, tagsOf, setEntriesFrom, setEntries, rank, anchored, siblings, under, walk, entries, deletes, deleted, valuesOf, list, partsIn, partsOf, causalOrder}
-use Rattle.rules.specs.Terms.{places}
+use Rattle.rules.specs.Terms.{places, mostAuthors}
 use Rattle.rules.specs.Report.{updateLine, setLine, bytesLine, idLine, markWord, markLine, partText, readOffsText, opening, reportText, reportOf, authorDigits, reportSize, maxShortReport}
 use Rattle.rules.specs.Small.{Small, SmallChoice, nameIn, naming, byBytes, by, namedUpdates, added, marked, expect, #a, #b, a, b, a′, d, e, e′, e″, r, r′, r″, c, c′, n, n′, o, o′, p, q, q′, i, x, m, f, g, w, z, y, i′, x′, v, u, k, rulesOf, smallSet, sixteen, further, smallLedgers, apart, orderNamed, crossedRows, oneAdd, twoAdds, addRules, addShort, whole, wholeRules, wholeSet, wholeFull, wholeShort, choiceRules, choiceSet, leftIn, root, next, ids, elevenHeads, smallChoices, longestShort, longerShort, booked, bookedBy, bookedWidely}
 use Rattle.rules.specs.Writing.{heldBy, ranked, atOrAbove, firstHeads, others, chosenFrom, chosen, writtenIn, writableIn, writtenOf, writableOf}
@@ -79,6 +79,6 @@ longest-computed = (refl, refl)
 
 -- .. and one with three-digit authors, which is longer and within the bound that the terms give
 pub longer-computed : (length (opening ++ readOffsText (partsOf byBytes (booked bookedWidely places))) ≡ longerShort)
-    × (leb longerShort (reportSize (record { authors = 256; predecessors = 8 }) places Short) ≡ true)
+    × (reportSize (record { authors = mostAuthors; predecessors = documentBounds .predecessors }) places Short ≡ 3300)
 unfolding booked bookedWidely encode encodeOperation same before member keep any all concatMap insert sort isHeld isWaiting isVoid isAdd isInsert heldIn voidIn addIn insertIn aboveIn orderIn orderBy isBefore isApart beforeOrAfter ancestorsOf antichain validOp fineBy ruled judgeFine judgeKnown judgeBy judgeFrom judge round rounds start startAll settledTable heldRow covered heads forkedBy forkedRow faultRow someRowBy kindsBy marksBy markKey marksIn marks names removed tagsOf setEntriesFrom setEntries entryKey rank anchored siblings under walk entries deletes deleted valuesOf list partsIn partsOf codes ascii digit hexByte hex decimalIn decimal setLine bytesLine markWord markLine partText reportSize authorDigits
 longer-computed = (refl, refl)

@@ -132,6 +132,10 @@ maxReport = 12000
 abbrev pub maxShortReport : ℕ
 maxShortReport = 2644
 
+-- document 02, E6: "a report fits in 256 bytes a place" (`allowed-size`, `ReportLaws`)
+abbrev pub reportPerPlace : ℕ
+reportPerPlace = 256
+
 abbrev pub longest : Form → ℕ
 longest Full = maxReport
 longest Short = maxShortReport

@@ -29,11 +29,12 @@ use Rattle.rules.specs.Mark.{Mark, markKey}
 use Rattle.rules.specs.ReadOff.{MarkedFor}
 use Rattle.rules.specs.Parts.{Parts, ReadFrom}
 use Rattle.rules.specs.Settle.{Table, isInsert, rounds, start, startAll, settledTable, heads, marks, setEntries, walk, entries, list, partsIn, partsOf}
-use Rattle.bytes_ascii.specs.Ascii.{codes, ascii, digit, decimal, decimalIn, decimalLimit}
+use Rattle.bytes_ascii.specs.Ascii.{codes, ascii, digit, decimal, decimalIn}
 use Rattle.bytes_ascii.specs.AsciiLaws.{decimal-length}
-use Rattle.rules.specs.Terms.{Terms, places, allowed}
-use Rattle.rules.specs.TermsLaws.{allowed→, places-least}
-use Rattle.rules.specs.Report.{setLine, markLine, partText, opening, reportText, reportOf, fromMarks, authorDigits, reportSize, maxReport, maxShortReport, longest}
+use Rattle.rules.specs.Terms.{Terms, places, documentTerms, allowed}
+use Rattle.rules.specs.Room.{RoomForAll}
+use Rattle.rules.specs.TermsLaws.{allowed→, places-least, authors-printed}
+use Rattle.rules.specs.Report.{setLine, markLine, partText, opening, reportText, reportOf, fromMarks, authorDigits, reportSize, maxReport, maxShortReport, longest, reportPerPlace}
 use Rattle.rules.specs.Decides.{Decides}
 use Rattle.rules.specs.LeastSets.{held-stored, void-stored}
 use Rattle.rules.specs.Settling.{settled-decides, covers}
@@ -146,20 +147,20 @@ module _ (form : Form) (rules : Rules) (S S′ : List Update) (e : reportOf form
   report-shows-list = map-injective (λ (v : List ℕ). v) (P .list) (P′ .list) (λ v w m n q. q) (shown .list-values)
 
   -- authors of well-formed updates are told apart by their digits
-  module _ (d : Distinct (rules .ident) S) (d′ : Distinct (rules .ident) S′) {b : Bounds} (printed : b .authors ≤ decimalLimit)
-      (bounded : (u : Update) → u ∈ S → Bounded b u) (bounded′ : (u : Update) → u ∈ S′ → Bounded b u) where
+  module _ (d : Distinct (rules .ident) S) (d′ : Distinct (rules .ident) S′) (t : Terms) (terms : allowed t ≡ true)
+      (bounded : (u : Update) → u ∈ S → Bounded (t .bounds) u) (bounded′ : (u : Update) → u ∈ S′ → Bounded (t .bounds) u) where
     pub report-shows-entries : P .set ≡ P′ .set
     report-shows-entries =
         map-injective setLine (P .set) (P′ .set)
-        (λ x y m n. set-line-injective x y (le-trans (set-entry-author bounded (read-right rules S d) x m) printed)
-        (le-trans (set-entry-author bounded′ (read-right rules S′ d′) y n) printed))
+        (λ x y m n. set-line-injective x y (le-trans (set-entry-author bounded (read-right rules S d) x m) (authors-printed t terms))
+        (le-trans (set-entry-author bounded′ (read-right rules S′ d′) y n) (authors-printed t terms)))
         (shown .set-lines)
 
     pub report-shows-marks : P .marks ≡ P′ .marks
     report-shows-marks =
         map-injective markLine (P .marks) (P′ .marks)
-        (λ x y m n. mark-line-injective x y (le-trans (mark-author bounded (read-right rules S d) x m) printed)
-        (le-trans (mark-author bounded′ (read-right rules S′ d′) y n) printed))
+        (λ x y m n. mark-line-injective x y (le-trans (mark-author bounded (read-right rules S d) x m) (authors-printed t terms))
+        (le-trans (mark-author bounded′ (read-right rules S′ d′) y n) (authors-printed t terms)))
         (shown .mark-lines)
 
 -- Document 02, E10: the short report is the first line, and what the full one has from its marks to its end
@@ -234,22 +235,43 @@ report-length form rules sized {b} S d bounded = le-trans (step form) (size-grow
     step Full = text-length rules sized b (settledTable rules S) (table-sized rules S d bounded)
     step Short = short-text-length rules sized b (settledTable rules S) (table-sized rules S d bounded)
 
--- "none passes 12,000", at document 01's terms
+-- at document 01's terms
 pub document-size : (form : Form) → reportSize documentBounds places form ≤ longest form
 unfolding reportSize authorDigits decimal decimalIn digit
 document-size Full = leb-true (reportSize documentBounds places Full) maxReport refl
 document-size Short = leb-true (reportSize documentBounds places Short) maxShortReport refl
 
+pub document-short-size : reportSize documentBounds places Short ≡ maxShortReport
+unfolding reportSize authorDigits decimal decimalIn digit
+document-short-size = refl
+
+-- no report of updates for which there is room is longer than the terms allow
+pub terms-report-length : (t : Terms) (form : Form) (rules : Rules) → ((u : Update) → length (rules .ident u) ≡ idLength) → (S : List Update) → Distinct (rules .ident) S
+    → RoomForAll t S → ((u : Update) → u ∈ S → Bounded (t .bounds) u) → length (reportOf form rules S) ≤ reportSize (t .bounds) (t .places) form
+terms-report-length t form rules sized S d room bounded = le-trans (report-length form rules sized S d bounded) (size-grows (t .bounds) form (room .few))
+
+-- "none passes 12,000": of at most 64 updates within document 01's bounds
+pub document-report-length : (form : Form) (rules : Rules) → ((u : Update) → length (rules .ident u) ≡ idLength) → (S : List Update) → Distinct (rules .ident) S
+    → RoomForAll documentTerms S → ((u : Update) → u ∈ S → Bounded documentBounds u) → length (reportOf form rules S) ≤ longest form
+document-report-length form rules sized S d room bounded = le-trans (terms-report-length documentTerms form rules sized S d room bounded) (document-size form)
+
 -- document 02, E6: "a report fits in 256 bytes a place", at all allowed terms
-pub allowed-size : (t : Terms) → allowed t ≡ true → reportSize (t .bounds) (t .places) Full ≤ 256 * t .places
+pub allowed-size : (t : Terms) → allowed t ≡ true → (form : Form) → reportSize (t .bounds) (t .places) form ≤ reportPerPlace * t .places
 unfolding reportSize authorDigits
-allowed-size t e =
-    let a = allowed→ t e in
-    let n : ℕ = t .places in
-    let d : ℕ = authorDigits (t .bounds) in
-    let small : d ≤ 3 = decimal-length 3 (t .bounds .authors - 1) (omega arith) (omega (arith, a .within .authors-most)) in
-    let updates : (68 + d) * n ≤ 71 * n = mul-le-mul-right n (omega arith) in
-    let shown : (36 + d) * n ≤ 39 * n = mul-le-mul-right n (omega arith) in
-    let marked : (9 + d) * min (t .bounds .authors) n ≤ 12 * n = mul-le-mul (omega arith) (min-le-right (t .bounds .authors) n) in
-    let least : 64 ≤ n = places-least a in
-    omega arith
+allowed-size t e form = step form
+  where
+    small : authorDigits (t .bounds) ≤ 3
+    small = decimal-length 3 (t .bounds .authors - 1) (omega arith) (omega (arith, allowed→ t e .within .authors-most))
+
+    updates : (68 + authorDigits (t .bounds)) * t .places ≤ 71 * t .places
+    updates = mul-le-mul-right (t .places) (omega (arith, small))
+
+    shown : (36 + authorDigits (t .bounds)) * t .places ≤ 39 * t .places
+    shown = mul-le-mul-right (t .places) (omega (arith, small))
+
+    marked : (9 + authorDigits (t .bounds)) * min (t .bounds .authors) (t .places) ≤ 12 * t .places
+    marked = mul-le-mul (omega (arith, small)) (min-le-right (t .bounds .authors) (t .places))
+
+    step : (form : Form) → reportSize (t .bounds) (t .places) form ≤ reportPerPlace * t .places
+    step Full = omega (arith, updates, shown, marked, places-least (allowed→ t e))
+    step Short = omega (arith, shown, marked, places-least (allowed→ t e))

@@ -21,8 +21,22 @@ documentTerms = record { places = places; bounds = documentBounds }
 unfoldable pub allowedPlaces : ℕ → Bool
 allowedPlaces n = eqb n 64 || (eqb n 256 || eqb n 1024)
 
+abbrev pub fewestAuthors : ℕ
+fewestAuthors = 16
+
+abbrev pub mostAuthors : ℕ
+mostAuthors = 256
+
+abbrev pub fewestPredecessors : ℕ
+fewestPredecessors = 8
+
+abbrev pub mostPredecessors : ℕ
+mostPredecessors = 16
+
 unfoldable pub allowedBounds : Bounds → Bool
-allowedBounds b = (leb 16 (b .authors) && leb (b .authors) 256) && (leb 8 (b .predecessors) && leb (b .predecessors) 16)
+allowedBounds b =
+    (leb fewestAuthors (b .authors) && leb (b .authors) mostAuthors)
+    && (leb fewestPredecessors (b .predecessors) && leb (b .predecessors) mostPredecessors)
 
 unfoldable pub allowed : Terms → Bool
 allowed t = allowedPlaces (t .places) && allowedBounds (t .bounds)

@@ -472,7 +472,7 @@ well-formed-decoded bounds b = (
 pub document-longest : maxLength documentBounds ≡ 533
 document-longest = refl
 
--- bounds within others
+-- Bounds within others: those that document 02, E6, allows are document 01's or wider, so that what was well formed stays so.
 pub record Wider (bounds wider : Bounds) : Type 0 where
   pub more-authors : bounds .authors ≤ wider .authors
   pub more-predecessors : bounds .predecessors ≤ wider .predecessors

@@ -26,8 +26,8 @@ idLength = 32
 abbrev pub tagLength : ℕ
 tagLength = 16
 
--- the shortest and the longest well-formed update: an Add without predecessors, and a Remove with as many of both as can be. "the longest update, 21 + 32 × predecessors
--- + 256": 533 at document 01's bounds (`document-longest`, `Laws`)
+-- the shortest and the longest well-formed update: an Add without predecessors, and a Remove, of length "21 + 32n + 32m", with as many of both as can be: 533 at document
+-- 01's bounds (`document-longest`, `Laws`)
 abbrev pub minLength : ℕ
 minLength = 20
 

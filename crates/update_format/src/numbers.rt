@@ -5,7 +5,7 @@ ghost use Rattle.update_format.specs.Update.{documentBounds, maxLength, 
 use crate::Bounds;
 
 // Document 01's own bounds.
-pub fn document() -> Bounds
+pub fn document_bounds() -> Bounds
     ensures { λ r. ⌜ r ≡ documentBounds ⌝ }
 {
     Bounds {
@@ -35,7 +35,9 @@ pub const MAX_NAMED: u8 = 8;
 
 pub const MIN_LENGTH: usize = 20;
 
-pub const MAX_LENGTH: usize = 533;
+pub const MAX_LENGTH: usize = MIN_LENGTH
+    + 1
+    + ID_LENGTH * (MAX_PREDECESSORS as usize + MAX_NAMED as usize);
 
 pub const ID_LENGTH: usize = 32;
 

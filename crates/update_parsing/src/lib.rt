@@ -12,7 +12,7 @@ use update_format::Malformed;
 use update_format::ParseResult;
 use update_format::numbers::MIN_LENGTH;
 use update_format::numbers::VERSION;
-use update_format::numbers::document;
+use update_format::numbers::document_bounds;
 use update_format::numbers::max_length;
 use update_header::read_header;
 use update_header::wide;
@@ -47,5 +47,5 @@ pub fn read(s: &[u8]) -> ParseResult
     ensures decoded { λ r. ⌜ decodedOf (now (s .entry)) r ≡ decode documentBounds (now (s .entry)) ⌝ }
     ensures offsets { λ r. ⌜ r ≡ parseOf documentBounds (now (s .entry)) ⌝ }
 {
-    read_within(document(), s)
+    read_within(document_bounds(), s)
 }

@@ -20,7 +20,7 @@ abbrev pub wroteValues : Wrote → Output
 wroteValues (Written n) = putBytes n
 wroteValues (Refused r) = refusedBy (refusalNumber r)
 
--- The update that is written. For every ledger and store it has the author and the operation asked for, its bytes are well formed, and they are at most 533, or what the terms say. For a
+-- The update that is written. For every ledger and store it has the author and the operation asked for, its bytes are well formed, and no more than the longest update of the terms has (533 at document 01's). For a
 -- ledger that stands it is the one that the rules give. Left free for a ledger that stands for no set of updates: which ids it names as predecessors.
 pub record WrittenUpdate (l : Book) (s : List ℕ) (a : ℕ) (o : Operation) (u : Update) : Type 0 where
   pub by-author : u .author ≡ a
@@ -31,7 +31,7 @@ pub record WrittenUpdate (l : Book) (s : List ℕ) (a : ℕ) (o : Operation) (u 
 
 -- "The writer checks 1, 4, 8 .., 9, 12, 11." "The writer does not offer it." The answer by its values, and the output buffer.
 -- Left free for a ledger that stands for no set of updates, where rows 1, 4, 8 and 9 do not apply: which of row 12, row 11 and an update comes, since the rules say only
--- of a set which operation would be void. Even then row 11 comes only for a buffer shorter than such an update, and so never for one of 533 bytes.
+-- of a set which operation would be void. Even then row 11 comes only for a buffer shorter than such an update, and so never for one as long as the longest update.
 pub data Writing (l : Book) (s : List ℕ) (a : ℕ) (k : Kind) (t : List ℕ) (i : Id) (named o : List ℕ) : Output → List ℕ → Type 0 where
   unfit : sound l s ≡ false → Writing l s a k t i named o (refusedBy row1Number) o
   author : sound l s ≡ true → l .terms .bounds .authors ≤ a → Writing l s a k t i named o (refusedBy row4Number) o

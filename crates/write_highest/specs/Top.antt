@@ -7,7 +7,7 @@ use mathlib.Core.Option.{Option, none, some}
 use mathlib.Core.Bool.{Bool, true, cond, _&&_, _||_}
 use lib.Dec.{ltb, eqb}
 use Rattle.bytes_order.specs.Order.{before}
-use Rattle.ledger_state.specs.State.{Book, places, foundOf}
+use Rattle.ledger_state.specs.State.{Book, foundOf}
 use Rattle.ledger_relations.specs.PlaceTests.{idAt, heldAt, authorAt, rankAt}
 use Rattle.ledger_state.specs.declared.Found.{Found}
 

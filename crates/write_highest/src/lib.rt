@@ -4,7 +4,7 @@ ghost use Prim.Native.Nat.{_+_, _≤_, _<_};
 ghost use Rattle.bytes_order.specs.Order.{before};
 ghost use Rattle.ledger_state.specs.State.{places, placeAt, foundOf};
 ghost use Rattle.ledger_state.specs.View.{bookOf};
-ghost use Rattle.ledger_state.specs.Bounds.{TwoPlaces};
+ghost use Rattle.ledger_state.specs.Asked.{TwoPlaces};
 ghost use Rattle.write_highest.specs.Top.{ownAt, higher, betterThan, topBelow, TopSoFar};
 use bytes_order::Order;
 use ledger_state::Found;

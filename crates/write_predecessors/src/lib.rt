@@ -10,7 +10,7 @@ ghost use Rattle.bitset.specs.Below.{firstBelow};
 ghost use Rattle.rules.specs.CausalOrder.{sameOrBefore};
 ghost use Rattle.ledger_state.specs.State.{places, foundOf};
 ghost use Rattle.ledger_state.specs.View.{bookOf};
-ghost use Rattle.ledger_state.specs.Bounds.{TwoPlaces};
+ghost use Rattle.ledger_state.specs.Asked.{TwoPlaces};
 ghost use Rattle.ledger_state.specs.PlaceOrder.{orderAt};
 ghost use Rattle.ledger_relations.specs.PlaceTests.{headAt};
 ghost use Rattle.ledger_sorting.specs.PlaceLists.{placesIn, Lists, RoomIn};
