@@ -19,7 +19,7 @@ use Rattle.rules.specs.CausalOrder.{orderBy, isBefore, isApart, beforeOr
 use Rattle.rules.specs.Settle.{isHeld, isWaiting, isVoid, isAdd, isInsert, heldIn, voidIn, addIn, insertIn, aboveIn, orderIn, ancestorsOf, antichain, validOp, fineBy, ruled, judgeFine, judgeKnown, judgeBy, judgeFrom, judge, round, rounds, start, startAll, settledTable, heldRow, covered, heads, forkedBy, forkedRow, faultRow, someRowBy, marksIn, marks, names, removed, tagsOf, setEntriesFrom, setEntries, rank, anchored, siblings, under, walk, entries, deletes, deleted, valuesOf, list, partsIn, partsOf, causalOrder}
 use Rattle.rules.specs.Terms.{places, mostAuthors}
 use Rattle.rules.specs.Report.{updateLine, setLine, bytesLine, idLine, markWord, markLine, partText, readOffsText, opening, reportText, reportOf, authorDigits, reportSize, maxShortReport}
-use Rattle.rules.specs.Small.{Small, SmallChoice, nameIn, naming, byBytes, by, namedUpdates, added, marked, expect, #a, #b, a, b, a′, d, e, e′, e″, r, r′, r″, c, c′, n, n′, o, o′, p, q, q′, i, x, m, f, g, w, z, y, i′, x′, v, u, k, rulesOf, smallSet, sixteen, further, smallLedgers, apart, orderNamed, crossedRows, oneAdd, twoAdds, addRules, addShort, whole, wholeRules, wholeSet, wholeFull, wholeShort, choiceRules, choiceSet, leftIn, root, next, ids, elevenHeads, smallChoices, longestShort, longerShort, booked, bookedBy, bookedWidely}
+use Rattle.rules.specs.Small.{Small, SmallChoice, nameIn, naming, byBytes, by, namedUpdates, added, marked, expect, #a, #b, a, b, a′, d, e, e′, e″, r, r′, r″, c, c′, n, n′, o, o′, p, q, q′, i, x, m, f, g, w, z, y, i′, x′, v, u, k, rulesOf, smallSet, sixteen, further, smallLedgers, apart, orderNamed, crossedRows, oneAdd, twoAdds, addRules, addShort, whole, wholeRules, wholeSet, wholeFull, wholeShort, choiceRules, choiceSet, leftIn, root, next, ids, elevenHeads, smallChoices, longestShort, widerShort, booked, bookedBy, bookedWidely}
 use Rattle.rules.specs.Writing.{heldBy, ranked, atOrAbove, firstHeads, others, chosenFrom, chosen, writtenIn, writableIn, writtenOf, writableOf}
 
 pub computed : map (λ (c : Small). partsOf (rulesOf c) (smallSet c)) smallLedgers ≡ map (λ (c : Small). c .gives) smallLedgers
@@ -77,8 +77,8 @@ pub longest-computed : (length (opening ++ readOffsText (partsOf byBytes (booked
 unfolding booked bookedBy encode encodeOperation same before member keep any all concatMap insert sort isHeld isWaiting isVoid isAdd isInsert heldIn voidIn addIn insertIn aboveIn orderIn orderBy isBefore isApart beforeOrAfter ancestorsOf antichain validOp fineBy ruled judgeFine judgeKnown judgeBy judgeFrom judge round rounds start startAll settledTable heldRow covered heads forkedBy forkedRow faultRow someRowBy kindsBy marksBy markKey marksIn marks names removed tagsOf setEntriesFrom setEntries entryKey rank anchored siblings under walk entries deletes deleted valuesOf list partsIn partsOf codes ascii digit hexByte hex decimalIn decimal setLine bytesLine markWord markLine partText
 longest-computed = (refl, refl)
 
--- .. and one with three-digit authors, which is longer and within the bound that the terms give
-pub longer-computed : (length (opening ++ readOffsText (partsOf byBytes (booked bookedWidely places))) ≡ longerShort)
+-- .. and one with three-digit authors, with the bound that their terms give for 64 places
+pub wider-computed : (length (opening ++ readOffsText (partsOf byBytes (booked bookedWidely 8))) ≡ widerShort)
     × (reportSize (record { authors = mostAuthors; predecessors = documentBounds .predecessors }) places Short ≡ 3300)
 unfolding booked bookedWidely encode encodeOperation same before member keep any all concatMap insert sort isHeld isWaiting isVoid isAdd isInsert heldIn voidIn addIn insertIn aboveIn orderIn orderBy isBefore isApart beforeOrAfter ancestorsOf antichain validOp fineBy ruled judgeFine judgeKnown judgeBy judgeFrom judge round rounds start startAll settledTable heldRow covered heads forkedBy forkedRow faultRow someRowBy kindsBy marksBy markKey marksIn marks names removed tagsOf setEntriesFrom setEntries entryKey rank anchored siblings under walk entries deletes deleted valuesOf list partsIn partsOf codes ascii digit hexByte hex decimalIn decimal setLine bytesLine markWord markLine partText reportSize authorDigits
-longer-computed = (refl, refl)
+wider-computed = (refl, refl)

@@ -552,9 +552,10 @@ unfoldable pub booked : (ℕ → ℕ) → ℕ → List Update
 booked who zero = []
 booked who (suc i) = record { author = who i; preds = []; op = Add (i ∷ replicate 15 0) } ∷ booked who i
 
--- With 256 authors (document 02, E6) it gets longer: 64 Adds, two by each of the authors 100 to 131. 36 bytes of an empty report; 32 mark lines of 11; 64 set lines of 39.
-abbrev pub longerShort : ℕ
-longerShort = 2884
+-- Of three-digit authors (document 02, E6) the lines are longer: 8 Adds, two by each of the authors 100 to 103. 36 bytes of an empty report; 4 mark lines of 11; 8 set lines
+-- of 39. (64 Adds by 32 authors make 2,884 by the same count.)
+abbrev pub widerShort : ℕ
+widerShort = 392
 
 unfoldable pub bookedWidely : ℕ → ℕ
 bookedWidely i = 100 + i / 2
