@@ -1,4 +1,4 @@
--- What is chosen, for every ledger: at most as many of the places as an update names taken, strictly ascending by id.
+-- What is chosen, for every ledger: of the places taken at most as many as an update may name, strictly ascending by id.
 use Prim.Native.Nat.{ℕ, _-_, _≤_, _<_}
 use native.Mathlib.Omega.{arith}
 use mathlib.Core.Path.{_≡_, refl}
