@@ -46,14 +46,14 @@ impl Rng {
         z = (z ^ (z >> 27)).wrapping_mul(0x94d0_49bb_1331_11eb);
         z ^ (z >> 31)
     }
-    fn below(&mut self, n: usize) -> usize {
+    pub fn below(&mut self, n: usize) -> usize {
         (self.next() % n as u64) as usize
     }
     /// From `low` to `high`, both included.
-    fn range(&mut self, low: usize, high: usize) -> usize {
+    pub fn range(&mut self, low: usize, high: usize) -> usize {
         low + self.below(high - low + 1)
     }
-    fn percent(&mut self, p: usize) -> bool {
+    pub fn percent(&mut self, p: usize) -> bool {
         self.below(100) < p
     }
     fn pick<T: Copy>(&mut self, from: &[T]) -> Option<T> {
@@ -63,7 +63,7 @@ impl Rng {
             Some(from[self.below(from.len())])
         }
     }
-    fn shuffle<T>(&mut self, items: &mut [T]) {
+    pub fn shuffle<T>(&mut self, items: &mut [T]) {
         for i in (1..items.len()).rev() {
             items.swap(i, self.below(i + 1));
         }
@@ -684,8 +684,8 @@ pub fn offer(bytes: &[u8]) -> Vec<u8> {
     format!("(offer {})", hex(bytes)).into_bytes()
 }
 
-/// A line with a malformed update, one fault or several.
-fn malformed_line(rng: &mut Rng, set: &[Vec<u8>]) -> Vec<u8> {
+/// A malformed update, with one fault or several.
+pub fn malformed_update(rng: &mut Rng, set: &[Vec<u8>]) -> Vec<u8> {
     loop {
         let root = encode(3, &[], &Op::Add(rng.bytes()));
         let base = if set.is_empty() || rng.percent(10) { &root } else { &set[rng.below(set.len())] };
@@ -701,7 +701,7 @@ fn malformed_line(rng: &mut Rng, set: &[Vec<u8>]) -> Vec<u8> {
             }
         }
         if read_update(&bytes).is_err() {
-            return offer(&bytes);
+            return bytes;
         }
     }
 }
@@ -818,7 +818,7 @@ pub fn session(seed: u64, kind: &str, shuffled: bool) -> Vec<u8> {
             match rng.weighted(&between) {
                 0 => break,
                 1 if at > 0 => lines.push(offer(&set[order[rng.below(at)]])),
-                2 => lines.push(malformed_line(&mut rng, &set)),
+                2 => lines.push(offer(&malformed_update(&mut rng, &set))),
                 3 => lines.push(garbage_line(&mut rng, &set)),
                 _ => {}
             }
@@ -831,7 +831,7 @@ pub fn session(seed: u64, kind: &str, shuffled: bool) -> Vec<u8> {
     if kind == "full" {
         for _ in 0..10 {
             lines.push(offer(&set[rng.below(set.len())]));
-            lines.push(malformed_line(&mut rng, &set));
+            lines.push(offer(&malformed_update(&mut rng, &set)));
         }
     }
     let mut input = lines.join(&b'\n');

@@ -9,7 +9,7 @@ use Rattle.update_format.specs.ParseResult.{malformedNumber}
 use Rattle.bytes_ascii.specs.Ascii.{codes, ascii, decimal}
 use Rattle.rules.specs.declared.Standing.{Standing}
 use Rattle.ledger_refusals.specs.declared.Refusal.{Refusal}
-use Rattle.ledger_refusals.specs.declared.Refusal.the-variants.{Unfit, Malformed as Bad, Full, Short, Invalid}
+use Rattle.ledger_refusals.specs.declared.Refusal.the-variants.{Unfit, Malformed as Bad, Full, Short, Invalid, Bundle}
 use Rattle.ledger_offering.specs.declared.Answer.the-variants.{Taken, Known, Refused}
 use Rattle.ledger_offering.specs.Words.{standingWord, valuesText, answerText}
 use Rattle.ledger_refusals.specs.Numbers.{refusalNumber}
@@ -50,6 +50,7 @@ refusal-small (Bad m) = malformed-small m
 refusal-small Full = omega arith
 refusal-small Short = omega arith
 refusal-small Invalid = omega arith
+refusal-small Bundle = omega arith
 
 pub unread-text : 40 ∷ 117 ∷ 110 ∷ 114 ∷ 101 ∷ 97 ∷ 100 ∷ 41 ∷ 10 ∷ [] ≡ ascii "(unread)\n"
 unfolding ascii codes

@@ -13,8 +13,9 @@ use Rattle.ledger_state.specs.View.{bookOf}
 use Rattle.ledger_state.specs.Stands.{Stands}
 use Rattle.ledger_offering.specs.Values.{OfferValues}
 use Rattle.ledger_offering.specs.Words.{valuesText}
-use Rattle.ledger.specs.Calls.{Calls, call, offer-stands}
-use Rattle.ledger.specs.Calls as calls
+use Rattle.ledger_offering.specs.Calls.{Offers, call}
+use Rattle.ledger_offering.specs.Calls as calls
+use Rattle.ledger.specs.Calls.{offer-stands}
 use Rattle.ledger.specs.Answers.{answer-right}
 use Rattle.command_syntax.specs.Syntax.{readLine}
 use Rattle.command_lines.specs.Lines.{broken}
@@ -38,10 +39,10 @@ offersOf (none ∷ os) = offersOf os
 offersOf (some b ∷ os) = b ∷ offersOf os
 
 -- what the ledger and the store come to is what the calls of `offer` come to
-pub answers-calls : {l l′ : Ledger} {s s′ ts : List ℕ} {os : List (Option (List ℕ))} → AnswersLines l s os l′ s′ ts → Calls l s (offersOf os) l′ s′
-answers-calls done = calls.done
+pub answers-calls : {l l′ : Ledger} {s s′ ts : List ℕ} {os : List (Option (List ℕ))} → AnswersLines l s os l′ s′ ts → Offers l s (offersOf os) l′ s′
+answers-calls done = ([], calls.done)
 answers-calls (next unread c) = answers-calls c
-answers-calls (next (offered o) c) = call o (answers-calls c)
+answers-calls (next (offered o) c) = let d = answers-calls c in (_, call o (d .1))
 
 -- the lines of one text after another
 pub lines-append : (line xs ys : List ℕ)

@@ -8,7 +8,7 @@ use lib.ListN.{length}
 use Rattle.ledger_state.specs.declared.Ledger.{Ledger}
 use Rattle.ledger_state.specs.View.{bookOf}
 use Rattle.ledger_state.specs.Stands.{Stands}
-use Rattle.ledger.specs.Calls.{Calls}
+use Rattle.ledger_offering.specs.Calls.{Offers}
 use Rattle.command_syntax.specs.Syntax.{maxLine}
 use Rattle.command_lines.specs.Lines.{Keeps}
 use Rattle.command_lines.specs.KeepLaws.{keeps-some}
@@ -41,7 +41,7 @@ moves-then {l} {l′ = l′} {s} {s′ = s′} {buffer′ = buffer′} {xs = xs}
 
 -- For every ledger and store, and a line buffer of maxLine bytes: the ledger and the store that come back are those of calls of `offer`.
 pub moves-calls : {l l′ : Ledger} {s s′ buffer buffer′ xs ys : List ℕ} {fill fill′ : ℕ} → length buffer ≡ maxLine
-    → Moves l s buffer fill xs ys l′ s′ buffer′ fill′ → (bs : List (List ℕ)) × Calls l s bs l′ s′
+    → Moves l s buffer fill xs ys l′ s′ buffer′ fill′ → (bs : List (List ℕ)) × Offers l s bs l′ s′
 moves-calls {buffer = buffer} {fill = fill} e m = let k = keeps-some buffer fill e in (_, answers-calls (m .answers (k .0) (k .1)))
 
 -- the ledger, its store and the line so far are where the machine is

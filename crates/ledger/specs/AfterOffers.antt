@@ -21,7 +21,8 @@ use Rattle.ledger_offering.specs.Values.{OfferValues}
 use Rattle.ledger_offering.specs.Offer.{OfferRow}
 use Rattle.ledger.specs.declared.Reported.the-variants.{Written}
 use Rattle.ledger.specs.Report.{ReportRow, unfit, short, written, Reporting}
-use Rattle.ledger.specs.Calls.{Calls, stored, offers-stand, AnswersFor, stands-answers}
+use Rattle.ledger_offering.specs.Calls.{Offers}
+use Rattle.ledger.specs.Calls.{stored, offers-stand, AnswersFor, stands-answers}
 use Rattle.ledger.specs.Answers.{answerFor, answer-right}
 
 -- the text is laid out in the form from parts that are exactly those that the rules give for the updates
@@ -56,5 +57,5 @@ stands-ruled l {s} us h =
     }
 
 -- Demand 2 of offers, with any first contents of the store
-pub after-offers : {l : Ledger} {s s′ : List ℕ} {bs : List (List ℕ)} → length s ≡ storeLength documentTerms → Calls freshLedger s bs l s′ → AsRuled (stored documentTerms bs) l s′
+pub after-offers : {l : Ledger} {s s′ : List ℕ} {bs : List (List ℕ)} → length s ≡ storeLength documentTerms → Offers freshLedger s bs l s′ → AsRuled (stored documentTerms bs) l s′
 after-offers {l = l} {bs = bs} h c = stands-ruled l (stored documentTerms bs) (offers-stand h c)

@@ -27,14 +27,9 @@ use Rattle.ledger_state.specs.RoomLaws.{room-stored}
 use Rattle.ledger_state.specs.TakeLaws.{stands-sound, fresh-stands}
 use Rattle.ledger_offering.specs.Values.{OfferValues}
 use Rattle.ledger_offering.specs.Offer.{OfferRow, unfit, malformed, known, full, taken}
+use Rattle.ledger_offering.specs.Calls.{Calls, done, call, Offers}
+use Rattle.ledger_offering.specs.CallsLaws.{offer-terms}
 use Rattle.ledger.specs.Ask.{standsAs, unknownId, askedAt, askedOf}
-
--- "Each offer is handed the ledger and store that the one before left": offers of the byte strings, one after the other, each with what the entry
--- `offer` ensures
-pub data Calls : Ledger → List ℕ → List (List ℕ) → Ledger → List ℕ → Type 0 where
-  done : {l : Ledger} {s : List ℕ} → Calls l s [] l s
-  call : {l r l′ : Ledger} {s s₁ s′ b : List ℕ} {bs : List (List ℕ)} {v : OfferValues}
-      → OfferRow l s b v r s₁ → Calls r s₁ bs l′ s′ → Calls l s (b ∷ bs) l′ s′
 
 -- the stored updates after an offer to a ledger of these terms: a well-formed one with a new id is stored where there is room for it ("Two updates with one id count as
 -- the same: the first is kept.")
@@ -113,16 +108,8 @@ module _ (l : Ledger) (s : List ℕ) (us : List Update) (stands : Stands (bookOf
   offer-stands (full u e d f n) = rw (accept-full d (none-new d f) n) stands
   offer-stands (taken u r e d f n t) = rw (accept-new d (none-new d f) n) (t .settles us stands)
 
--- an offer keeps the terms
-pub offer-terms : {l r : Ledger} {s s′ b : List ℕ} {v : OfferValues} → OfferRow l s b v r s′ → bookOf r .terms ≡ bookOf l .terms
-offer-terms (unfit e) = refl
-offer-terms (malformed n e d) = refl
-offer-terms (known u k e d f) = refl
-offer-terms (full u e d f n) = refl
-offer-terms (taken u r e d f n t) = t .terms-kept
-
 -- from a ledger that stands, offers lead to one that stands for what is stored
-pub calls-stand : {l l′ : Ledger} {s s′ : List ℕ} {bs : List (List ℕ)} (us : List Update) → Stands (bookOf l) s us → Calls l s bs l′ s′ → Stands (bookOf l′) s′ (storedFrom (bookOf l .terms) us bs)
+pub calls-stand : {l l′ : Ledger} {s s′ : List ℕ} {bs : List (List ℕ)} {vs : List OfferValues} (us : List Update) → Stands (bookOf l) s us → Calls l s bs vs l′ s′ → Stands (bookOf l′) s′ (storedFrom (bookOf l .terms) us bs)
 unfolding storedFrom
 calls-stand us h done = h
 calls-stand {l′ = l′} {s′ = s′} us h (call {l = l} {s = s} {b = b} {bs = bs} o c) =
@@ -131,9 +118,9 @@ calls-stand {l′ = l′} {s′ = s′} us h (call {l = l} {s = s} {b = b} {bs =
 
 -- Demand 2 of offers: after any offers to a fresh ledger, with any store of the length, the ledger stands for the updates stored: their set, and each
 -- held, waiting or void exactly as the rules say for that set
-pub offers-stand : {l′ : Ledger} {s s′ : List ℕ} {bs : List (List ℕ)} → length s ≡ storeLength documentTerms → Calls freshLedger s bs l′ s′ → Stands (bookOf l′) s′ (stored documentTerms bs)
+pub offers-stand : {l′ : Ledger} {s s′ : List ℕ} {bs : List (List ℕ)} → length s ≡ storeLength documentTerms → Offers freshLedger s bs l′ s′ → Stands (bookOf l′) s′ (stored documentTerms bs)
 unfolding freshLedger
-offers-stand {s = s} h c = calls-stand [] (fresh-stands (bookOf freshLedger) s refl h document-allowed) c
+offers-stand {s = s} h c = calls-stand [] (fresh-stands (bookOf freshLedger) s refl h document-allowed) (c .1)
 
 -- and `standing` answers so for every id
 pub record AnswersFor (l : Book) (s : List ℕ) (us : List Update) : Type 0 where

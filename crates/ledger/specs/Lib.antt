@@ -8,3 +8,5 @@ pub mod ReportRoomLaws
 pub mod Answers
 pub mod AfterOffers
 pub mod WriteLaws
+pub mod BundleCalls
+pub mod BundleLaws

@@ -4,13 +4,20 @@ ghost use mathlib.Core.Path.{_≡_};
 ghost use Rattle.rules.specs.Report.{defaultForm, longest};
 ghost use Rattle.ledger_state.specs.View.{bookOf};
 ghost use Rattle.ledger_offering.specs.Offer.{Offering};
+ghost use Rattle.bundle_offering.specs.Bundle.{Bundling};
 ghost use Rattle.ledger.specs.Ask.{askedValues, askedOf};
 ghost use Rattle.ledger.specs.Report.{Reporting};
 ghost use Rattle.write_asking.specs.Write.{wroteValues, Writing};
+pub use bundle_format::MOST_ITEMS;
+pub use bundle_offering::ANSWER_LENGTH;
+pub use bundle_offering::BundleOffered;
+pub use bundle_offering::Bundled;
+use bundle_offering::offer_bundle_sound;
+use bundle_offering::refused;
 pub use ledger_offering::Answer;
 pub use ledger_offering::Offered;
 use ledger_offering::left;
-use ledger_offering::offer_formed;
+use ledger_offering::offer_sound;
 pub use ledger_refusals::Refusal;
 use ledger_row1::sound;
 use ledger_state::Found;
@@ -23,7 +30,6 @@ pub use report_text::MAX_SHORT_REPORT;
 pub use rules::Form;
 use update_format::Id;
 use update_format::Malformed;
-use update_format::ParseResult;
 use update_format::Tag;
 use update_format::numbers::MAX_AUTHOR;
 pub use write_asking::Wrote;
@@ -45,10 +51,24 @@ pub fn offer(ledger: Ledger, store: &mut [u8], update: &[u8]) -> Offered
     if !sound(ledger, store) {
         return left(ledger, Answer::Refused(Refusal::Unfit));
     }
-    match update_parsing::read(update) {
-        ParseResult::Refused(m) => left(ledger, Answer::Refused(Refusal::Malformed(m))),
-        ParseResult::Update(_) => offer_formed(ledger, store, update),
+    offer_sound(ledger, store, update)
+}
+
+// Offers the items of a bundle in order: MOST_ITEMS of them or fewer, each a two-byte big-endian length, then its bytes. Their answers, ANSWER_LENGTH bytes each, are put
+// at the start of the answer buffer; the bytes after them keep their values. Answers, ledger and store are those of single offers in the same order. A refusal leaves
+// ledger, store and buffer as they were.
+pub fn offer_bundle(
+    ledger: Ledger,
+    store: &mut [u8],
+    bundle: &[u8],
+    answers: &mut [u8],
+) -> BundleOffered
+    ensures { λ r. ⌜ Bundling ledger (now (store .entry)) (now (bundle .entry)) (now (answers .entry)) r (now (store .exit)) (now (answers .exit)) ⌝ }
+{
+    if !sound(ledger, store) {
+        return refused(ledger, Refusal::Unfit);
     }
+    offer_bundle_sound(ledger, store, bundle, answers)
 }
 
 // The standing of an id.

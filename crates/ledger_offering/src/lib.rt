@@ -1,5 +1,7 @@
-// An offer of a well-formed update.
+// An offer to a ledger to which row 1 does not apply.
 ghost use mathlib.Core.Path.{_≡_};
+ghost use mathlib.Core.Bool.{true};
+ghost use Rattle.ledger_state.specs.Row1.{sound};
 ghost use Rattle.ledger_state.specs.View.{bookOf};
 ghost use Rattle.ledger_offering.specs.Offer.{Offering, left, Formed, Takeable};
 use ledger_refusals::Refusal;
@@ -11,6 +13,7 @@ use ledger_state::Standing;
 use ledger_state::find::find;
 use ledger_state::store::write_at;
 use update_format::Id;
+use update_format::ParseResult;
 
 // What an offer answers.
 pub enum Answer {
@@ -63,7 +66,7 @@ fn take(ledger: Ledger, store: &mut [u8], update: &[u8], id: Id) -> Offered
 }
 
 // The offer of a well-formed update: hashed once, and looked up.
-pub fn offer_formed(ledger: Ledger, store: &mut [u8], update: &[u8]) -> Offered
+fn offer_formed(ledger: Ledger, store: &mut [u8], update: &[u8]) -> Offered
     requires { ⌜ Formed (bookOf ledger) (now store) (now update) ⌝ }
     ensures { λ r. ⌜ Offering ledger (now (store .entry)) (now (update .entry)) r (now (store .exit)) ⌝ }
 {
@@ -82,5 +85,16 @@ pub fn offer_formed(ledger: Ledger, store: &mut [u8], update: &[u8]) -> Offered
                 take(ledger, store, update, id)
             }
         }
+    }
+}
+
+// The offer of any bytes.
+pub fn offer_sound(ledger: Ledger, store: &mut [u8], update: &[u8]) -> Offered
+    requires { ⌜ sound (bookOf ledger) (now store) ≡ true ⌝ }
+    ensures { λ r. ⌜ Offering ledger (now (store .entry)) (now (update .entry)) r (now (store .exit)) ⌝ }
+{
+    match update_parsing::read(update) {
+        ParseResult::Refused(m) => left(ledger, Answer::Refused(Refusal::Malformed(m))),
+        ParseResult::Update(_) => offer_formed(ledger, store, update),
     }
 }

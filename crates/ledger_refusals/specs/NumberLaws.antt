@@ -7,8 +7,8 @@ use Rattle.update_format.specs.ParseResult.{malformedNumber}
 use Rattle.update_format.specs.declared.Malformed.{Malformed}
 use Rattle.update_format.specs.declared.Malformed.the-variants.{Length, Version, Author, Predecessors, Truncated, Kind, Layout, Unordered}
 use Rattle.ledger_refusals.specs.declared.Refusal.{Refusal}
-use Rattle.ledger_refusals.specs.declared.Refusal.the-variants.{Unfit, Malformed as Bad, Full, Short, Invalid}
-use Rattle.ledger_refusals.specs.Numbers.{row1Number, row2Number, row3Number, row4Number, row5Number, row6Number, row7Number, row8Number, row10Number, row11Number, row12Number, refusalNumber}
+use Rattle.ledger_refusals.specs.declared.Refusal.the-variants.{Unfit, Malformed as Bad, Full, Short, Invalid, Bundle}
+use Rattle.ledger_refusals.specs.Numbers.{row1Number, row2Number, row3Number, row4Number, row5Number, row6Number, row7Number, row8Number, row10Number, row11Number, row12Number, row13Number, refusalNumber}
 
 -- the refusal of a number; Unordered stands for row 9 and for every number that is no row's
 malformedOf : ℕ → Malformed
@@ -26,7 +26,8 @@ refusalOf n =
     cond (eqb n row1Number) Unfit
     (cond (eqb n row10Number) Full
     (cond (eqb n row11Number) Short
-    (cond (eqb n row12Number) Invalid (Bad (malformedOf n)))))
+    (cond (eqb n row12Number) Invalid
+    (cond (eqb n row13Number) Bundle (Bad (malformedOf n))))))
 
 malformed-back : (m : Malformed) → refusalOf (malformedNumber m) ≡ Bad m
 unfolding refusalOf malformedOf
@@ -46,6 +47,7 @@ refusal-back (Bad m) = malformed-back m
 refusal-back Full = refl
 refusal-back Short = refl
 refusal-back Invalid = refl
+refusal-back Bundle = refl
 
 pub refusal-one : {a b : Refusal} → refusalNumber a ≡ refusalNumber b → a ≡ b
 refusal-one {a} {b} e = sym (refusal-back a) ∙ ap refusalOf e ∙ refusal-back b

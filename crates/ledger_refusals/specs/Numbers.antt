@@ -3,7 +3,7 @@ use Prim.Native.Nat.{ℕ}
 use Rattle.update_format.specs.ParseResult.{malformedNumber}
 use Rattle.update_format.specs.declared.Malformed.the-variants.{Length, Version, Author, Predecessors, Truncated, Kind, Layout, Unordered}
 use Rattle.ledger_refusals.specs.declared.Refusal.{Refusal}
-use Rattle.ledger_refusals.specs.declared.Refusal.the-variants.{Unfit, Malformed as Bad, Full, Short, Invalid}
+use Rattle.ledger_refusals.specs.declared.Refusal.the-variants.{Unfit, Malformed as Bad, Full, Short, Invalid, Bundle}
 
 -- The numbers of the rows of "Offers turned away". Those of rows 2 to 9 are the format's, whose tests of the bytes have the rows' names too.
 
@@ -55,6 +55,10 @@ row11Number = 11
 abbrev pub row12Number : ℕ
 row12Number = 12
 
+-- document 02, E1: "if a length runs past the end, an item is cut, or there are more than 64 items"; "Numbers from 13 up join document 01's table."
+abbrev pub row13Number : ℕ
+row13Number = 13
+
 -- the number of a refusal
 abbrev pub refusalNumber : Refusal → ℕ
 refusalNumber Unfit = row1Number
@@ -62,6 +66,7 @@ refusalNumber (Bad m) = malformedNumber m
 refusalNumber Full = row10Number
 refusalNumber Short = row11Number
 refusalNumber Invalid = row12Number
+refusalNumber Bundle = row13Number
 
 -- document 01's values of an answer that puts bytes into an output buffer: how many they are, or the number of the row
 pub data Output : Type 0 where

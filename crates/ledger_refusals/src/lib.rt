@@ -15,10 +15,12 @@ pub enum Refusal {
     Short,
     // Row 12: the written operation would be void.
     Invalid,
+    // Row 13: the bytes are no bundle.
+    Bundle,
 }
 
 impl Refusal {
-    // Document 01's number.
+    // The number in document 01's table, which document 02 goes on.
     pub fn number(self) -> u8
         ensures { λ r. ⌜ r ≡ refusalNumber self ⌝ }
     {
@@ -28,6 +30,7 @@ impl Refusal {
             Refusal::Full => 10,
             Refusal::Short => 11,
             Refusal::Invalid => 12,
+            Refusal::Bundle => 13,
         }
     }
 }

@@ -9,16 +9,12 @@ use lib.Seq.{take-suc, take-all}
 use Rattle.ledger_state.specs.declared.Ledger.{Ledger}
 use Rattle.ledger_offering.specs.Values.{OfferValues}
 use Rattle.ledger_offering.specs.Offer.{OfferRow}
-use Rattle.ledger.specs.Calls.{Calls, done, call}
+use Rattle.ledger_offering.specs.Calls.{Offers}
+use Rattle.ledger_offering.specs.CallsLaws.{offers-then}
 
 -- what a list of slices holds
 abbrev pub bytes : List (RefT (List ℕ)) → List (List ℕ)
 bytes xs = map (λ (x : RefT (List ℕ)). now x) xs
-
-calls-then : {l l′ r : Ledger} {s s′ t b : List ℕ} {bs : List (List ℕ)} {v : OfferValues}
-    → Calls l s bs l′ s′ → OfferRow l′ s′ b v r t → Calls l s (bs ++ (b ∷ [])) r t
-calls-then done o = call o done
-calls-then (call p c) o = call p (calls-then c o)
 
 bytes-at : (xs : List (RefT (List ℕ))) (i : ℕ) (d : RefT (List ℕ)) → i < length xs → take (suc i) (bytes xs) ≡ take i (bytes xs) ++ (now (getD xs i d) ∷ [])
 bytes-at xs i d h =
@@ -26,9 +22,9 @@ bytes-at xs i d h =
     ∙ ap (λ (b : List ℕ). take i (bytes xs) ++ (b ∷ [])) (List·getD-map (λ (x : RefT (List ℕ)). now x) xs i d)
 
 pub offered-next : {l l′ r : Ledger} {s s′ t : List ℕ} {v : OfferValues} (xs : List (RefT (List ℕ))) (i : ℕ) (d : RefT (List ℕ)) → i < length xs
-    → Calls l s (take i (bytes xs)) l′ s′ → OfferRow l′ s′ (now (getD xs i d)) v r t → Calls l s (take (i + 1) (bytes xs)) r t
-offered-next xs i d h c o = rw (add-one, bytes-at xs i d h) (calls-then c o)
+    → Offers l s (take i (bytes xs)) l′ s′ → OfferRow l′ s′ (now (getD xs i d)) v r t → Offers l s (take (i + 1) (bytes xs)) r t
+offered-next xs i d h c o = rw (add-one, bytes-at xs i d h) (offers-then c o)
 
 pub offered-all : {l l′ : Ledger} {s s′ : List ℕ} (xs : List (RefT (List ℕ))) (i : ℕ) → length xs ≤ i
-    → Calls l s (take i (bytes xs)) l′ s′ → Calls l s (bytes xs) l′ s′
-offered-all {l} {l′} {s} {s′} xs i h c = subst (λ (bs : List (List ℕ)). Calls l s bs l′ s′) (take-all i (bytes xs) (rw length-map h)) c
+    → Offers l s (take i (bytes xs)) l′ s′ → Offers l s (bytes xs) l′ s′
+offered-all {l} {l′} {s} {s′} xs i h c = subst (λ (bs : List (List ℕ)). Offers l s bs l′ s′) (take-all i (bytes xs) (rw length-map h)) c

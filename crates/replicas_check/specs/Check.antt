@@ -9,7 +9,7 @@ use Rattle.ledger_state.specs.declared.Ledger.{Ledger}
 use Rattle.ledger_refusals.specs.Numbers.{refusalNumber, putBytes, refusedBy}
 use Rattle.ledger.specs.declared.Reported.{Reported}
 use Rattle.ledger_state.specs.View.{bookOf, freshLedger}
-use Rattle.ledger.specs.Calls.{Calls}
+use Rattle.ledger_offering.specs.Calls.{Offers}
 use Rattle.ledger.specs.Report.{ReportRow, Reporting}
 use Rattle.replicas_check.specs.declared.Compared.{Compared}
 use Rattle.replicas_check.specs.declared.Compared.the-variants.{Same, Different, FirstUnreported, SecondUnreported}
@@ -17,7 +17,7 @@ use Rattle.replicas_check.specs.declared.Compared.the-variants.{Same, Di
 -- One copy: offers of the list xs to a fresh ledger with the store s, and the full report into the buffer o.
 pub record OneCopy (xs : List (List ℕ)) (s o : List ℕ) (r : Reported) (s′ o′ : List ℕ) : Type 0 where
   pub ledger : Ledger
-  pub calls : Calls freshLedger s xs ledger s′
+  pub calls : Offers freshLedger s xs ledger s′
   pub reports : Reporting Full (bookOf ledger) s′ o r o′
 
 -- Document 01's values for each case of the answer: the length of the reports, where they are the same bytes; the length of each, where they differ; and for a copy that
@@ -41,9 +41,9 @@ comparedOf first second = cond (same first second) (sameOf (length second)) (dif
 -- The second copy, beside the first one's full report: offers of the list ys to a fresh ledger with the store t, and its own into the buffer p. The
 -- values of the answer, and the store and the buffer as they are left.
 pub data SecondRow (first : List ℕ) (ys : List (List ℕ)) (t p : List ℕ) : CheckValues → List ℕ → List ℕ → Type 0 where
-  unreported : {l : Ledger} {t′ : List ℕ} (i : ℕ) → Calls freshLedger t ys l t′ → ReportRow Full (bookOf l) t′ p (refusedBy i) p
+  unreported : {l : Ledger} {t′ : List ℕ} (i : ℕ) → Offers freshLedger t ys l t′ → ReportRow Full (bookOf l) t′ p (refusedBy i) p
       → SecondRow first ys t p (secondRefused i) t′ p
-  compared : {l : Ledger} {t′ p′ : List ℕ} (k : ℕ) → Calls freshLedger t ys l t′ → ReportRow Full (bookOf l) t′ p (putBytes k) p′
+  compared : {l : Ledger} {t′ p′ : List ℕ} (k : ℕ) → Offers freshLedger t ys l t′ → ReportRow Full (bookOf l) t′ p (putBytes k) p′
       → SecondRow first ys t p (comparedOf first (take k p′)) t′ p′
 
 abbrev pub SecondChecking : List ℕ → List (List ℕ) → List ℕ → List ℕ → Compared → List ℕ → List ℕ → Type 0
@@ -52,15 +52,15 @@ SecondChecking first ys t p r t′ p′ = SecondRow first ys t p (checkValues r)
 -- The check of two copies: lists xs and ys, stores s and t, buffers o and p. The values of the answer, and the stores and the buffers as they are left. A constructor
 -- for each ending. A copy that gave no report was offered its list, and its buffer is as it was; where that is the first, the second copy is left as it was.
 pub data CheckRow (xs ys : List (List ℕ)) (s t o p : List ℕ) : CheckValues → List ℕ → List ℕ → List ℕ → List ℕ → Type 0 where
-  first-unreported : {l : Ledger} {s′ : List ℕ} (i : ℕ) → Calls freshLedger s xs l s′ → ReportRow Full (bookOf l) s′ o (refusedBy i) o
+  first-unreported : {l : Ledger} {s′ : List ℕ} (i : ℕ) → Offers freshLedger s xs l s′ → ReportRow Full (bookOf l) s′ o (refusedBy i) o
       → CheckRow xs ys s t o p (firstRefused i) s′ t o p
   second-unreported : {l m : Ledger} {s′ o′ t′ : List ℕ} (n i : ℕ)
-      → Calls freshLedger s xs l s′ → ReportRow Full (bookOf l) s′ o (putBytes n) o′
-      → Calls freshLedger t ys m t′ → ReportRow Full (bookOf m) t′ p (refusedBy i) p
+      → Offers freshLedger s xs l s′ → ReportRow Full (bookOf l) s′ o (putBytes n) o′
+      → Offers freshLedger t ys m t′ → ReportRow Full (bookOf m) t′ p (refusedBy i) p
       → CheckRow xs ys s t o p (secondRefused i) s′ t′ o′ p
   compared : {l m : Ledger} {s′ o′ t′ p′ : List ℕ} (n k : ℕ)
-      → Calls freshLedger s xs l s′ → ReportRow Full (bookOf l) s′ o (putBytes n) o′
-      → Calls freshLedger t ys m t′ → ReportRow Full (bookOf m) t′ p (putBytes k) p′
+      → Offers freshLedger s xs l s′ → ReportRow Full (bookOf l) s′ o (putBytes n) o′
+      → Offers freshLedger t ys m t′ → ReportRow Full (bookOf m) t′ p (putBytes k) p′
       → CheckRow xs ys s t o p (comparedOf (take n o′) (take k p′)) s′ t′ o′ p′
 
 -- the promise of `compare`
@@ -69,7 +69,7 @@ Checking xs ys s t o p r s′ t′ o′ p′ = CheckRow xs ys s t o p (checkValu
 
 -- the endings of the second copy, after a first report of n bytes
 pub checking : {xs ys : List (List ℕ)} {s t o p : List ℕ} {l : Ledger} {s′ o′ t′ p′ : List ℕ} (n : ℕ) {v : CheckValues}
-    → Calls freshLedger s xs l s′ → ReportRow Full (bookOf l) s′ o (putBytes n) o′ → SecondRow (take n o′) ys t p v t′ p′
+    → Offers freshLedger s xs l s′ → ReportRow Full (bookOf l) s′ o (putBytes n) o′ → SecondRow (take n o′) ys t p v t′ p′
     → CheckRow xs ys s t o p v s′ t′ o′ p′
 checking n c h (unreported i d k) = second-unreported n i c h d k
 checking n c h (compared k d q) = compared n k c h d q

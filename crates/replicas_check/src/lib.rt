@@ -1,7 +1,7 @@
 // Two copies of the ledger side by side.
 ghost use mathlib.Core.List.{map};
 ghost use Rattle.ledger_state.specs.View.{freshLedger};
-ghost use Rattle.ledger.specs.Calls.{Calls};
+ghost use Rattle.ledger_offering.specs.Calls.{Offers};
 ghost use Rattle.replicas_check.specs.Check.{OneCopy, Checking, SecondChecking};
 use ledger::Form;
 use ledger::Ledger;
@@ -23,7 +23,7 @@ pub enum Compared {
 
 // Offers each byte string of the list, in order, to a fresh ledger.
 fn offer_all(xs: &[&[u8]], store: &mut [u8]) -> Ledger
-    ensures { λ r. ⌜ Calls freshLedger (now (store .entry)) (map (λ x. now x) (now (xs .entry))) r (now (store .exit)) ⌝ }
+    ensures { λ r. ⌜ Offers freshLedger (now (store .entry)) (map (λ x. now x) (now (xs .entry))) r (now (store .exit)) ⌝ }
 {
     let mut l = ledger::fresh();
     let mut i: usize = 0;

@@ -16,7 +16,8 @@ use Rattle.ledger_state.specs.State.{documentTerms, storeLength}
 use Rattle.ledger_state.specs.View.{bookOf, freshLedger}
 use Rattle.ledger_refusals.specs.Numbers.{putBytes}
 use Rattle.rules.specs.Report.{maxReport}
-use Rattle.ledger.specs.Calls.{Calls, stored, offers-stand}
+use Rattle.ledger_offering.specs.Calls.{Offers}
+use Rattle.ledger.specs.Calls.{stored, offers-stand}
 use Rattle.ledger.specs.Report.{ReportRow}
 use Rattle.ledger.specs.BufferLaws.{written-length}
 use Rattle.replicas_theorem.specs.Sets.{setOf, reportFor, Fits, NoCollision}
@@ -86,7 +87,7 @@ module _ (first second : List ℕ) where
       }
 
 -- a copy that was reported
-reported-copy : {l : Ledger} {s s′ o o′ : List ℕ} {bs : List (List ℕ)} (n : ℕ) → Calls freshLedger s bs l s′ → ReportRow Full (bookOf l) s′ o (putBytes n) o′
+reported-copy : {l : Ledger} {s s′ o o′ : List ℕ} {bs : List (List ℕ)} (n : ℕ) → Offers freshLedger s bs l s′ → ReportRow Full (bookOf l) s′ o (putBytes n) o′
     → Copy Full bs (take n o′)
 reported-copy {l} {s} {s′} {o} {o′} n c h =
     record {
@@ -103,8 +104,8 @@ reported-copy {l} {s} {s′} {o} {o′} n c h =
     }
 
 compared-says : {l m : Ledger} {s s′ o o′ t t′ p p′ : List ℕ} {xs ys : List (List ℕ)} (n k : ℕ)
-    → Calls freshLedger s xs l s′ → ReportRow Full (bookOf l) s′ o (putBytes n) o′
-    → Calls freshLedger t ys m t′ → ReportRow Full (bookOf m) t′ p (putBytes k) p′
+    → Offers freshLedger s xs l s′ → ReportRow Full (bookOf l) s′ o (putBytes n) o′
+    → Offers freshLedger t ys m t′ → ReportRow Full (bookOf m) t′ p (putBytes k) p′
     → Fits documentTerms xs → Fits documentTerms ys → NoCollision documentBounds xs ys → CheckSays xs ys (comparedOf (take n o′) (take k p′)) o′ p′
 compared-says {o′ = o′} {p′ = p′} {xs = xs} {ys = ys} n k c h d q fits-first fits-second none =
     let first = take n o′ in

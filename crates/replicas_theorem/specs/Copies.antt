@@ -19,26 +19,31 @@ use Rattle.ledger_state.specs.State.{documentTerms, storeLength}
 use Rattle.ledger_state.specs.View.{bookOf, freshLedger}
 use Rattle.ledger_state.specs.Stands.{rules}
 use Rattle.ledger.specs.declared.Reported.the-variants.{Written}
-use Rattle.ledger.specs.Calls.{Calls, stored, offers-stand}
+use Rattle.ledger_offering.specs.Calls.{Offers}
+use Rattle.ledger.specs.Calls.{stored, offers-stand}
 use Rattle.ledger.specs.Report.{Reporting}
 use Rattle.ledger.specs.AfterOffers.{LaidOut, report-shown}
 use Rattle.replicas_theorem.specs.Sets.{updatesOf, setOf, reportFor, Fits, NoCollision}
 use Rattle.replicas_theorem.specs.SetLaws.{Apart, first-apart, second-apart, both-apart, updates-distinct, updates-identified, updates-unique}
 use Rattle.replicas_theorem.specs.StoredLaws.{stored-distinct, stored-same}
 
--- One copy: offers of the byte strings to a fresh ledger and a store of the stated length, holding anything, and then a report of the form in the buffer o,
--- which answers with its length. "A full report is the bytes put at the start of the output buffer, as many as the returned length."
-pub record Copy (form : Form) (bs : List (List ℕ)) (text : List ℕ) : Type 0 where
+-- One copy: calls, made to a fresh ledger and a store of the stated length, holding anything, and then a report of the form in the buffer o, which answers with its
+-- length. "A full report is the bytes put at the start of the output buffer, as many as the returned length." `Made` says what the calls are.
+pub record CopyOf {C : Type 0} (Made : Ledger → List ℕ → C → Ledger → List ℕ → Type 0) (form : Form) (made : C) (text : List ℕ) : Type 0 where
   pub first-store : List ℕ
   pub store-length : length first-store ≡ storeLength documentTerms
   pub ledger : Ledger
   pub store : List ℕ
-  pub calls : Calls freshLedger first-store bs ledger store
+  pub calls : Made freshLedger first-store made ledger store
   pub buffer : List ℕ
   pub buffer-after : List ℕ
   pub answer : ℕ
   pub reported : Reporting form (bookOf ledger) store buffer (Written answer) buffer-after
   pub shown : text ≡ take answer buffer-after
+
+-- a copy to which the byte strings are offered
+abbrev pub Copy : Form → List (List ℕ) → List ℕ → Type 0
+Copy form bs text = CopyOf Offers form bs text
 
 pub record SideBySide (xs ys : List (List ℕ)) (first second : List ℕ) : Type 0 where
   pub equal-sets-equal-reports : setOf documentBounds xs ≡ setOf documentBounds ys → first ≡ second
@@ -58,7 +63,7 @@ pub record SideBySideIn (form : Form) (xs ys : List (List ℕ)) (first second : 
   pub second-laid-out : LaidOut form (updatesOf documentBounds ys) second
 
 -- the report of a copy is that of the updates stored
-copy-report : {form : Form} (bs : List (List ℕ)) (text : List ℕ) → Copy form bs text → text ≡ reportOf form rules (stored documentTerms bs)
+pub copy-report : {form : Form} (bs : List (List ℕ)) (text : List ℕ) → Copy form bs text → text ≡ reportOf form rules (stored documentTerms bs)
 copy-report bs text c = c .shown ∙ report-shown (stored documentTerms bs) (offers-stand (c .store-length) (c .calls)) (c .reported) (c .answer) refl
 
 -- and so the one that the rules give for its set

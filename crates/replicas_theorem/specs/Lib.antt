@@ -1,5 +1,6 @@
 pub mod Sets
 pub mod Copies
+pub mod BundleCopies
 pub mod SetLaws
 pub mod StoredLaws
 pub mod FitLaws

@@ -67,6 +67,10 @@ pub places-least : {t : Terms} → Allowed t → 64 ≤ t .places
 places-least a =
     ⊎-elim (λ e. omega arith) (⊎-elim (λ e. omega arith) (λ e. omega arith)) (a .places-among)
 
+pub places-most : {t : Terms} → Allowed t → t .places ≤ 1024
+places-most a =
+    ⊎-elim (λ e. omega arith) (⊎-elim (λ e. omega arith) (λ e. omega arith)) (a .places-among)
+
 pub →allowed : (t : Terms) → Allowed t → allowed t ≡ true
 unfolding allowed
 →allowed t a =

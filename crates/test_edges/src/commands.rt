@@ -40,12 +40,16 @@ pub const SHORT: usize = 17;
 
 pub const ROOMS: usize = 18;
 
+pub const BUNDLE: usize = 19;
+
+pub const RAW: usize = 20;
+
 // A line without words, or that is a comment; a heading; a line that is none of these.
-pub const NOTHING: usize = 19;
+pub const NOTHING: usize = 21;
 
-pub const HEADING: usize = 20;
+pub const HEADING: usize = 22;
 
-pub const UNREAD: usize = 21;
+pub const UNREAD: usize = 23;
 
 // The command of a line.
 pub fn command(line: &[u8]) -> usize {
@@ -54,7 +58,7 @@ pub fn command(line: &[u8]) -> usize {
         b'#' => HEADING,
         _ => {
             let c = test_script::command(
-                b"store:-n buffer:-n other-store:-n other-buffer:-n let:ps fresh:- offer:ss ask:-s write:ps new:ps report:- change:-nnnn view:- compare:-ll read:-s order:-nn full:- short:- rooms:-",
+                b"store:-n buffer:-n other-store:-n other-buffer:-n let:ps fresh:- offer:ss ask:-s write:ps new:ps report:- change:-nnnn view:- compare:-ll read:-s order:-nn full:- short:- rooms:- bundle:s raw:s",
                 line,
             );
             if c <= NOTHING { c } else { UNREAD }

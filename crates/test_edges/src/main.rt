@@ -1,4 +1,5 @@
 // Runs a script of calls of the ledger, and prints their answers. The script's first lines say how it reads.
+mod bundles;
 mod calls;
 mod commands;
 mod compare;
@@ -7,12 +8,14 @@ mod show;
 
 use commands::ASK;
 use commands::BUFFER;
+use commands::BUNDLE;
 use commands::CHANGE;
 use commands::FRESH;
 use commands::FULL;
 use commands::NEW;
 use commands::OFFER;
 use commands::ORDER;
+use commands::RAW;
 use commands::REPORT;
 use commands::ROOMS;
 use commands::SHORT;
@@ -57,13 +60,21 @@ fn look(l: Ledger, store: &[u8], slots: &mut [u8], out: &mut [u8], c: usize, lin
 }
 
 // The commands after which the ledger is another.
-fn change(l: Ledger, store: &mut [u8], slots: &[u8], c: usize, line: &[u8]) -> Ledger {
+fn change(
+    l: Ledger,
+    store: &mut [u8],
+    slots: &[u8],
+    out: &mut [u8],
+    c: usize,
+    line: &[u8],
+) -> Ledger {
     match c {
         FRESH => {
             fill(store);
             ledger::fresh()
         }
         OFFER => calls::offers(l, store, slots, line),
+        BUNDLE | RAW => bundles::offer(l, store, slots, out, c, line),
         CHANGE => calls::changed(l, line),
         _ => l,
     }
@@ -79,7 +90,7 @@ fn call(
     line: &[u8],
 ) -> Ledger {
     look(l, store, slots, out, c, line);
-    change(l, store, slots, c, line)
+    change(l, store, slots, out, c, line)
 }
 
 // Runs a line.

@@ -1,12 +1,15 @@
 // Answers, as the lines that the command prints for them.
+use ledger::ANSWER_LENGTH;
 use ledger::Answer;
 use ledger::Asked;
+use ledger::Bundled;
 use ledger::Refusal;
 use ledger::Standing;
 use libc::STDOUT_FILENO;
 use replicas_check::Compared;
 use rules::CausalOrder;
 use update_format::ParseResult;
+use update_format::slice_of;
 
 pub fn text(s: &[u8]) {
     io::write_all(STDOUT_FILENO, s);
@@ -109,15 +112,46 @@ pub fn read(r: ParseResult) {
     }
 }
 
-// The SHA-256 of bytes, in hexadecimal digits, and the end of the line.
-pub fn digest(s: &[u8]) {
-    let d = sha256_digest::digest(s);
+fn hex_byte(b: u8) {
+    io::print_hex(STDOUT_FILENO, b as u64, 2);
+}
+
+// Bytes in hexadecimal digits, and the end of the line.
+fn hex(s: &[u8]) {
     let mut i: usize = 0;
-    while i < 32 {
-        io::print_hex(STDOUT_FILENO, d[i] as u64, 2);
+    while i < s.len() {
+        hex_byte(s[i]);
         i += 1;
     }
     text(b")\n");
+}
+
+// The SHA-256 of bytes, and the end of the line.
+pub fn digest(s: &[u8]) {
+    hex(&sha256_digest::digest(s));
+}
+
+// The answers to a bundle's items, each on a line.
+fn answers(s: &[u8]) {
+    let mut k: usize = 0;
+    while k < s.len() / ANSWER_LENGTH {
+        text(b"(");
+        hex(slice_of(s, ANSWER_LENGTH * k, ANSWER_LENGTH));
+        k += 1;
+    }
+}
+
+// What a bundle answers, and the answers to its items.
+pub fn bundled(b: Bundled, out: &[u8]) {
+    match b {
+        Bundled::Answered(n) => {
+            text(b"(answered ");
+            decimal(n);
+            text(b")\n");
+            answers(slice_of(out, 0, n));
+        }
+        Bundled::Refused(r) => answered(Answer::Refused(r)),
+    }
 }
 
 // The SHA-256 of the output buffer and of the store.

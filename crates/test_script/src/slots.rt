@@ -57,7 +57,9 @@ fn start(s: usize) -> usize
 }
 
 // The length of a slot's bytes.
-fn length_of(slots: &[u8], s: usize) -> usize {
+fn length_of(slots: &[u8], s: usize) -> usize
+    ensures { λ r. ⌜ r ≤ 65535 ⌝ }
+{
     let at = start(s);
     let high = byte(slots, at);
     let low = byte(slots, at + 1);
@@ -65,7 +67,7 @@ fn length_of(slots: &[u8], s: usize) -> usize {
 }
 
 // Puts bytes at a place, where they fit, and gives the place past them.
-fn put(slots: &mut [u8], at: usize, bytes: &[u8]) -> usize {
+pub fn put(slots: &mut [u8], at: usize, bytes: &[u8]) -> usize {
     if slots.len() < at {
         return at;
     }
@@ -89,6 +91,11 @@ pub fn set_length(slots: &mut [u8], s: usize, n: usize) {
 // The bytes of a slot.
 pub fn bytes_of(slots: &[u8], s: usize) -> &[u8] {
     slice_of(slots, start(s) + HEAD, length_of(slots, s))
+}
+
+// The same after their length, in two bytes: an item of a bundle.
+pub fn item_of(slots: &[u8], s: usize) -> &[u8] {
+    slice_of(slots, start(s), HEAD + length_of(slots, s))
 }
 
 // The length of a slot's bytes, at most that of a whole.

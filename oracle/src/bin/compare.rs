@@ -5,12 +5,11 @@
 
 use oracle::command;
 use oracle::generator::{session, KINDS};
+use oracle::program::{difference, run, run_fed, NO_END};
 use oracle::sha256::sha256;
 use std::collections::{BTreeMap, BTreeSet};
-use std::io::{Read, Write};
 use std::path::{Path, PathBuf};
-use std::process::{exit, Command, Stdio};
-use std::sync::mpsc;
+use std::process::exit;
 use std::time::{Duration, Instant};
 
 /// Stored sessions that must be there.
@@ -21,14 +20,10 @@ const SETS_PER_KIND: u64 = 140;
 const LIMITS: usize = 4;
 /// Of the random sessions at least so many are distinct. (The two of a very small set may be the same.)
 const DISTINCT: usize = 4_000;
-/// Time for one run of PROGRAM; runs past the input limit get LIMIT_TIMEOUT.
-const TIMEOUT: Duration = Duration::from_secs(20);
+/// Time for one run of PROGRAM that passes the input limit.
 const LIMIT_TIMEOUT: Duration = Duration::from_secs(600);
 /// After so many runs without an end the comparison stops.
 const ENDLESS: usize = 3;
-/// Output beyond this is not read.
-const OUTPUT_LIMIT: u64 = 1 << 26;
-const NO_END: &str = "no end of its output in time and size";
 /// Differences shown in full.
 const SHOWN: usize = 5;
 
@@ -72,48 +67,6 @@ const COVERED: [&str; 36] = [
     "2 marks",
 ];
 
-/// Runs PROGRAM, feeding `feed` from a thread of its own.
-fn run_fed(
-    program: &Path,
-    timeout: Duration,
-    feed: impl FnOnce(&mut dyn Write) -> std::io::Result<()> + Send + 'static,
-) -> Result<Vec<u8>, String> {
-    let mut child = Command::new(program)
-        .stdin(Stdio::piped())
-        .stdout(Stdio::piped())
-        .stderr(Stdio::null())
-        .spawn()
-        .map_err(|e| format!("cannot start: {e}"))?;
-    let mut stdin = child.stdin.take().unwrap();
-    let stdout = child.stdout.take().unwrap();
-    // PROGRAM may close its input early; what it prints decides.
-    std::thread::spawn(move || {
-        let _ = feed(&mut stdin);
-    });
-    let (send, receive) = mpsc::channel();
-    std::thread::spawn(move || {
-        let mut output = Vec::new();
-        let result = stdout.take(OUTPUT_LIMIT).read_to_end(&mut output);
-        let _ = send.send(result.map(|_| output));
-    });
-    let output = receive.recv_timeout(timeout);
-    let endless = !matches!(&output, Ok(Ok(bytes)) if (bytes.len() as u64) < OUTPUT_LIMIT);
-    if endless {
-        let _ = child.kill();
-    }
-    let status = child.wait().map_err(|e| e.to_string())?;
-    match output {
-        _ if endless => Err(NO_END.to_string()),
-        Err(_) | Ok(Err(_)) => unreachable!(),
-        Ok(Ok(output)) if status.success() => Ok(output),
-        Ok(Ok(_)) => Err(format!("ended with {status}")),
-    }
-}
-
-fn run(program: &Path, input: Vec<u8>) -> Result<Vec<u8>, String> {
-    run_fed(program, TIMEOUT, move |stdin| stdin.write_all(&input))
-}
-
 fn oracle(input: &[u8]) -> Vec<u8> {
     let mut output = Vec::new();
     command::run(input, &mut output).expect("writing to memory");
@@ -126,18 +79,6 @@ fn report(output: &[u8]) -> Option<&[u8]> {
     (0..output.len())
         .find(|&i| output[i..].starts_with(start) && (i == 0 || output[i - 1] == b'\n'))
         .map(|i| &output[i..])
-}
-
-/// Where two outputs first differ.
-fn difference(expected: &[u8], found: &[u8]) -> String {
-    let text = |line: Option<&&[u8]>| match line {
-        None => "no line".to_string(),
-        Some(l) => String::from_utf8_lossy(&l[..l.len().min(120)]).trim_end().to_string(),
-    };
-    let expected: Vec<&[u8]> = expected.split_inclusive(|&b| b == b'\n').collect();
-    let found: Vec<&[u8]> = found.split_inclusive(|&b| b == b'\n').collect();
-    let at = (0..).find(|&i| expected.get(i) != found.get(i)).unwrap();
-    format!("line {}: expected {}, found {}", at + 1, text(expected.get(at)), text(found.get(at)))
 }
 
 struct Tally {

@@ -1,17 +1,18 @@
 -- `offer_all` meets its contract. The loop's invariant: the first i of the list are offered.
 use Prim.Native.Nat.{_≤_, _-_}
+use mathlib.Core.List.{[]}
 use borrow.Author.Needs.{needs}
 use denote.Ref.{now}
 use lib.ListN.{length, take}
 use Rattle.ledger_state.specs.View.{freshLedger}
-use Rattle.ledger.specs.Calls.{Calls, done}
-use Rattle.replicas_check.specs.LengthLaws.{calls-length}
+use Rattle.ledger_offering.specs.Calls.{Offers, done}
+use Rattle.ledger_offering.specs.CallsLaws.{calls-length}
 use Rattle.replicas_check.proofs.OfferAll.{bytes, offered-next, offered-all}
 use Rattle.replicas_check.proofs.offer_all.Statement.{statement}
 use Rattle.replicas_check.proofs.offer_all.Tie as tie
 
 abbrev Inv-loop : tie.InvT-loop
-Inv-loop xs store₀ l₀ i₀ store l i = (i ≤ length xs) × Calls freshLedger store₀ (take i (bytes xs)) l store
+Inv-loop xs store₀ l₀ i₀ store l i = (i ≤ length xs) × Offers freshLedger store₀ (take i (bytes xs)) l store
 
 abbrev μ-loop : tie.MeasureT-loop
 μ-loop xs store₀ l₀ i₀ store l i = length xs - i
@@ -30,7 +31,7 @@ fresh-requires : tie.Need-fresh-requires Inv-loop μ-loop
 fresh-requires c κs = search needs
 
 loop-holds : tie.Need-loop-holds Inv-loop μ-loop
-loop-holds c = (search needs, rw (c .fresh .ensures) done)
+loop-holds c = (search needs, rw (c .fresh .ensures) ([], done))
 
 mul-x : tie.Need-mul-x Inv-loop μ-loop
 mul-x c = search needs
@@ -59,7 +60,7 @@ loop-again c =
 same-length : tie.Need-same-length Inv-loop μ-loop
 same-length c =
     let at-loop = c .before in
-    calls-length (at-loop .loop .inv .1)
+    calls-length (at-loop .loop .inv .1 .1)
 
 returns : tie.Need-returns Inv-loop μ-loop
 returns c =

@@ -1,0 +1,4 @@
+pub mod Bundle
+pub mod Counted
+pub mod BundleLaws
+pub mod Examples

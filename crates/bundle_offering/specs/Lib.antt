@@ -1,0 +1,4 @@
+pub mod AnswerBytes
+pub mod AnswerLaws
+pub mod Bundle
+pub mod Examples

@@ -1,0 +1,36 @@
+#!/usr/bin/env bash
+# Bundles of updates: the edges program on random scripts of offers and bundles, against the second program. The last line is 'N passed, M failed'.
+# The edges program must have been built: rt check test_edges.
+set -euo pipefail
+cd "$(dirname "${BASH_SOURCE[0]}")"
+PATH=$PATH:${HOME:-/root}/.cargo/bin
+
+release=../../oracle/target/release
+edges=../../target/bin/test_edges
+
+passed=0 failed=0
+check() {
+    local name=$1
+    shift
+    echo "$name"
+    if "$@"; then
+        echo "$name: ok"
+        passed=$((passed + 1))
+    else
+        echo "$name: FAILED"
+        failed=$((failed + 1))
+    fi
+}
+
+cargo_oracle() { cargo "$1" --release --offline --quiet --manifest-path ../../oracle/Cargo.toml --target-dir ../../oracle/target; }
+
+# compare_edges: the whole output of the edges program against what the rules give.
+compare_edges() {
+    [ -x "$edges" ] || { echo "there is no target/bin/test_edges: run rt check test_edges first"; return 1; }
+    "$release/bundles" "$edges"
+}
+
+check "the second program is built" cargo_oracle build
+check "the edges program on random bundles" compare_edges
+echo "$passed passed, $failed failed"
+[ "$failed" -eq 0 ] && [ "$passed" -gt 0 ]
