@@ -3,26 +3,10 @@
 # The edges program must have been built: rt check test_edges.
 set -euo pipefail
 cd "$(dirname "${BASH_SOURCE[0]}")"
-PATH=$PATH:${HOME:-/root}/.cargo/bin
+source ../check.sh
 
 release=../../oracle/target/release
 edges=../../target/bin/test_edges
-
-passed=0 failed=0
-check() {
-    local name=$1
-    shift
-    echo "$name"
-    if "$@"; then
-        echo "$name: ok"
-        passed=$((passed + 1))
-    else
-        echo "$name: FAILED"
-        failed=$((failed + 1))
-    fi
-}
-
-cargo_oracle() { cargo "$1" --release --offline --quiet --manifest-path ../../oracle/Cargo.toml --target-dir ../../oracle/target; }
 
 # compare_edges: the whole output of the edges program against what the rules give.
 compare_edges() {

@@ -4,27 +4,11 @@
 # The command must have been built: rt check silkcliff.
 set -euo pipefail
 cd "$(dirname "${BASH_SOURCE[0]}")"
-PATH=$PATH:${HOME:-/root}/.cargo/bin
+source ../check.sh
 
 oracle=../../oracle/target/release/oracle
 command=../../target/bin/silkcliff
 crate=../../crates/silkcliff
-
-passed=0 failed=0
-check() {
-    local name=$1
-    shift
-    echo "$name"
-    if "$@"; then
-        echo "$name: ok"
-        passed=$((passed + 1))
-    else
-        echo "$name: FAILED"
-        failed=$((failed + 1))
-    fi
-}
-
-cargo_oracle() { cargo "$1" --release --offline --quiet --manifest-path ../../oracle/Cargo.toml --target-dir ../../oracle/target; }
 
 # What crates/silkcliff has in its files stdin and stdout is the long session and the second program's output.
 long_session() { ./long.sh | cmp - "$crate/stdin" && "$oracle" <"$crate/stdin" | cmp - "$crate/stdout"; }

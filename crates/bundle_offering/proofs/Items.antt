@@ -5,12 +5,11 @@ use native.Mathlib.Omega.{arith}
 use mathlib.Core.List.{List, [], _∷_, _++_, append-assoc, append-nil}
 use mathlib.Core.Option.{some}
 use mathlib.Core.Bool.{true}
-use lib.ListN.{length, take, drop, length-append, length-drop}
+use lib.ListN.{length, drop, length-append, length-drop}
 use lib.Seq.{length-take-le, take-at, drop-at, drop-drop}
 use Rattle.bytes_order.specs.Member.{concatMap}
 use Rattle.bytes_copy.specs.Overwritten.{overwritten}
-use Rattle.bytes_copy.specs.OverwrittenLaws.{overwritten-length}
-use Rattle.bundle_format.specs.Bundle.{lengthBytes, mostItems, firstLength, firstItem, afterFirst, itemsWithin, itemsOf}
+use Rattle.bundle_format.specs.Bundle.{lengthBytes, mostItems, firstLength, firstItem, itemsWithin, itemsOf}
 use Rattle.bundle_format.specs.BundleLaws.{First, items-first, items-end}
 use Rattle.ledger_state.specs.declared.Ledger.{Ledger}
 use Rattle.ledger_state.specs.View.{bookOf}

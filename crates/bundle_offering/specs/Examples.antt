@@ -1,5 +1,4 @@
 -- Worked examples: the six bytes of each kind of answer.
-use Prim.Native.Nat.{ℕ}
 use mathlib.Core.Path.{_≡_, refl}
 use mathlib.Core.List.{[], _∷_}
 use Rattle.bytes_order.specs.Member.{concatMap}

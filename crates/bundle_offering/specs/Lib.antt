@@ -1,4 +1,5 @@
 pub mod AnswerBytes
 pub mod AnswerLaws
 pub mod Bundle
+pub mod ValueLaws
 pub mod Examples

@@ -80,26 +80,14 @@ fn change(
     }
 }
 
-// The commands that take the ledger.
-fn call(
-    l: Ledger,
-    store: &mut [u8],
-    slots: &mut [u8],
-    out: &mut [u8],
-    c: usize,
-    line: &[u8],
-) -> Ledger {
-    look(l, store, slots, out, c, line);
-    change(l, store, slots, out, c, line)
-}
-
 // Runs a line.
 fn step(l: Ledger, store: &mut [u8], slots: &mut [u8], out: &mut [u8], line: &[u8]) -> Ledger {
     let c = command(line);
     prepare(slots, c, line);
     let lent = lend(slots, LENGTHS + STORE, store);
     let page = lend(slots, LENGTHS + BUFFER, out);
-    call(l, lent, slots, page, c, line)
+    look(l, lent, slots, page, c, line);
+    change(l, lent, slots, page, c, line)
 }
 
 // Runs the lines of a script.

@@ -1,10 +1,10 @@
 -- `offer_items` meets its contract. The loop's invariant: the items before byte `at` were offered, and their answers end at byte `end`.
-use Prim.Native.Nat.{ℕ, _+_, _-_, _≤_}
-use mathlib.Core.Path.{_≡_, ap, sym, _∙_}
+use Prim.Native.Nat.{_+_, _-_, _≤_}
+use mathlib.Core.Path.{ap, _∙_}
 use native.Mathlib.Omega.{arith}
 use borrow.Author.Needs.{needs}
 use denote.Ref.{now}
-use lib.ListN.{length, drop}
+use lib.ListN.{length}
 use Rattle.bundle_format.specs.Bundle.{lengthBytes}
 use Rattle.ledger_offering.specs.CallsLaws.{calls-length}
 use Rattle.bundle_offering.proofs.Items.{Reached, reached-none, reached-length, reached-all, item-within, item-length, answer-fits, reached-next}
