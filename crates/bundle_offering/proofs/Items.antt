@@ -18,8 +18,8 @@ use Rattle.ledger_offering.specs.Values.{OfferValues}
 use Rattle.ledger_offering.specs.Offer.{OfferRow}
 use Rattle.ledger_offering.specs.Calls.{Calls, done}
 use Rattle.ledger_offering.specs.CallsLaws.{offer-sound, calls-count, calls-then}
-use Rattle.bundle_offering.specs.AnswerBytes.{answerLength, answerBytes, answersBytes}
-use Rattle.bundle_offering.specs.AnswerLaws.{answer-length, answers-length, answers-then}
+use Rattle.bundle_answers.specs.AnswerBytes.{answerLength, answerBytes, answersBytes}
+use Rattle.bundle_answers.specs.AnswerLaws.{answer-length, answers-length, answers-then}
 use Rattle.bundle_offering.specs.Bundle.{answersLength, Offerable, AllOffered}
 
 -- the items before byte `at` of the bundle were offered, and their answers end at byte `end`

@@ -1,47 +1,24 @@
--- What a bundle answers, from what the calls within it answered; and the bytes of an answer, by its kind.
+-- What a bundle answers, from what the calls within it answered.
 use mathlib.Core.Path.{_≡_, refl, sym, ap, subst, _∙_}
-use Prim.Native.Nat.{ℕ, _*_, _/_, _%_, _≤_, _<_}
-use native.Mathlib.Nat.{div-one}
+use Prim.Native.Nat.{ℕ, _*_, _≤_, _<_}
 use native.Mathlib.Omega.{arith}
-use mathlib.Core.List.{List, [], _∷_}
+use mathlib.Core.List.{List}
 use mathlib.Core.Option.{Option, none, some}
 use mathlib.Core.Bool.{true, false}
 use lib.ListN.{length}
-use Rattle.bytes_words.specs.Words.{bytesIn}
 use Rattle.bundle_format.specs.Bundle.{mostItems, itemsOf}
 use Rattle.bundle_format.specs.BundleLaws.{items-few}
 use Rattle.bundle_format.specs.declared.Counted.{Counted}
 use Rattle.bundle_format.specs.declared.Counted.the-variants.{Items, NoBundle}
 use Rattle.bundle_format.specs.Counted.{countOf, lengthOf}
-use Rattle.rules.specs.declared.Standing.{Standing}
 use Rattle.ledger_state.specs.declared.Ledger.{Ledger}
 use Rattle.ledger_state.specs.View.{bookOf}
 use Rattle.ledger_state.specs.Row1.{sound}
 use Rattle.ledger_refusals.specs.declared.Refusal.the-variants.{Unfit, Short, Bundle}
-use Rattle.ledger_offering.specs.Values.{takenAs, knownAs, refusedAs}
 use Rattle.bundle_offering.specs.declared.Bundled.the-variants.{Answered}
 use Rattle.bundle_offering.specs.declared.BundleOffered.{BundleOffered}
-use Rattle.bundle_offering.specs.AnswerBytes.{answerLength, standingByte, answerBytes}
+use Rattle.bundle_answers.specs.AnswerBytes.{answerLength}
 use Rattle.bundle_offering.specs.Bundle.{refusedBundle, unfit, no-bundle, short, answered, Bundling, Offerable, AllOffered}
-
--- the two bytes of a count
-two-bytes : (n : ℕ) → bytesIn 2 n ≡ n / 256 % 256 ∷ n % 256 ∷ []
-unfolding bytesIn
-two-bytes n = ap (λ (k : ℕ). n / 256 % 256 ∷ k % 256 ∷ []) (div-one n)
-
--- by the kind of the answer
-pub taken-bytes : (v : Standing) (h w : ℕ) {x h₁ h₀ w₁ w₀ : ℕ} → x ≡ standingByte v → h₁ ≡ h / 256 % 256 → h₀ ≡ h % 256 → w₁ ≡ w / 256 % 256 → w₀ ≡ w % 256
-    → 0 ∷ x ∷ h₁ ∷ h₀ ∷ w₁ ∷ w₀ ∷ [] ≡ answerBytes (takenAs v h w)
-unfolding answerBytes
-taken-bytes v h w e h₁-is h₀-is w₁-is w₀-is = rw (e, h₁-is, h₀-is, w₁-is, w₀-is, two-bytes h, two-bytes w)
-
-pub known-bytes : (v : Standing) {x : ℕ} → x ≡ standingByte v → 1 ∷ x ∷ 0 ∷ 0 ∷ 0 ∷ 0 ∷ [] ≡ answerBytes (knownAs v)
-unfolding answerBytes bytesIn
-known-bytes v e = rw e
-
-pub refused-bytes : (n : ℕ) {x : ℕ} → x ≡ n → 2 ∷ x ∷ 0 ∷ 0 ∷ 0 ∷ 0 ∷ [] ≡ answerBytes (refusedAs n)
-unfolding answerBytes bytesIn
-refused-bytes n e = rw e
 
 -- by what counting the items answered
 none-counted : (o : Option (List (List ℕ))) → none ≡ lengthOf o → o ≡ none

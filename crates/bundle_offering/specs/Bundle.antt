@@ -14,7 +14,7 @@ use Rattle.ledger_refusals.specs.declared.Refusal.{Refusal}
 use Rattle.ledger_refusals.specs.Numbers.{row1Number, row11Number, row13Number, refusalNumber, Output, putBytes, refusedBy}
 use Rattle.ledger_offering.specs.Values.{OfferValues}
 use Rattle.ledger_offering.specs.Calls.{Calls}
-use Rattle.bundle_offering.specs.AnswerBytes.{answerLength, answersBytes}
+use Rattle.bundle_answers.specs.AnswerBytes.{answerLength, answersBytes}
 use Rattle.bundle_offering.specs.declared.Bundled.{Bundled}
 use Rattle.bundle_offering.specs.declared.Bundled.the-variants.{Answered, Refused}
 use Rattle.bundle_offering.specs.declared.BundleOffered.{BundleOffered}

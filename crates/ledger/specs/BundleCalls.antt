@@ -89,7 +89,7 @@ cut-offers (cut-single b c) = ap (λ (r : List (List ℕ)). b ∷ r) (cut-offers
 cut-offers (cut-bundle xs o few sized fits c) = ap₂ _++_ (bundle-offered xs o few sized fits) (cut-offers c)
 cut-offers (cut-nothing b o e c) = ap₂ _++_ e (cut-offers c)
 
--- a bundle is refused by 13 or 11, and so offers nothing, where it has no items, or where the buffer is short
+-- bytes that are no bundle, which 13 refuses, offer nothing, nor does a bundle whose answers do not fit, which 11 refuses
 pub none-offered : (b o : List ℕ) → itemsOf b ≡ none → offeredBy (bundle b o) ≡ []
 none-offered b o e = rw e
 

@@ -17,8 +17,8 @@ use Rattle.ledger_refusals.specs.Numbers.{Output, putBytes, refusedBy}
 use Rattle.ledger_offering.specs.Values.{OfferValues}
 use Rattle.ledger_offering.specs.Calls.{Calls, done, call}
 use Rattle.ledger_offering.specs.CallsLaws.{offer-terms, calls-count}
-use Rattle.bundle_offering.specs.AnswerBytes.{answerLength, answersBytes}
-use Rattle.bundle_offering.specs.AnswerLaws.{answers-length}
+use Rattle.bundle_answers.specs.AnswerBytes.{answerLength, answersBytes}
+use Rattle.bundle_answers.specs.AnswerLaws.{answers-length}
 use Rattle.bundle_offering.specs.Bundle.{answersLength, BundleRow, unfit, no-bundle, short, answered}
 use Rattle.ledger.specs.Calls.{acceptDecoded, offer-stands}
 use Rattle.ledger.specs.Answers.{answerFor, answer-right}

@@ -7,8 +7,8 @@ use denote.Ref.{now}
 use lib.ListN.{length}
 use Rattle.bytes_copy.specs.Overwritten.{overwritten}
 use Rattle.bytes_copy.specs.OverwrittenLaws.{put-back}
-use Rattle.bundle_offering.proofs.put_answer.Statement.{statement}
-use Rattle.bundle_offering.proofs.put_answer.Tie as tie
+use Rattle.bundle_answers.proofs.put_answer.Statement.{statement}
+use Rattle.bundle_answers.proofs.put_answer.Tie as tie
 
 -- places of the code, each from a later one
 abbrev answer-bytes→start : tie.After-answer-bytes → tie.Start

@@ -3,10 +3,10 @@ use mathlib.Core.Path.{sym, ap, _∙_}
 use borrow.Author.Needs.{needs}
 use Rattle.ledger_offering.specs.declared.Answer.{Answer}
 use Rattle.ledger_offering.specs.Values.{offerValues}
-use Rattle.bundle_offering.specs.AnswerBytes.{answerBytes}
-use Rattle.bundle_offering.proofs.Rows.{taken-bytes, known-bytes, refused-bytes}
-use Rattle.bundle_offering.proofs.answer_bytes.Statement.{statement}
-use Rattle.bundle_offering.proofs.answer_bytes.Tie as tie
+use Rattle.bundle_answers.specs.AnswerBytes.{answerBytes}
+use Rattle.bundle_answers.proofs.AnswerKinds.{taken-bytes, known-bytes, refused-bytes}
+use Rattle.bundle_answers.proofs.answer_bytes.Statement.{statement}
+use Rattle.bundle_answers.proofs.answer_bytes.Tie as tie
 
 -- places of the code, each from a later one
 abbrev low2→low : tie.After-low2 → tie.After-low

@@ -22,7 +22,7 @@ use Rattle.ledger_state.specs.Row1.{sound}
 use Rattle.ledger_state.specs.Row1Laws.{sound→}
 use Rattle.ledger_offering.specs.Values.{OfferValues, takenAs, knownAs, refusedAs}
 use Rattle.ledger_offering.specs.Offer.{OfferRow, unfit, malformed, known, full, taken}
-use Rattle.bundle_offering.specs.AnswerBytes.{answerLength, standingByte, countBytes, answerBytes, answersBytes}
+use Rattle.bundle_answers.specs.AnswerBytes.{answerLength, standingByte, countBytes, answerBytes, answersBytes}
 
 counts-length : (h w : ℕ) → length (countBytes h w) ≡ 4
 counts-length h w = omega (arith, length-append (bytesIn 2 h) (bytesIn 2 w), length-bytesIn 2 h, length-bytesIn 2 w)

@@ -5,7 +5,7 @@ use Rattle.bytes_order.specs.Member.{concatMap}
 use Rattle.bytes_words.specs.Words.{bytesIn}
 use Rattle.rules.specs.declared.Standing.the-variants.{Held, Waiting, Void}
 use Rattle.ledger_offering.specs.Values.{takenAs, knownAs, refusedAs}
-use Rattle.bundle_offering.specs.AnswerBytes.{answerBytes, answersBytes}
+use Rattle.bundle_answers.specs.AnswerBytes.{answerBytes, answersBytes}
 
 -- taken, and held with 257 others: the higher byte of a count is the first
 pub taken-held : answerBytes (takenAs Held 258 3) ≡ 0 ∷ 0 ∷ 1 ∷ 2 ∷ 0 ∷ 3 ∷ []

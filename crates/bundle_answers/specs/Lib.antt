@@ -1,0 +1,3 @@
+pub mod AnswerBytes
+pub mod AnswerLaws
+pub mod Examples
