@@ -1,9 +1,9 @@
 -- `word` meets its contract: eight bytes, each shifted to its place, put together are their number.
 use borrow.Author.Needs.{needs}
 use denote.Ref.{now}
-use Rattle.bytes_words.proofs.Steps.{eight-bytes}
-use Rattle.bytes_words.proofs.word.Statement.{statement}
-use Rattle.bytes_words.proofs.word.Tie as tie
+use Rattle.bytes_packing.proofs.Together.{eight-bytes}
+use Rattle.bytes_packing.proofs.word.Statement.{statement}
+use Rattle.bytes_packing.proofs.word.Tie as tie
 
 -- places of the code, each from a later one
 abbrev wide8→wide : tie.After-wide8 → tie.After-wide

@@ -3,11 +3,11 @@ use mathlib.Core.Path.{_≡_, ap, _∙_}
 use mathlib.Core.List.{_∷_, []}
 use borrow.Author.Needs.{needs}
 use denote.Ref.{now}
 use Rattle.bytes_words.specs.Words.{packed, bytesOf}
 use Rattle.bytes_words.specs.WordsLaws.{bytesOf-packed}
-use Rattle.bytes_words.proofs.Steps.{packed-four}
-use Rattle.bytes_words.proofs.pack.Statement.{statement}
-use Rattle.bytes_words.proofs.pack.Tie as tie
+use Rattle.bytes_packing.proofs.Together.{packed-four}
+use Rattle.bytes_packing.proofs.pack.Statement.{statement}
+use Rattle.bytes_packing.proofs.pack.Tie as tie
 
 -- places of the code, each from a later one
 abbrev word4→word3 : tie.After-word4 → tie.After-word3
