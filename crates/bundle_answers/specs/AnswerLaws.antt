@@ -22,6 +22,8 @@ use Rattle.ledger_state.specs.Row1.{sound}
 use Rattle.ledger_state.specs.Row1Laws.{sound→}
 use Rattle.ledger_offering.specs.Values.{OfferValues, takenAs, knownAs, refusedAs}
 use Rattle.ledger_offering.specs.Offer.{OfferRow, unfit, malformed, known, full, taken}
+use Rattle.ledger_offering.specs.Calls.{Calls}
+use Rattle.ledger_offering.specs.CallsLaws.{calls-count}
 use Rattle.bundle_answers.specs.AnswerBytes.{answerLength, standingByte, countBytes, answerBytes, answersBytes}
 
 counts-length : (h w : ℕ) → length (countBytes h w) ≡ 4
@@ -37,6 +39,11 @@ pub answers-length : (vs : List OfferValues) → length (answersBytes vs) ≡ an
 unfolding concatMap
 answers-length [] = refl
 answers-length (v ∷ vs) = let h = answers-length vs in omega (arith, length-append (answerBytes v) (answersBytes vs), answer-length v)
+
+-- those of offers one after the other: six for each offer
+pub calls-answers-length : {l l′ : Ledger} {s s′ : List ℕ} {bs : List (List ℕ)} {vs : List OfferValues} → Calls l s bs vs l′ s′
+    → length (answersBytes vs) ≡ answerLength * length bs
+calls-answers-length {vs = vs} c = answers-length vs ∙ ap (λ (n : ℕ). answerLength * n) (calls-count c)
 
 -- one more answer
 pub answers-then : (vs : List OfferValues) (v : OfferValues) → answersBytes (vs ++ (v ∷ [])) ≡ answersBytes vs ++ answerBytes v

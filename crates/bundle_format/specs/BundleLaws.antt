@@ -49,7 +49,7 @@ pub record First (n : ℕ) (b : List ℕ) (xs : List (List ℕ)) : Type 0 where
 none-some : {A C : Type 0} {x : A} → none ≡ some x → C
 none-some e = let z : _≡_ {A = ℕ} 0 1 = cc in absurd (omega arith)
 
-some-one : {A : Type 0} {x y : A} → some x ≡ some y → x ≡ y
+pub some-one : {A : Type 0} {x y : A} → some x ≡ some y → x ≡ y
 some-one e = cc
 
 module _ (n : ℕ) (b : List ℕ) (xs : List (List ℕ)) (whole : firstWhole b ≡ true) where

@@ -10,16 +10,16 @@ use lib.Seq.{length-take-le, take-at, drop-at, drop-drop}
 use Rattle.bytes_order.specs.Member.{concatMap}
 use Rattle.bytes_copy.specs.Overwritten.{overwritten}
 use Rattle.bundle_format.specs.Bundle.{lengthBytes, mostItems, firstLength, firstItem, itemsWithin, itemsOf}
-use Rattle.bundle_format.specs.BundleLaws.{First, items-first, items-end}
+use Rattle.bundle_format.specs.BundleLaws.{some-one, First, items-first, items-end}
 use Rattle.ledger_state.specs.declared.Ledger.{Ledger}
 use Rattle.ledger_state.specs.View.{bookOf}
 use Rattle.ledger_state.specs.Row1.{sound}
 use Rattle.ledger_offering.specs.Values.{OfferValues}
 use Rattle.ledger_offering.specs.Offer.{OfferRow}
 use Rattle.ledger_offering.specs.Calls.{Calls, done}
-use Rattle.ledger_offering.specs.CallsLaws.{offer-sound, calls-count, calls-then}
+use Rattle.ledger_offering.specs.CallsLaws.{offer-sound, calls-then}
 use Rattle.bundle_answers.specs.AnswerBytes.{answerLength, answerBytes, answersBytes}
-use Rattle.bundle_answers.specs.AnswerLaws.{answer-length, answers-length, answers-then}
+use Rattle.bundle_answers.specs.AnswerLaws.{answer-length, calls-answers-length, answers-then}
 use Rattle.bundle_offering.specs.Bundle.{answersLength, Offerable, AllOffered}
 
 -- the items before byte `at` of the bundle were offered, and their answers end at byte `end`
@@ -58,7 +58,7 @@ reached-none p =
 module _ {l₀ l : Ledger} {s₀ b o₀ s o : List ℕ} {at end : ℕ} (r : Reached l₀ s₀ b o₀ s o l at end) where
   -- the answers that were given end where the next one goes
   given-length : length (answersBytes (r .given)) ≡ answersLength (r .past)
-  given-length = answers-length (r .given) ∙ ap (λ (n : ℕ). answerLength * n) (calls-count (r .calls))
+  given-length = calls-answers-length (r .calls)
 
   past-fits : answersLength (r .past) ≤ length o₀
   past-fits = let h = r .fits in omega (arith, length-append (r .past) (r .rest))
@@ -71,17 +71,14 @@ module _ {l₀ l : Ledger} {s₀ b o₀ s o : List ℕ} {at end : ℕ} (r : Reac
   -- all items are offered
   pub reached-all : length b ≤ at → AllOffered l₀ s₀ b o₀ l s o
   reached-all h =
-      let e : r .rest ≡ [] = none-left (r .rest) (sym (items-end (r .most) (drop at b) (omega (arith, length-drop at b))) ∙ r .rest-read) in
+      let e : [] ≡ r .rest = some-one (sym (items-end (r .most) (drop at b) (omega (arith, length-drop at b))) ∙ r .rest-read) in
       record {
         items = r .past;
         answers = r .given;
-        read = r .all-read ∙ ap (λ (xs : List (List ℕ)). some (r .past ++ xs)) e ∙ ap some (append-nil (r .past));
+        read = r .all-read ∙ ap (λ (xs : List (List ℕ)). some (r .past ++ xs)) (sym e) ∙ ap some (append-nil (r .past));
         calls = r .calls;
         written = r .written;
       }
-    where
-      none-left : (xs : List (List ℕ)) → some [] ≡ some xs → xs ≡ []
-      none-left xs e = cc
 
   module _ (more : at < length b) where
     first : First (r .most) (drop at b) (r .rest)

@@ -7,7 +7,7 @@ use mathlib.Core.Option.{Option, none, some}
 use mathlib.Core.Bool.{true, false}
 use lib.ListN.{length}
 use Rattle.bundle_format.specs.Bundle.{mostItems, itemsOf}
-use Rattle.bundle_format.specs.BundleLaws.{items-few}
+use Rattle.bundle_format.specs.BundleLaws.{some-one, items-few}
 use Rattle.bundle_format.specs.declared.Counted.{Counted}
 use Rattle.bundle_format.specs.declared.Counted.the-variants.{Items, NoBundle}
 use Rattle.bundle_format.specs.Counted.{countOf, lengthOf}
@@ -29,9 +29,6 @@ some-counted : (o : Option (List (List ℕ))) {n : ℕ} → some n ≡ lengthOf 
 some-counted none e = let z : _≡_ {A = ℕ} 0 1 = cc in absurd (omega arith)
 some-counted (some xs) e = (xs, refl)
 
-one-number : {n k : ℕ} → some n ≡ some k → n ≡ k
-one-number e = cc
-
 -- row 1
 pub bundle-unfit : (l : Ledger) (s b o : List ℕ) → sound (bookOf l) s ≡ false → {x : BundleOffered} → x ≡ refusedBundle l Unfit → Bundling l s b o x s o
 bundle-unfit l s b o h e = rw e (unfit h)
@@ -45,7 +42,7 @@ module _ (l : Ledger) (s b o : List ℕ) (fits : sound (bookOf l) s ≡ true) {r
     has-items = some-counted (itemsOf b) (sym (ap countOf is) ∙ counted)
 
     number-of : {xs : List (List ℕ)} → itemsOf b ≡ some xs → n ≡ length xs
-    number-of e = one-number (sym (ap countOf is) ∙ counted ∙ ap lengthOf e)
+    number-of e = some-one (sym (ap countOf is) ∙ counted ∙ ap lengthOf e)
 
     pub number-few : n ≤ mostItems
     number-few = subst (λ (k : ℕ). k ≤ mostItems) (sym (number-of (has-items .1))) (items-few mostItems b (has-items .0) (has-items .1))

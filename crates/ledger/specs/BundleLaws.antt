@@ -1,6 +1,6 @@
 -- The answers of a bundle, from the rules alone; and what a bundle does to the answer buffer.
 use mathlib.Core.Path.{_≡_, refl, sym, ap, _∙_}
-use Prim.Native.Nat.{ℕ, _*_}
+use Prim.Native.Nat.{ℕ}
 use native.Mathlib.Omega.{arith}
 use mathlib.Core.List.{List, [], _∷_}
 use mathlib.Core.Option.{some}
@@ -16,9 +16,9 @@ use Rattle.ledger_state.specs.Stands.{Stands}
 use Rattle.ledger_refusals.specs.Numbers.{Output, putBytes, refusedBy}
 use Rattle.ledger_offering.specs.Values.{OfferValues}
 use Rattle.ledger_offering.specs.Calls.{Calls, done, call}
-use Rattle.ledger_offering.specs.CallsLaws.{offer-terms, calls-count}
-use Rattle.bundle_answers.specs.AnswerBytes.{answerLength, answersBytes}
-use Rattle.bundle_answers.specs.AnswerLaws.{answers-length}
+use Rattle.ledger_offering.specs.CallsLaws.{offer-terms}
+use Rattle.bundle_answers.specs.AnswerBytes.{answersBytes}
+use Rattle.bundle_answers.specs.AnswerLaws.{calls-answers-length}
 use Rattle.bundle_offering.specs.Bundle.{answersLength, BundleRow, unfit, no-bundle, short, answered}
 use Rattle.ledger.specs.Calls.{acceptDecoded, offer-stands}
 use Rattle.ledger.specs.Answers.{answerFor, answer-right}
@@ -54,12 +54,11 @@ bundle-right us h (no-bundle e r) n q = let z : _≡_ {A = ℕ} 0 1 = cc in absu
 bundle-right us h (short xs e r k) n q = let z : _≡_ {A = ℕ} 0 1 = cc in absurd (omega arith)
 bundle-right {o = o} us h (answered xs vs r s′ e i k c) n q =
     let p : answersLength xs ≡ n = cc in
-    let g : length (answersBytes vs) ≡ answersLength xs = answers-length vs ∙ ap (λ (m : ℕ). answerLength * m) (calls-count c) in
     record {
       items = xs;
       read = i;
       written = sym p;
-      answers = take-at (answersBytes vs) (drop (answersLength xs) o) n (g ∙ p) ∙ ap answersBytes (calls-answered us h c);
+      answers = take-at (answersBytes vs) (drop (answersLength xs) o) n (calls-answers-length c ∙ p) ∙ ap answersBytes (calls-answered us h c);
     }
 
 -- the buffer keeps its length, and a refusal leaves ledger, store and buffer as they were
@@ -68,8 +67,7 @@ bundle-buffer (unfit e) = refl
 bundle-buffer (no-bundle e r) = refl
 bundle-buffer (short xs e r k) = refl
 bundle-buffer {o = o} (answered xs vs r s′ e i k c) =
-    let g : length (answersBytes vs) ≡ answersLength xs = answers-length vs ∙ ap (λ (m : ℕ). answerLength * m) (calls-count c) in
-    omega (arith, length-append (answersBytes vs) (drop (answersLength xs) o), length-drop (answersLength xs) o)
+    omega (arith, calls-answers-length c, length-append (answersBytes vs) (drop (answersLength xs) o), length-drop (answersLength xs) o)
 
 pub record Unchanged (l : Ledger) (s o : List ℕ) (r : Ledger) (s′ o′ : List ℕ) : Type 0 where
   pub ledger : r ≡ l
