@@ -6,30 +6,8 @@
 # what rt proved and built.
 set -euo pipefail
 cd "$(dirname "${BASH_SOURCE[0]}")/.."
-PATH=$PATH:${HOME:-/root}/.cargo/bin
-export LC_ALL=C
-command -v valgrind >/dev/null || { echo "valgrind is missing here"; exit 1; }
-
-mkdir -p target
-folder=$(mktemp -d target/bench.XXXXXX)
-trap 'rm -rf "$folder"' EXIT
-program=target/bin/test_edges
-rust=$folder/rust/release
-printing=(test_edges::show::answered test_edges::show::hex)
-
-rt check test_edges >"$folder/check.log" 2>&1 || { cat "$folder/check.log"; exit 1; }
-cargo build --release --offline --quiet --manifest-path oracle/Cargo.toml --target-dir "$folder/rust"
-for function in "${printing[@]}"; do
-    nm "$program" | grep -q " $function\$" || { echo "$program has no function $function of its own: its instructions cannot be told"; exit 1; }
-done
-
-# count SCRIPT: sets counted, the instructions of a run but for those of the printing.
-count() {
-    # --toggle-collect sets --collect-atstart too, so that comes last
-    valgrind --tool=callgrind --callgrind-out-file="$folder/calls" "${printing[@]/#/--toggle-collect=}" --collect-atstart=yes \
-        "$program" <"$1" >/dev/null 2>"$folder/valgrind.log" || { cat "$folder/valgrind.log"; exit 1; }
-    counted=$(sed -n 's/^totals: //p' "$folder/calls")
-}
+source bench/edges.sh
+prepare test_edges::show::answered test_edges::show::hex
 
 # count_calls SCRIPT COMMAND OTHER: sets counted, the instructions of a run up to the line with the command, less those with the other line in its place.
 count_calls() {

@@ -1,6 +1,6 @@
 //! Document 02's E1: "A sack of updates in one call."
 
-use crate::ledger::{Answer, Ledger, Standing};
+use crate::ledger::{Answer, Ledger};
 
 /// "at most 64 items"
 pub const ITEMS: usize = 64;
@@ -29,20 +29,12 @@ pub fn items(bundle: &[u8]) -> Option<Vec<&[u8]>> {
     (items.len() <= ITEMS).then_some(items)
 }
 
-fn standing_byte(standing: Standing) -> u8 {
-    match standing {
-        Standing::Held => 0,
-        Standing::Waiting => 1,
-        Standing::Void => 2,
-    }
-}
-
 /// "The six are: 0 taken, 1 known or 2 refused; then 0 held, 1 waiting, 2 void, or the refusal's
 /// number; then the two counts, 16 bits big-endian each, zero unless taken."
 pub fn answer_bytes(answer: Answer) -> [u8; ANSWER] {
     let (first, second, held, void) = match answer {
-        Answer::Taken { standing, newly_held, newly_void } => (0, standing_byte(standing), newly_held, newly_void),
-        Answer::Known { standing } => (1, standing_byte(standing), 0, 0),
+        Answer::Taken { standing, newly_held, newly_void } => (0, standing.byte(), newly_held, newly_void),
+        Answer::Known { standing } => (1, standing.byte(), 0, 0),
         Answer::Refused { number } => (2, number as u8, 0, 0),
     };
     let [held_high, held_low] = (held as u16).to_be_bytes();
@@ -70,7 +62,7 @@ pub fn offer_bundle(ledger: &mut Ledger, bundle: &[u8], answers: &mut [u8]) -> R
 mod tests {
     use super::*;
     use crate::generator::{encode, malformed_update, updates, Op, Rng, KINDS};
-    use crate::ledger::Form;
+    use crate::ledger::{Form, Standing};
     use crate::sha256::sha256;
 
     /// An item of a bundle for each of these byte strings.

@@ -25,6 +25,15 @@ impl Standing {
             Standing::Void => "void",
         }
     }
+
+    /// Document 02's E1 and E3: "0 held, 1 waiting, 2 void"
+    pub fn byte(self) -> u8 {
+        match self {
+            Standing::Held => 0,
+            Standing::Waiting => 1,
+            Standing::Void => 2,
+        }
+    }
 }
 
 /// "The full report is had by naming it."
@@ -343,6 +352,11 @@ impl Ledger {
             *out += &format!("({} {})\n", hex(&self.stored[p].id), self.stored[p].update.author);
         }
         *out += ")\n";
+    }
+
+    /// The stored ids, ascending, each with its standing.
+    pub fn standings(&self) -> Vec<(Id, Standing)> {
+        self.place_of.iter().map(|(&id, &p)| (id, self.settlement.standing[p])).collect()
     }
 
     /// The standing of the stored update with this id.

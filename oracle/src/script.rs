@@ -1,9 +1,12 @@
 //! Scripts of the edges program, `crates/test_edges`, whose `stdin` says how they read: what the commands
-//! let, fresh, offer, ask, report, full, short, buffer, store, change, view, bundle and raw print by the rules.
+//! let, fresh, offer, ask, report, full, short, buffer, store, change, view, bundle, raw, lookup, spread and asks print
+//! by the rules.
 
 use crate::bundle::{items, offer_bundle};
-use crate::ledger::{hex, Answer, Form, Ledger, PLACES};
+use crate::ledger::{hex, Answer, Form, Ledger, Standing, PLACES};
+use crate::lookup::{look_up, spread, UNKNOWN};
 use crate::sha256::sha256;
+use crate::update::Id;
 use std::collections::BTreeMap;
 
 /// The longest update: place k of the store begins at this many bytes times k.
@@ -17,14 +20,31 @@ const STORE_ROOM: usize = STORE + 1;
 const BUFFER_ROOM: usize = 12_000;
 /// What a slot takes.
 pub const SLOT_ROOM: usize = 638;
-/// What a bundle takes.
+/// What a bundle takes, and what the ids of a lookup take.
 const BUNDLE_ROOM: usize = 66_000;
+/// The most ids of a spread.
+const MOST_SPREAD: usize = 10_000;
+/// Answers to ids in a line.
+const LINE: usize = 32;
 /// The longest script that the program reads.
 pub const SCRIPT_ROOM: usize = 65_536;
 
 /// A bundle that was offered.
 pub struct Bundle {
     pub bytes: Vec<u8>,
+    /// The answers, or the number of the refusal.
+    pub answer: Result<Vec<u8>, u32>,
+}
+
+/// Ids that were looked up.
+pub struct Lookup {
+    /// Whether ledger and store fit.
+    pub fits: bool,
+    pub asked: Vec<u8>,
+    /// The length of the output buffer.
+    pub room: usize,
+    /// The largest stored id.
+    pub last: Option<Id>,
     /// The answers, or the number of the refusal.
     pub answer: Result<Vec<u8>, u32>,
 }
@@ -43,6 +63,7 @@ pub struct Run {
     buffer: Vec<u8>,
     pub output: String,
     pub bundles: Vec<Bundle>,
+    pub lookups: Vec<Lookup>,
 }
 
 impl Default for Run {
@@ -64,12 +85,18 @@ impl Run {
             buffer: vec![],
             output: String::new(),
             bundles: vec![],
+            lookups: vec![],
         }
     }
 
     /// The bytes of a slot; a slot that was never set has none.
     fn slot(&self, name: &str) -> &[u8] {
         self.slots.get(name).map_or(&[], |bytes| bytes)
+    }
+
+    /// The bytes of slots end to end.
+    fn end_to_end(&self, slots: &[&str]) -> Vec<u8> {
+        slots.iter().flat_map(|slot| self.slot(slot).to_vec()).collect()
     }
 
     /// 1: "store not 34,112 bytes", or "over 64 places taken".
@@ -158,6 +185,54 @@ impl Run {
         self.bundles.push(Bundle { bytes, answer });
     }
 
+    /// Looks ids up, and prints the count or the refusal; gives the answers.
+    fn look_up(&mut self, asked: Vec<u8>) -> Option<Vec<u8>> {
+        let fits = self.fits();
+        let found = if fits { look_up(&self.ledger, &asked, &mut self.buffer) } else { Err(1) };
+        match &found {
+            Ok(comparisons) => self.print(&format!("compared {comparisons}")),
+            Err(number) => self.print(&format!("refused {number}")),
+        }
+        let answer = found.map(|_| self.buffer[..asked.len() / 32].to_vec());
+        let (room, last) = (self.buffer.len(), self.stored().pop());
+        self.lookups.push(Lookup { fits, asked, room, last, answer: answer.clone() });
+        answer.ok()
+    }
+
+    /// The ids that are stored, ascending.
+    pub fn stored(&self) -> Vec<Id> {
+        self.ledger.standings().into_iter().map(|(id, _)| id).collect()
+    }
+
+    fn lookup(&mut self, asked: Vec<u8>) {
+        assert!(asked.len() <= BUNDLE_ROOM);
+        let answers = self.look_up(asked).unwrap_or_default();
+        answers.chunks(LINE).for_each(|line| self.print(&hex(line)));
+    }
+
+    fn digest(&mut self, answers: &[u8]) {
+        self.print(&format!("answers {}", hex(&sha256(answers))));
+    }
+
+    fn spread(&mut self, count: usize) {
+        if let Some(answers) = self.look_up(spread(count).concat()) {
+            self.digest(&answers);
+        }
+    }
+
+    /// The ids of a spread one by one.
+    fn asks(&mut self, count: usize) {
+        if count > 0 && !self.fits() {
+            return self.print("refused 1");
+        }
+        let room = count.min(self.buffer.len());
+        for (byte, id) in self.buffer[..room].iter_mut().zip(spread(count)) {
+            *byte = self.ledger.standing(&id).map_or(UNKNOWN, Standing::byte);
+        }
+        self.print("asked");
+        self.digest(&self.buffer[..room].to_vec());
+    }
+
     /// Makes the ledger unfit by more places than there are, or fit again by the number that are taken.
     fn change(&mut self, used: usize) {
         assert!(used == self.taken || used > PLACES, "no change that is played");
@@ -200,9 +275,10 @@ impl Run {
                 let item = |slot: &&str| [&(self.slot(slot).len() as u16).to_be_bytes(), self.slot(slot)].concat();
                 self.offer_bundle(slots.iter().flat_map(item).collect());
             }
-            ["raw", ref slots @ ..] => {
-                self.offer_bundle(slots.iter().flat_map(|slot| self.slot(slot).to_vec()).collect())
-            }
+            ["raw", ref slots @ ..] => self.offer_bundle(self.end_to_end(slots)),
+            ["lookup", ref slots @ ..] => self.lookup(self.end_to_end(slots)),
+            ["spread", _] => self.spread(number(1).min(MOST_SPREAD)),
+            ["asks", _] => self.asks(number(1).min(MOST_SPREAD)),
             _ => panic!("no line that is played: {line}"),
         }
     }
@@ -219,20 +295,22 @@ pub fn play(script: &str) -> Run {
 mod tests {
     use super::*;
 
-    /// The headings of the first and the last section on bundles, and of the one before them, whose slots they use.
+    /// The headings of the first section on bundles and of the last one on lookups, which follow them; and of the one
+    /// before them, whose slots they use.
     const FIRST: &str = "# a bundle of no items\n";
-    const LAST: &str = "# 1 before 13 and 11\n";
+    const LAST: &str = "# 1 before 8, 9 and 11\n";
     const BEFORE: &str = "# the longest short report\n";
 
-    /// Where the sections on bundles begin and end.
+    /// Where the sections on bundles and lookups begin and end.
     fn sections(text: &str) -> (usize, usize) {
         let last = text.find(LAST).unwrap();
         (text.find(FIRST).unwrap(), text[last..].find("\n# ").map_or(text.len(), |next| last + next + 1))
     }
 
-    /// What `crates/test_edges` has on bundles in its files `stdin` and `stdout`, which was worked out by hand.
+    /// What `crates/test_edges` has on bundles and lookups in its files `stdin` and `stdout`, which was worked out
+    /// apart from this program.
     #[test]
-    fn the_sections_on_bundles() {
+    fn the_sections_on_bundles_and_lookups() {
         let stdin = include_str!("../../crates/test_edges/stdin");
         let stdout = include_str!("../../crates/test_edges/stdout");
         let (first, end) = sections(stdin);
@@ -243,5 +321,6 @@ mod tests {
         let (first, end) = sections(stdout);
         assert_eq!(run.output, stdout[first..end]);
         assert!(run.bundles.len() >= 50);
+        assert!(run.lookups.len() >= 100);
     }
 }

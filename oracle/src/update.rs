@@ -20,11 +20,12 @@ pub struct Update {
     pub operation: Operation,
 }
 
-fn ids(bytes: &[u8]) -> Vec<Id> {
+/// Whole ids, end to end.
+pub fn ids(bytes: &[u8]) -> Vec<Id> {
     bytes.chunks_exact(32).map(|c| c.try_into().unwrap()).collect()
 }
 
-fn strictly_ascending(ids: &[Id]) -> bool {
+pub fn strictly_ascending(ids: &[Id]) -> bool {
     ids.windows(2).all(|w| w[0] < w[1])
 }
 

@@ -5,16 +5,7 @@ set -euo pipefail
 cd "$(dirname "${BASH_SOURCE[0]}")"
 source ../check.sh
 
-release=../../oracle/target/release
-edges=../../target/bin/test_edges
-
-# compare_edges: the whole output of the edges program against what the rules give.
-compare_edges() {
-    [ -x "$edges" ] || { echo "there is no target/bin/test_edges: run rt check test_edges first"; return 1; }
-    "$release/bundles" "$edges"
-}
-
 check "the second program is built" cargo_oracle build
-check "the edges program on random bundles" compare_edges
+check "the edges program on random bundles" compare_edges bundles
 echo "$passed passed, $failed failed"
 [ "$failed" -eq 0 ] && [ "$passed" -gt 0 ]

@@ -6,7 +6,8 @@ use mathlib.Core.List.{[], _∷_}
 use Rattle.bytes_words.specs.Words.{bytesIn}
 use Rattle.rules.specs.declared.Standing.{Standing}
 use Rattle.ledger_offering.specs.Values.{takenAs, knownAs, refusedAs}
-use Rattle.bundle_answers.specs.AnswerBytes.{standingByte, answerBytes}
+use Rattle.standing_bytes.specs.StandingByte.{standingByte}
+use Rattle.bundle_answers.specs.AnswerBytes.{answerBytes}
 
 -- the two bytes of a count
 two-bytes : (n : ℕ) → bytesIn 2 n ≡ n / 256 % 256 ∷ n % 256 ∷ []

@@ -4,18 +4,12 @@ use Prim.Native.Nat.{ℕ}
 use mathlib.Core.List.{List, _∷_, _++_}
 use Rattle.bytes_order.specs.Member.{concatMap}
 use Rattle.bytes_words.specs.Words.{bytesIn}
-use Rattle.rules.specs.declared.Standing.{Standing}
-use Rattle.rules.specs.declared.Standing.the-variants.{Held, Waiting, Void}
+use Rattle.standing_bytes.specs.StandingByte.{standingByte}
 use Rattle.ledger_offering.specs.Values.{OfferValues, takenAs, knownAs, refusedAs}
 
 -- "six bytes per item"
 abbrev pub answerLength : ℕ
 answerLength = 6
-
-abbrev pub standingByte : Standing → ℕ
-standingByte Held = 0
-standingByte Waiting = 1
-standingByte Void = 2
 
 -- the two counts
 abbrev pub countBytes : ℕ → ℕ → List ℕ

@@ -14,7 +14,7 @@ use Rattle.bytes_words.specs.WordsLaws.{length-bytesIn, big-bytesIn}
 use Rattle.bitset.specs.BelowLaws.{countBelow-le}
 use Rattle.rules.specs.TermsLaws.{allowed→, places-most}
 use Rattle.rules.specs.declared.Standing.{Standing}
-use Rattle.rules.specs.declared.Standing.the-variants.{Held, Waiting, Void}
+use Rattle.standing_bytes.specs.StandingByteLaws.{standingOf, standing-back}
 use Rattle.ledger_state.specs.declared.Ledger.{Ledger}
 use Rattle.ledger_state.specs.State.{Book, placeAt, isHeld, isVoid, standingCount}
 use Rattle.ledger_state.specs.View.{bookOf}
@@ -24,7 +24,7 @@ use Rattle.ledger_offering.specs.Values.{OfferValues, takenAs, knownAs, refused
 use Rattle.ledger_offering.specs.Offer.{OfferRow, unfit, malformed, known, full, taken}
 use Rattle.ledger_offering.specs.Calls.{Calls}
 use Rattle.ledger_offering.specs.CallsLaws.{calls-count}
-use Rattle.bundle_answers.specs.AnswerBytes.{answerLength, standingByte, countBytes, answerBytes, answersBytes}
+use Rattle.bundle_answers.specs.AnswerBytes.{answerLength, countBytes, answerBytes, answersBytes}
 
 counts-length : (h w : ℕ) → length (countBytes h w) ≡ 4
 counts-length h w = omega (arith, length-append (bytesIn 2 h) (bytesIn 2 w), length-bytesIn 2 h, length-bytesIn 2 w)
@@ -51,19 +51,10 @@ unfolding concatMap
 answers-then vs v = concatMap-append answerBytes vs (v ∷ []) ∙ ap (λ (b : List ℕ). answersBytes vs ++ b) (append-nil (answerBytes v))
 
 -- reading an answer back from its bytes
-standingOf : ℕ → Standing
-standingOf n = cond (eqb n 0) Held (cond (eqb n 1) Waiting Void)
-
 answerOf : List ℕ → OfferValues
 answerOf b =
     cond (eqb (getD b 0 0) 0) (takenAs (standingOf (getD b 1 0)) (bigOf (take 2 (drop 2 b))) (bigOf (take 2 (drop 4 b))))
     (cond (eqb (getD b 0 0) 1) (knownAs (standingOf (getD b 1 0))) (refusedAs (getD b 1 0)))
-
-standing-back : (v : Standing) → standingOf (standingByte v) ≡ v
-unfolding standingOf
-standing-back Held = refl
-standing-back Waiting = refl
-standing-back Void = refl
 
 -- the counts, where there are some, are numbers of 16 bits
 abbrev pub CountsFit : OfferValues → Type 0

@@ -4,24 +4,13 @@ ghost use Prim.Native.Nat.{_+_, _/_, _%_, _≤_};
 ghost use lib.ListN.{length};
 ghost use Rattle.bytes_copy.specs.Overwritten.{overwritten};
 ghost use Rattle.ledger_offering.specs.Values.{offerValues};
-ghost use Rattle.bundle_answers.specs.AnswerBytes.{answerLength, standingByte, answerBytes};
+ghost use Rattle.bundle_answers.specs.AnswerBytes.{answerLength, answerBytes};
 use bytes_copy::copy;
 use ledger_offering::Answer;
-use ledger_state::Standing;
+use standing_bytes::standing_byte;
 
 // How many bytes of the answer buffer an item's answer takes.
 pub const ANSWER_LENGTH: usize = 6;
-
-// The byte of a standing.
-fn standing_byte(standing: Standing) -> u8
-    ensures { λ r. ⌜ r ≡ standingByte standing ⌝ }
-{
-    match standing {
-        Standing::Held => 0,
-        Standing::Waiting => 1,
-        Standing::Void => 2,
-    }
-}
 
 // The two bytes of a count, the higher first.
 fn high(count: usize) -> u8

@@ -24,6 +24,8 @@ use Rattle.ledger.specs.Report.{ReportRow, unfit, short, written, Report
 use Rattle.ledger_offering.specs.Calls.{Offers}
 use Rattle.ledger.specs.Calls.{stored, offers-stand, AnswersFor, stands-answers}
 use Rattle.ledger.specs.Answers.{answerFor, answer-right}
+use Rattle.lookup_standings.specs.Lookup.{comparedIds, LookupRow}
+use Rattle.ledger.specs.Lookups.{LookupRuled, lookup-ruled}
 
 -- the text is laid out in the form from parts that are exactly those that the rules give for the updates
 pub record LaidOut (form : Form) (us : List Update) (text : List ℕ) : Type 0 where
@@ -31,10 +33,11 @@ pub record LaidOut (form : Form) (us : List Update) (text : List ℕ) : Type 0 w
   pub read : ReadFrom rules us parts
   pub laid-out : text ≡ reportText form rules parts
 
--- What the entries say of a ledger and its store is what the rules give for the updates: the standing of every id, the bytes of a report in each form, and the
--- answer to a further offer.
+-- What the entries say of a ledger and its store is what the rules give for the updates: the standing of every id, the bytes and the comparisons of many, the bytes of a
+-- report in each form, and the answer to a further offer.
 pub record AsRuled (us : List Update) (l : Ledger) (s : List ℕ) : Type 0 where
   pub standing : AnswersFor (bookOf l) s us
+  pub looked-up : {a o o′ : List ℕ} {n : ℕ} → LookupRow (bookOf l) s a o (comparedIds n) o′ → LookupRuled us a o n o′
   pub reported : (form : Form) {o o′ : List ℕ} {n : ℕ} → Reporting form (bookOf l) s o (Written n) o′ → LaidOut form us (take n o′)
   pub answered : (b : List ℕ) {v : OfferValues} {r : Ledger} {s′ : List ℕ} → OfferRow l s b v r s′ → v ≡ answerFor (bookOf l .terms) us (decode (bookOf l .terms .bounds) b)
 
@@ -52,6 +55,7 @@ unfolding reportOf
 stands-ruled l {s} us h =
     record {
       standing = stands-answers (bookOf l) s us h;
+      looked-up = λ {a} {o} {o′} {n} r. lookup-ruled us h r n refl;
       reported = λ form {o} {o′} {n} r. record { parts = partsOf rules us; read = read-right rules us (h .holds .distinct); laid-out = report-shown us h r n refl };
       answered = λ b o. answer-right l s us h b o;
     }

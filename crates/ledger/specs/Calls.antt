@@ -130,7 +130,7 @@ pub record AnswersFor (l : Book) (s : List ℕ) (us : List Update) : Type 0 wher
   pub unknown-asked : (i : Id) → ((u : Update) → u ∈ us → ident u ≡ i → ⊥) → askedOf l s i ≡ unknownId
 
 module _ (l : Book) (s : List ℕ) (us : List Update) (stands : Stands l s us) where
-  asked-found : (i : Id) (o : Option ℕ) → findIn l i ≡ o → askedOf l s i ≡ askedAt l o
+  pub asked-found : (i : Id) (o : Option ℕ) → findIn l i ≡ o → askedOf l s i ≡ askedAt l o
   unfolding askedOf
   asked-found i o e = rw (stands-sound l s us stands, e)
 

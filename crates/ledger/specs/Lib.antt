@@ -6,6 +6,7 @@ pub mod ValueLaws
 pub mod FormLaws
 pub mod ReportRoomLaws
 pub mod Answers
+pub mod Lookups
 pub mod AfterOffers
 pub mod WriteLaws
 pub mod BundleCalls

@@ -5,6 +5,7 @@ ghost use Rattle.rules.specs.Report.{defaultForm, longest};
 ghost use Rattle.ledger_state.specs.View.{bookOf};
 ghost use Rattle.ledger_offering.specs.Offer.{Offering};
 ghost use Rattle.bundle_offering.specs.Bundle.{Bundling};
+ghost use Rattle.lookup_standings.specs.Lookup.{lookedUp, LookupRow};
 ghost use Rattle.ledger.specs.Ask.{askedValues, askedOf};
 ghost use Rattle.ledger.specs.Report.{Reporting};
 ghost use Rattle.write_asking.specs.Write.{wroteValues, Writing};
@@ -25,6 +26,8 @@ pub use ledger_state::Ledger;
 pub use ledger_state::Standing;
 use ledger_state::find::find;
 pub use ledger_state::fresh;
+pub use lookup_standings::LookedUp;
+use lookup_standings::look_up;
 pub use report_text::MAX_REPORT;
 pub use report_text::MAX_SHORT_REPORT;
 pub use rules::Form;
@@ -86,6 +89,17 @@ pub fn standing(ledger: Ledger, store: &[u8], id: Id) -> Asked
         }
         Found::Nowhere => Asked::Unknown,
     }
+}
+
+// The standings of many ids, which lie end to end in strictly ascending order: one byte for each, at the start of the output buffer; the bytes after them keep their values.
+// The answer is how many comparisons of two ids the walk of the ledger's ids and the asked ones made.
+pub fn standings(ledger: Ledger, store: &[u8], asked: &[u8], out: &mut [u8]) -> LookedUp
+    ensures { λ r. ⌜ LookupRow (bookOf ledger) (now (store .entry)) (now (asked .entry)) (now (out .entry)) (lookedUp r) (now (out .exit)) ⌝ }
+{
+    if !sound(ledger, store) {
+        return LookedUp::Refused(Refusal::Unfit);
+    }
+    look_up(ledger, store, asked, out)
 }
 
 // What a report answers: how many bytes of the output buffer it takes.

@@ -35,7 +35,7 @@ row6Number = malformedNumber Truncated
 abbrev pub row7Number : ℕ
 row7Number = malformedNumber Kind
 
--- "m missing or above 8, or length not what kind and counts give"; of the writer, "named ids' bytes not a multiple of 32, or over 256"
+-- "m missing or above 8, or length not what kind and counts give"; of the writer, "named ids' bytes not a multiple of 32, or over 256"; of a lookup, "bytes that are no multiple of 32"
 abbrev pub row8Number : ℕ
 row8Number = malformedNumber Layout
 

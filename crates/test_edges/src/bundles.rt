@@ -1,5 +1,5 @@
 // Bundles of updates.
-use crate::commands::RAW;
+use crate::commands::BUNDLE;
 use crate::show;
 use ledger::Ledger;
 use test_script::bytes_of;
@@ -10,18 +10,18 @@ use test_script::word;
 use update_format::slice_of;
 
 // What a bundle is laid out in: an item of 65,535 bytes, and some after it.
-const BUNDLE_ROOM: usize = 66000;
+pub const BUNDLE_ROOM: usize = 66000;
 
-// What a slot adds to a bundle: an item, or its bytes alone.
+// What a slot adds to what a command lays out: to a bundle of items an item, and its bytes alone otherwise.
 fn part(slots: &[u8], s: usize, c: usize) -> &[u8] {
-    if c == RAW {
-        return bytes_of(slots, s);
+    if c == BUNDLE {
+        return item_of(slots, s);
     }
-    item_of(slots, s)
+    bytes_of(slots, s)
 }
 
-// Lays out what each slot that a line names adds to a bundle, and gives how many bytes that is.
-fn lay_out(bundle: &mut [u8], slots: &[u8], c: usize, line: &[u8]) -> usize {
+// Lays out what each slot that a line names adds, and gives how many bytes that is.
+pub fn lay_out(bundle: &mut [u8], slots: &[u8], c: usize, line: &[u8]) -> usize {
     let mut end: usize = 0;
     let mut k: usize = 1;
     while k < line.len() && 0 < word(line, k).len() {

@@ -44,12 +44,18 @@ pub const BUNDLE: usize = 19;
 
 pub const RAW: usize = 20;
 
+pub const LOOKUP: usize = 21;
+
+pub const SPREAD: usize = 22;
+
+pub const ASKS: usize = 23;
+
 // A line without words, or that is a comment; a heading; a line that is none of these.
-pub const NOTHING: usize = 21;
+pub const NOTHING: usize = 24;
 
-pub const HEADING: usize = 22;
+pub const HEADING: usize = 25;
 
-pub const UNREAD: usize = 23;
+pub const UNREAD: usize = 26;
 
 // The command of a line.
 pub fn command(line: &[u8]) -> usize {
@@ -58,7 +64,7 @@ pub fn command(line: &[u8]) -> usize {
         b'#' => HEADING,
         _ => {
             let c = test_script::command(
-                b"store:-n buffer:-n other-store:-n other-buffer:-n let:ps fresh:- offer:ss ask:-s write:ps new:ps report:- change:-nnnn view:- compare:-ll read:-s order:-nn full:- short:- rooms:- bundle:s raw:s",
+                b"store:-n buffer:-n other-store:-n other-buffer:-n let:ps fresh:- offer:ss ask:-s write:ps new:ps report:- change:-nnnn view:- compare:-ll read:-s order:-nn full:- short:- rooms:- bundle:s raw:s lookup:s spread:-n asks:-n",
                 line,
             );
             if c <= NOTHING { c } else { UNREAD }

@@ -3,15 +3,18 @@ mod bundles;
 mod calls;
 mod commands;
 mod compare;
+mod lookups;
 mod plain;
 mod show;
 
 use commands::ASK;
+use commands::ASKS;
 use commands::BUFFER;
 use commands::BUNDLE;
 use commands::CHANGE;
 use commands::FRESH;
 use commands::FULL;
+use commands::LOOKUP;
 use commands::NEW;
 use commands::OFFER;
 use commands::ORDER;
@@ -19,6 +22,7 @@ use commands::RAW;
 use commands::REPORT;
 use commands::ROOMS;
 use commands::SHORT;
+use commands::SPREAD;
 use commands::STORE;
 use commands::VIEW;
 use commands::WRITE;
@@ -55,6 +59,9 @@ fn look(l: Ledger, store: &[u8], slots: &mut [u8], out: &mut [u8], c: usize, lin
         FULL => calls::report_as(l, store, Form::Full, out),
         SHORT => calls::report_as(l, store, Form::Short, out),
         ROOMS => calls::rooms(),
+        LOOKUP => lookups::lookup(l, store, slots, out, line),
+        SPREAD => lookups::spread(l, store, out, line),
+        ASKS => lookups::asks(l, store, out, line),
         _ => {}
     }
 }

@@ -1,8 +1,10 @@
 // Answers, as the lines that the command prints for them.
+ghost use Prim.Native.Nat.{_<_, _≤_};
 use ledger::ANSWER_LENGTH;
 use ledger::Answer;
 use ledger::Asked;
 use ledger::Bundled;
+use ledger::LookedUp;
 use ledger::Refusal;
 use ledger::Standing;
 use libc::STDOUT_FILENO;
@@ -131,13 +133,15 @@ pub fn digest(s: &[u8]) {
     hex(&sha256_digest::digest(s));
 }
 
-// The answers to a bundle's items, each on a line.
-fn answers(s: &[u8]) {
-    let mut k: usize = 0;
-    while k < s.len() / ANSWER_LENGTH {
+// Bytes in hexadecimal digits, so many of them a line.
+fn lines(s: &[u8], width: usize)
+    requires { ⌜ (0 < width) × (width ≤ 32) ⌝ }
+{
+    let mut at: usize = 0;
+    while at < s.len() {
         text(b"(");
-        hex(slice_of(s, ANSWER_LENGTH * k, ANSWER_LENGTH));
-        k += 1;
+        hex(slice_of(s, at, width));
+        at += width;
     }
 }
 
@@ -148,9 +152,53 @@ pub fn bundled(b: Bundled, out: &[u8]) {
             text(b"(answered ");
             decimal(n);
             text(b")\n");
-            answers(slice_of(out, 0, n));
+            lines(slice_of(out, 0, n), ANSWER_LENGTH);
         }
         Bundled::Refused(r) => answered(Answer::Refused(r)),
+    }
+}
+
+// How answers to ids are shown: all of them, or their SHA-256.
+pub enum Digits {
+    All,
+    Digest,
+}
+
+// How many answers to ids a line has.
+const LINE: usize = 32;
+
+// The answers to ids.
+fn answers(s: &[u8], digits: Digits) {
+    match digits {
+        Digits::All => lines(s, LINE),
+        Digits::Digest => {
+            text(b"(answers ");
+            digest(s);
+        }
+    }
+}
+
+// What looking ids up answers, and the answers to the ids.
+pub fn looked_up(r: LookedUp, s: &[u8], digits: Digits) {
+    match r {
+        LookedUp::Compared(n) => {
+            text(b"(compared ");
+            decimal(n);
+            text(b")\n");
+            answers(s, digits);
+        }
+        LookedUp::Refused(e) => answered(Answer::Refused(e)),
+    }
+}
+
+// The answers to ids that were asked after one by one, the last of which is given.
+pub fn asked_each(last: Asked, s: &[u8]) {
+    match last {
+        Asked::Refused(r) => answered(Answer::Refused(r)),
+        _ => {
+            text(b"(asked)\n");
+            answers(s, Digits::Digest);
+        }
     }
 }
 

@@ -1,5 +1,5 @@
 -- From bytes to an update: rows 2 to 9 of document 01's table in their order, then the value. Rows 2, 4 and 5 go by the bounds that are chosen.
-use Prim.Native.Nat.{ℕ, zero, suc, _+_, _*_}
+use Prim.Native.Nat.{ℕ, zero, suc, _+_, _*_, _/_, _%_}
 use mathlib.Core.List.{List, [], _∷_}
 use mathlib.Core.Bool.{Bool, cond, not, _&&_, _||_}
 use lib.ListN.{length, getD, take, drop}
@@ -16,6 +16,17 @@ slice b at k = take k (drop at b)
 unfoldable pub idsAt : List ℕ → ℕ → ℕ → List Id
 idsAt b at zero = []
 idsAt b at (suc n) = slice b at idLength ∷ idsAt b (at + idLength) n
+
+-- the bytes are whole ids end to end: "a multiple of 32"
+abbrev pub wholeIds : List ℕ → Bool
+wholeIds b = eqb (length b % idLength) 0
+
+-- how many ids they are, and the ids
+abbrev pub idCount : List ℕ → ℕ
+idCount b = length b / idLength
+
+abbrev pub idsIn : List ℕ → List Id
+idsIn b = idsAt b 0 (idCount b)
 
 -- the fields of a layout, as far as there are bytes (0 stands for a missing one)
 abbrev pub authorOf : List ℕ → ℕ

@@ -10,10 +10,11 @@ use Rattle.update_format.specs.Slices.{ids-length, ids-joined}
 use Rattle.bytes_print.specs.Page.{Prints}
 use Rattle.bytes_print.proofs.Printing.{same-text}
 use Rattle.write_operations.specs.declared.Kind.{Kind}
-use Rattle.write_operations.specs.Operations.{namedIds, operationFor}
+use Rattle.update_format.specs.Decode.{idsIn}
+use Rattle.write_operations.specs.Operations.{operationFor}
 
 pub remove-bytes : (t named : List ℕ) → length named % idLength ≡ 0
-    → (2 ∷ t) ++ ((length named / idLength ∷ []) ++ named) ≡ encodeOperation (Remove t (namedIds named))
+    → (2 ∷ t) ++ ((length named / idLength ∷ []) ++ named) ≡ encodeOperation (Remove t (idsIn named))
 unfolding encodeOperation
 remove-bytes t named h =
     ap₂ (λ (n : ℕ) (b : List ℕ). 2 ∷ (t ++ (n ∷ b)))

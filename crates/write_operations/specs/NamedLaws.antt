@@ -9,7 +9,8 @@ use lib.ListN.{length}
 use Rattle.bytes_order.specs.BoolLaws.{true-false}
 use Rattle.bytes_order.specs.Order.{ascending}
 use Rattle.update_format.specs.Update.{idLength}
-use Rattle.write_operations.specs.Operations.{namedIds, maxNamedLength, badNamed, unorderedNamed}
+use Rattle.update_format.specs.Decode.{idsIn}
+use Rattle.write_operations.specs.Operations.{maxNamedLength, badNamed, unorderedNamed}
 
 -- bytes that row 8 lets through
 pub record WholeIds (named : List ℕ) : Type 0 where
@@ -34,6 +35,6 @@ module _ (named : List ℕ) where
       go true f = record { whole = eqb-true (length named % idLength) 0 f; few = ltb-false maxNamedLength (length named) (bad-by f ∙ g) }
       go false f = absurd (true-false (sym (bad-by f)) g)
 
-  pub unordered-by : {b : Bool} → b ≡ ascending (namedIds named) → not b ≡ unorderedNamed named
+  pub unordered-by : {b : Bool} → b ≡ ascending (idsIn named) → not b ≡ unorderedNamed named
   unfolding unorderedNamed
   unordered-by f = ap not f

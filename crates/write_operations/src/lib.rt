@@ -3,8 +3,9 @@ ghost use mathlib.Core.Path.{_≡_};
 ghost use mathlib.Core.List.{_∷_};
 ghost use Prim.Native.Nat.{_+_, _≤_};
 ghost use Rattle.update_format.specs.Update.{idLength, tagLength, Add, Remove, Insert, Delete, encodeOperation};
+ghost use Rattle.update_format.specs.Decode.{idsIn};
 ghost use Rattle.bytes_print.specs.Page.{Prints};
-ghost use Rattle.write_operations.specs.Operations.{farthestField, operationFor, namedIds, maxOperationLength, badNamed, unorderedNamed, OperationAt};
+ghost use Rattle.write_operations.specs.Operations.{farthestField, operationFor, maxOperationLength, badNamed, unorderedNamed, OperationAt};
 use bytes_print::put;
 use update_format::Id;
 use update_format::Tag;
@@ -66,7 +67,7 @@ fn put_add(tag: Tag, page: &mut [u8], at: usize) -> usize
 // The bytes of a Remove.
 fn put_remove(tag: Tag, named: &[u8], page: &mut [u8], at: usize) -> usize
     requires { ⌜ OperationAt at (now named) ⌝ }
-    ensures prints { λ r. ⌜ Prints (now (page .entry)) at (encodeOperation (Remove tag (namedIds (now (named .entry))))) (now (page .exit)) r ⌝ }
+    ensures prints { λ r. ⌜ Prints (now (page .entry)) at (encodeOperation (Remove tag (idsIn (now (named .entry))))) (now (page .exit)) r ⌝ }
     ensures small { λ r. ⌜ r ≤ at + maxOperationLength ⌝ }
 {
     let tagged = put_part(REMOVE, &tag, page, at);

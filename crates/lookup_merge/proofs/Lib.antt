@@ -1,0 +1,3 @@
+pub mod Walking
+pub mod Filling
+pub mod Finishing

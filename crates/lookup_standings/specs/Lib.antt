@@ -1,0 +1,4 @@
+pub mod Lookup
+pub mod Gathering
+pub mod IdOrderLaws
+pub mod ValueLaws

@@ -1,0 +1,2 @@
+pub mod StandingByte
+pub mod StandingByteLaws
