@@ -7,10 +7,10 @@ use lib.ListN.{length, take, drop, length-drop}
 use lib.Seq.{take-all, take-add}
 use Rattle.ledger_state.specs.declared.Ledger.{Ledger}
 use Rattle.command_answers.specs.Answers.{maxAnswer}
-use Rattle.command_session.specs.declared.Fed.{Fed}
+use Rattle.command_feeding.specs.declared.Fed.{Fed}
 use Rattle.command_syntax.specs.Syntax.{maxLine}
-use Rattle.command_session.specs.Feeding.{Feeds, Feeding}
-use Rattle.command_session.specs.FeedLaws.{feeding-feeds}
+use Rattle.command_feeding.specs.Feeding.{Feeds, Feeding}
+use Rattle.command_feeding.specs.FeedLaws.{feeding-feeds}
 use Rattle.command_session.specs.InPieces.{done}
 use Rattle.command_session.specs.PieceLaws.{pieces-more}
 use Rattle.command_streams.specs.Streams.{passing, Writes}

@@ -11,8 +11,9 @@ use Rattle.ledger_state.specs.State.{documentTerms, storeLength}
 use Rattle.ledger_state.specs.View.{freshLedger}
 use Rattle.command_syntax.specs.Syntax.{maxLine}
 use Rattle.command_answers.specs.Answers.{maxAnswer}
+use Rattle.command_feeding.specs.Feeding.{Feeds}
 use Rattle.command_session.specs.Session.{maxInput}
-use Rattle.command_session.specs.Feeding.{maxEnd, EndValues, putOut, Feeds, FinishRow}
+use Rattle.command_session.specs.Finishing.{maxEnd, EndValues, putOut, FinishRow}
 use Rattle.command_session.specs.InPieces.{Pieces}
 use Rattle.command_streams.specs.declared.Input.{Input}
 use Rattle.command_streams.specs.declared.Moved.{Moved}

@@ -8,7 +8,7 @@ use mathlib.Core.Logic.{_⊎_, inl, inr, ⊎-elim}
 use lib.ListN.{length, take, length-append}
 use lib.Seq.{take-all, length-take-le}
 use Rattle.ledger_state.specs.View.{freshLedger}
-use Rattle.command_session.specs.Feeding.{EndValues, withReport, putOut, FinishRow}
+use Rattle.command_session.specs.Finishing.{EndValues, withReport, putOut, FinishRow}
 use Rattle.command_session.specs.Session.{maxInput, outputOf}
 use Rattle.command_session.specs.InPieces.{Pieces, done, in-pieces, pieces-reported}
 use Rattle.command_session.specs.PieceLaws.{pieces-then}

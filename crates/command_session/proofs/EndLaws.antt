@@ -11,9 +11,10 @@ use Rattle.ledger_state.specs.View.{bookOf}
 use Rattle.command_syntax.specs.Syntax.{maxLine, readLine}
 use Rattle.command_lines.specs.KeepLaws.{keeps-unbegun, keeps-begun}
 use Rattle.command_answers.specs.Answers.{maxAnswer}
-use Rattle.command_session.specs.declared.Fed.{Fed}
-use Rattle.command_session.specs.Answering.{AnswersLines, done, linesOf, lastOf}
-use Rattle.command_session.specs.Feeding.{maxEnd, EndValues, Feeds, ReportsAt, LastLine, FinishRow, ended}
+use Rattle.command_feeding.specs.declared.Fed.{Fed}
+use Rattle.command_feeding.specs.Answering.{AnswersLines, done, linesOf}
+use Rattle.command_feeding.specs.Feeding.{Feeds}
+use Rattle.command_session.specs.Finishing.{maxEnd, EndValues, lastOf, ReportsAt, LastLine, FinishRow, ended}
 
 abbrev newline : List ℕ
 newline = 10 ∷ []

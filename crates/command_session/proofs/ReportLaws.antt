@@ -9,8 +9,8 @@ use Rattle.ledger_state.specs.State.{Book}
 use Rattle.ledger_refusals.specs.Numbers.{Output, putBytes, refusedBy}
 use Rattle.ledger.specs.Report.{ReportRow}
 use Rattle.ledger.specs.BufferLaws.{buffer-length, report-within}
-use Rattle.command_session.specs.Feeding.{withReport, withoutReport, ReportsAt, reported, unreported}
-use Rattle.command_session.proofs.OutLaws.{partFrom, withPart, part-is, part-length, with-is}
+use Rattle.command_feeding.proofs.OutLaws.{partFrom, withPart, part-is, part-length, with-is}
+use Rattle.command_session.specs.Finishing.{withReport, withoutReport, ReportsAt, reported, unreported}
 
 module _ {l : Book} {s : List ℕ} (out : List ℕ) (at : ℕ) (inside : at ≤ length out) {v : Output} {o : List ℕ} (p : ReportRow Full l s (partFrom out at) v o) where
   lent : (x : Output) → v ≡ x → ReportRow Full l s (drop at out) x o

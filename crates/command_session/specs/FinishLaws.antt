@@ -22,10 +22,9 @@ use Rattle.ledger_refusals.specs.Numbers.{Output, putBytes}
 use Rattle.ledger.specs.Report.{ReportRow, unfit, short, written}
 use Rattle.ledger.specs.BufferLaws.{buffer-length, report-within}
 use Rattle.command_session.specs.Session.{Machine, lastLine, finish}
-use Rattle.command_session.specs.AnsweringLaws.{last-answers}
-use Rattle.command_session.specs.Feeding.{maxEnd, EndValues, withReport, putOut, ReportsAt, reported, unreported, LastLine, FinishRow, ended}
-use Rattle.command_session.specs.Feeding as feeding
-use Rattle.command_session.specs.FeedLaws.{Follows}
+use Rattle.command_session.specs.Finishing.{maxEnd, EndValues, withReport, putOut, ReportsAt, reported, unreported, LastLine, FinishRow, ended}
+use Rattle.command_session.specs.Finishing as finishing
+use Rattle.command_session.specs.MachineLaws.{last-answers, Follows}
 
 -- a report of a ledger of document 01's terms that stands has at most 12,000 bytes
 report-few : {l : Book} {s : List ℕ} (us : List Update) → l .terms ≡ documentTerms → Stands l s us → length (reportOf Full rules us) ≤ maxReport
@@ -99,8 +98,8 @@ module _ {l l′ : Ledger} {s s′ buffer : List ℕ} {fill : ℕ} (m : Machine)
 -- with room for the longest end there is a report, and the output is the machine's
 pub finishes-output : {l : Ledger} {s buffer out s′ out′ : List ℕ} {fill : ℕ} {v : EndValues} (m : Machine) → Follows l s buffer fill m → maxEnd ≤ length out
     → FinishRow l s buffer fill out v s′ out′ → EndOutputs m v out′
-finishes-output m f room (feeding.unfit-line n) = absurd (n (f .keeps .sized))
-finishes-output m f room (feeding.short e n) = absurd (omega arith)
+finishes-output m f room (finishing.unfit-line n) = absurd (n (f .keeps .sized))
+finishes-output m f room (finishing.short e n) = absurd (omega arith)
 finishes-output {out = out} m f room (ended v l′ s′ put out′ e h last p) = reports-output m f out put h last p
 
 -- a report that is put out is the machine's, whatever the room
@@ -117,8 +116,8 @@ reports-within {out = out} {at = at} h (reported n o p) = omega (arith, report-w
 reports-within h (unreported e o p) = h
 
 pub finishes-within : {l : Ledger} {s buffer out s′ out′ : List ℕ} {fill : ℕ} {v : EndValues} → FinishRow l s buffer fill out v s′ out′ → putOut v ≤ length out
-finishes-within (feeding.unfit-line n) = omega arith
-finishes-within (feeding.short e n) = omega arith
+finishes-within (finishing.unfit-line n) = omega arith
+finishes-within (finishing.short e n) = omega arith
 finishes-within {out = out} (ended v l′ s′ put out′ e h last p) =
     let long : length (put ++ drop (length put) out) ≡ length out =
     omega (arith, length-append put (drop (length put) out), length-drop (length put) out, last .short) in

@@ -10,10 +10,12 @@ use Rattle.ledger_state.specs.View.{bookOf, freshLedger}
 use Rattle.ledger_state.specs.TakeLaws.{fresh-stands}
 use Rattle.command_syntax.specs.Syntax.{maxLine}
 use Rattle.command_lines.specs.KeepLaws.{keeps-none}
-use Rattle.command_session.specs.declared.Fed.{Fed}
+use Rattle.command_feeding.specs.declared.Fed.{Fed}
+use Rattle.command_feeding.specs.Feeding.{Moves, Feeds}
+use Rattle.command_feeding.specs.FeedLaws.{moves-none, moves-then}
 use Rattle.command_session.specs.Session.{begin, feed, maxInput, outputOf}
-use Rattle.command_session.specs.Feeding.{maxEnd, EndValues, withReport, Moves, Feeds, FinishRow}
-use Rattle.command_session.specs.FeedLaws.{moves-none, moves-then, Follows, moves-follows, moves-out}
+use Rattle.command_session.specs.Finishing.{maxEnd, EndValues, withReport, FinishRow}
+use Rattle.command_session.specs.MachineLaws.{Follows, moves-follows, moves-out}
 use Rattle.command_session.specs.FinishLaws.{finish-output, finishes-output}
 
 -- Pieces fed one after the other, each with what the function `feed` ensures: each call is handed the ledger, store, line buffer and length that the one before

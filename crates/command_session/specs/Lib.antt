@@ -1,8 +1,6 @@
 pub mod Session
-pub mod Answering
-pub mod AnsweringLaws
-pub mod Feeding
-pub mod FeedLaws
+pub mod Finishing
+pub mod MachineLaws
 pub mod FinishLaws
 pub mod InPieces
 pub mod PieceLaws

@@ -3,8 +3,8 @@ use Prim.Native.Nat.{ℕ}
 use mathlib.Core.List.{List, [], _++_, append-assoc, append-nil}
 use lib.ListN.{take}
 use Rattle.ledger_state.specs.declared.Ledger.{Ledger}
-use Rattle.command_session.specs.declared.Fed.{Fed}
-use Rattle.command_session.specs.Feeding.{Feeds}
+use Rattle.command_feeding.specs.declared.Fed.{Fed}
+use Rattle.command_feeding.specs.Feeding.{Feeds}
 use Rattle.command_session.specs.InPieces.{Pieces, done, piece}
 
 pub pieces-then : {l l₁ l′ : Ledger} {s s₁ s′ buffer buffer₁ buffer′ xs xs′ ys ys′ : List ℕ} {fill fill₁ fill′ : ℕ}

@@ -2,7 +2,7 @@
 use mathlib.Core.Path.{sym, _∙_}
 use native.Mathlib.Omega.{arith}
 use lib.Seq.{length-take-le}
-use Rattle.command_session.specs.Feeding.{endValues}
+use Rattle.command_session.specs.Finishing.{endValues}
 use Rattle.command_session.specs.FinishLaws.{finishes-within}
 use Rattle.command_loop.proofs.PassLaws.{writes-all}
 use borrow.Author.Needs.{needs}

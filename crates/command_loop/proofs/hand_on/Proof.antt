@@ -3,7 +3,7 @@ use mathlib.Core.Path.{sym, subst}
 use Prim.Native.Nat.{ℕ, _≤_}
 use native.Mathlib.Nat.{le-refl}
 use lib.Seq.{length-take-le}
-use Rattle.command_session.specs.FeedLaws.{feeding-feeds}
+use Rattle.command_feeding.specs.FeedLaws.{feeding-feeds}
 use Rattle.command_loop.proofs.PassLaws.{feeds-rest, writes-all}
 use Rattle.command_loop.proofs.hand_on.Statement.{statement}
 use Rattle.command_loop.proofs.hand_on.Tie as tie

@@ -4,7 +4,7 @@ use mathlib.Core.Path.{_≡_, refl, sym, subst, _∙_}
 use Prim.Native.Nat.{ℕ, _+_, _≤_}
 use native.Mathlib.Omega.{arith}
 use lib.ListN.{length}
-use Rattle.command_session.specs.Feeding.{maxEnd}
+use Rattle.command_session.specs.Finishing.{maxEnd}
 use Rattle.command_loop.specs.Command.{stopped, ended}
 use Rattle.command_loop.proofs.RunLaws.{Running, above-zero, running-begun, running-within, running-less, running-step}
 use Rattle.command_loop.proofs.run_on.Statement.{statement}

@@ -5,7 +5,7 @@ use denote.Ref.{now}
 use lib.Seq.{length-take-le}
 use borrow.Author.Needs.{needs}
 use Rattle.command_answers.specs.Answers.{maxAnswer}
-use Rattle.command_session.specs.Feeding.{unfit-line, short}
+use Rattle.command_session.specs.Finishing.{unfit-line, short}
 use Rattle.command_session.proofs.EndLaws.{copied, end-unbegun, end-inside, end-line}
 use Rattle.command_session.proofs.finish.Statement.{statement}
 use Rattle.command_session.proofs.finish.Tie as tie

@@ -11,9 +11,9 @@ use Rattle.command_syntax.specs.Line.{lineIn}
 use Rattle.command_lines.specs.declared.Assembled.{Assembled}
 use Rattle.command_lines.specs.Lines.{Keeps, TakesLine, ending}
 use Rattle.command_lines.specs.KeepLaws.{keeps-none, keeps-read}
-use Rattle.command_session.specs.Answering.{AnswersLine, AnswersLines, done, linesOf, lineAfter}
-use Rattle.command_session.specs.AnsweringLaws.{answers-one, lines-text, lines-ended}
-use Rattle.command_session.specs.Feeding.{Moves}
+use Rattle.command_feeding.specs.Answering.{AnswersLine, AnswersLines, done, linesOf, lineAfter}
+use Rattle.command_feeding.specs.AnsweringLaws.{answers-one, lines-text, lines-ended}
+use Rattle.command_feeding.specs.Feeding.{Moves}
 
 module _ {buffer buffer′ input : List ℕ} {fill : ℕ} {a : Assembled} (t : TakesLine buffer fill input a buffer′) where
   taken : (b : Bool) → a .ended ≡ b → take (a .consumed) input ≡ t .text ++ ending b

@@ -22,7 +22,7 @@ use Rattle.command_syntax.specs.declared.Line.the-variants.{Offered as Offers, 
 use Rattle.command_syntax.specs.Line.{lineIn}
 use Rattle.command_answers.specs.declared.Reply.the-variants.{Unread, Offered as Replied}
 use Rattle.command_answers.specs.Answers.{Printable, ReadsOffer}
-use Rattle.command_session.specs.Answering.{AnswersLine, unread, offered, Answers}
+use Rattle.command_feeding.specs.Answering.{AnswersLine, unread, offered, Answers}
 
 -- a count over the places is at most that of the taken ones
 count-few : (p : Standing → Bool) (l : Book) → standingCount p l ≤ l .used

@@ -3,9 +3,9 @@ use mathlib.Core.Path.{sym}
 use denote.Ref.{now}
 use lib.Seq.{length-take-le}
 use borrow.Author.Needs.{needs}
-use Rattle.command_session.proofs.LineLaws.{answer-unread, offer-inside, answer-offered}
-use Rattle.command_session.proofs.answer_line.Statement.{statement}
-use Rattle.command_session.proofs.answer_line.Tie as tie
+use Rattle.command_feeding.proofs.LineLaws.{answer-unread, offer-inside, answer-offered}
+use Rattle.command_feeding.proofs.answer_line.Statement.{statement}
+use Rattle.command_feeding.proofs.answer_line.Tie as tie
 
 -- the places of the entry, of the call of `read_offer`, of a line that offers, and of the call of `offer`
 abbrev at-start : tie.After-read-offer → tie.Start

@@ -12,12 +12,12 @@ use Rattle.command_lines.specs.Lines.{TakesLine}
 use Rattle.bytes_print.specs.Page.{Prints}
 use Rattle.command_syntax.specs.Line.{lineIn}
 use Rattle.command_answers.specs.Answers.{maxAnswer, replyText}
-use Rattle.command_session.specs.declared.Answered.{Answered}
-use Rattle.command_session.specs.Answering.{Answers}
-use Rattle.command_session.specs.Feeding.{Moves, Feeds}
-use Rattle.command_session.specs.FeedLaws.{moves-none, moves-then}
-use Rattle.command_session.proofs.OutLaws.{Extends, extends-none, extends-printed, partFrom, withPart, part-is, part-length}
-use Rattle.command_session.proofs.TurnLaws.{turn-text, turn-line}
+use Rattle.command_feeding.specs.declared.Answered.{Answered}
+use Rattle.command_feeding.specs.Answering.{Answers}
+use Rattle.command_feeding.specs.Feeding.{Moves, Feeds}
+use Rattle.command_feeding.specs.FeedLaws.{moves-none, moves-then}
+use Rattle.command_feeding.proofs.OutLaws.{Extends, extends-none, extends-printed, partFrom, withPart, part-is, part-length}
+use Rattle.command_feeding.proofs.TurnLaws.{turn-text, turn-line}
 
 pub record Running (l : Ledger) (s buffer : List ℕ) (fill : ℕ) (input out : List ℕ) (l′ : Ledger) (s′ buffer′ out′ : List ℕ) (fill′ consumed written : ℕ)
     : Type 0 where

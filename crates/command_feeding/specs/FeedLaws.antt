@@ -1,22 +1,18 @@
--- Where a ledger, its store and a line buffer are where a machine is: what a call, or a row of calls, of `feed` does to them. And for every ledger: the ledger and the
--- store that come back are those of calls of `offer`.
-use mathlib.Core.Path.{_≡_, refl, sym, subst}
+-- What a row of calls of `feed` does, and for every ledger: the ledger and the store that come back are those of calls of `offer`.
+use mathlib.Core.Path.{_≡_, sym, subst}
 use Prim.Native.Nat.{ℕ}
 use mathlib.Core.List.{List, [], _++_}
 use mathlib.Core.Option.{Option}
 use lib.ListN.{length}
 use Rattle.ledger_state.specs.declared.Ledger.{Ledger}
-use Rattle.ledger_state.specs.View.{bookOf}
-use Rattle.ledger_state.specs.Stands.{Stands}
 use Rattle.ledger_offering.specs.Calls.{Offers}
 use Rattle.command_syntax.specs.Syntax.{maxLine}
 use Rattle.command_lines.specs.Lines.{Keeps}
 use Rattle.command_lines.specs.KeepLaws.{keeps-some}
-use Rattle.command_session.specs.declared.Fed.{Fed}
-use Rattle.command_session.specs.Session.{Machine, feed}
-use Rattle.command_session.specs.Answering.{AnswersLines, done, linesOf, lineAfter}
-use Rattle.command_session.specs.AnsweringLaws.{answers-then, answers-calls, lines-append, feed-begins, feed-answers}
-use Rattle.command_session.specs.Feeding.{Moves, Feeds, Feeding, refused, fed}
+use Rattle.command_feeding.specs.declared.Fed.{Fed}
+use Rattle.command_feeding.specs.Answering.{AnswersLines, done, linesOf, lineAfter}
+use Rattle.command_feeding.specs.AnsweringLaws.{answers-then, answers-calls, lines-append}
+use Rattle.command_feeding.specs.Feeding.{Moves, Feeds, Feeding, refused, fed}
 
 -- a line buffer of maxLine bytes is not refused
 pub feeding-feeds : {l : Ledger} {s buffer input out s′ buffer′ out′ : List ℕ} {fill : ℕ} {r : Fed} → Feeding l s buffer fill input out r s′ buffer′ out′
@@ -43,21 +39,3 @@ moves-then {l} {l′ = l′} {s} {s′ = s′} {buffer′ = buffer′} {xs = xs}
 pub moves-calls : {l l′ : Ledger} {s s′ buffer buffer′ xs ys : List ℕ} {fill fill′ : ℕ} → length buffer ≡ maxLine
     → Moves l s buffer fill xs ys l′ s′ buffer′ fill′ → (bs : List (List ℕ)) × Offers l s bs l′ s′
 moves-calls {buffer = buffer} {fill = fill} e m = let k = keeps-some buffer fill e in (_, answers-calls (m .answers (k .0) (k .1)))
-
--- the ledger, its store and the line so far are where the machine is
-pub record Follows (l : Ledger) (s buffer : List ℕ) (fill : ℕ) (m : Machine) : Type 0 where
-  pub stands : Stands (bookOf l) s (m .stored)
-  pub keeps : Keeps buffer fill (m .line)
-
--- they stay where it is, and the machine puts out the same
-module _ {l l′ : Ledger} {s s′ buffer buffer′ xs ys : List ℕ} {fill fill′ : ℕ} (m : Machine) (f : Follows l s buffer fill m)
-    (v : Moves l s buffer fill xs ys l′ s′ buffer′ fill′) where
-  pub moves-follows : Follows l′ s′ buffer′ fill′ (feed m xs)
-  moves-follows =
-      record {
-        stands = feed-answers m xs (f .stands) (v .answers (m .line) (f .keeps)) .0;
-        keeps = subst (Keeps buffer′ fill′) (sym (feed-begins m xs)) (v .keeps (m .line) (f .keeps));
-      }
-
-  pub moves-out : feed m xs .out ≡ m .out ++ ys
-  moves-out = feed-answers m xs (f .stands) (v .answers (m .line) (f .keeps)) .1

@@ -1,8 +1,8 @@
 -- `feed` meets its contract: the line buffer is refused, or the lines are fed.
 use borrow.Author.Needs.{needs}
-use Rattle.command_session.specs.Feeding.{refused, fed}
-use Rattle.command_session.proofs.feed.Statement.{statement}
-use Rattle.command_session.proofs.feed.Tie as tie
+use Rattle.command_feeding.specs.Feeding.{refused, fed}
+use Rattle.command_feeding.proofs.feed.Statement.{statement}
+use Rattle.command_feeding.proofs.feed.Tie as tie
 
 -- the place of the call of `feed_lines`
 abbrev at-lines : tie.After-slice-known6 → tie.After-feed-lines

@@ -6,9 +6,9 @@ use borrow.Author.Needs.{needs}
 use borrow.Author.Tests.{leb-true, leb-false}
 use lib.ListN.{length}
 use Rattle.command_answers.specs.Answers.{maxAnswer}
-use Rattle.command_session.proofs.RunLaws.{Running, run-none, run-less, run-text, run-line, run-ends, run-full}
-use Rattle.command_session.proofs.feed_lines.Statement.{statement}
-use Rattle.command_session.proofs.feed_lines.Tie as tie
+use Rattle.command_feeding.proofs.RunLaws.{Running, run-none, run-less, run-text, run-line, run-ends, run-full}
+use Rattle.command_feeding.proofs.feed_lines.Statement.{statement}
+use Rattle.command_feeding.proofs.feed_lines.Tie as tie
 
 abbrev Inv-loop : tie.InvT-loop
 Inv-loop s₀ b₀ fill input out₀ u₀ a₀ f₀ n₀ w₀ s b out u a f n w = Running (a₀ .ledger) s₀ b₀ fill input out₀ (a .ledger) s b out f n w

@@ -11,7 +11,7 @@ use Rattle.ledger_offering.specs.Offer.{OfferRow}
 use Rattle.ledger_offering.specs.Words.{valuesText}
 use Rattle.command_syntax.specs.Syntax.{readLine}
 use Rattle.command_answers.specs.Answers.{ReplyPrintable, replyText}
-use Rattle.command_session.specs.declared.Answered.{Answered}
+use Rattle.command_feeding.specs.declared.Answered.{Answered}
 
 -- A line that reads so is answered: the ledger and the store after it, and the text of the answer.
 pub data AnswersLine (l : Ledger) (s : List ℕ) : Option (List ℕ) → Ledger → List ℕ → List ℕ → Type 0 where
@@ -38,8 +38,3 @@ linesOf line (b ∷ bs) = cond (eqb b 10) (readLine line ∷ linesOf [] bs) (lin
 unfoldable pub lineAfter : List ℕ → List ℕ → List ℕ
 lineAfter line [] = line
 lineAfter line (b ∷ bs) = cond (eqb b 10) (lineAfter [] bs) (lineAfter (line ++ (b ∷ [])) bs)
-
--- at the end of the input: the line so far, if one is begun ("A last line may lack its newline.")
-unfoldable pub lastOf : List ℕ → List (Option (List ℕ))
-lastOf [] = []
-lastOf (c ∷ cs) = readLine (c ∷ cs) ∷ []

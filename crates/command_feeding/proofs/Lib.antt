@@ -1,0 +1,4 @@
+pub mod OutLaws
+pub mod LineLaws
+pub mod TurnLaws
+pub mod RunLaws

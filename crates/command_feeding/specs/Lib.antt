@@ -1,0 +1,4 @@
+pub mod Answering
+pub mod AnsweringLaws
+pub mod Feeding
+pub mod FeedLaws
