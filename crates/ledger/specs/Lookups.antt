@@ -1,6 +1,6 @@
 -- Demand 2 of the entry `standings` (document 02, E3): for a ledger that stands, each byte is what `standing` answers for its id, and what the rules say of it; and bytes and
 -- comparisons are those of the walk through the ids of the updates stored.
-use mathlib.Core.Path.{_≡_, refl, sym, ap, ap₂, subst, _∙_}
+use mathlib.Core.Path.{_≡_, refl, sym, ap, _∙_}
 use Prim.Native.Nat.{ℕ, zero, suc, _<_}
 use native.Mathlib.Omega.{arith}
 use mathlib.Core.List.{List, [], _∷_, _++_, map, map-id, map-map}
@@ -20,7 +20,7 @@ use Rattle.rules.specs.declared.Standing.the-variants.{Held as IsHeld, Waiting 
 use Rattle.rules.specs.Standing.{Held, Void, Waiting}
 use Rattle.rules.specs.Settle.{settledTable}
 use Rattle.standing_bytes.specs.StandingByte.{standingByte, unknownByte}
-use Rattle.lookup_merge.specs.Merge.{Stored, Merged, idOf, merge}
+use Rattle.lookup_merge.specs.Merge.{Stored, idOf, merge}
 use Rattle.lookup_merge.specs.ClosedForm.{closedForm, comparisons-closed}
 use Rattle.lookup_merge.specs.LookupLaws.{byteFor, byteFor-∈, byteFor-none, answers-length, merge-finds}
 use Rattle.ledger_state.specs.State.{Book, placeAt, findIn}

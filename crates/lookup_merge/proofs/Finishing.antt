@@ -1,5 +1,5 @@
 -- The walk, and the asked ids that are left filled in: what the merge yields.
-use Prim.Native.Nat.{ℕ, suc, _+_, _-_, _≤_}
+use Prim.Native.Nat.{ℕ, _+_, _-_}
 use mathlib.Core.Path.{_≡_, refl, sym, ap, ap₂, _∙_}
 use mathlib.Core.List.{List, [], _∷_, _++_, map, append-assoc}
 use native.Mathlib.Omega.{arith}
@@ -11,7 +11,7 @@ use Rattle.update_format.specs.Decode.{idCount, idsIn}
 use Rattle.update_format.specs.Slices.{ids-length}
 use Rattle.standing_bytes.specs.StandingByte.{unknownByte}
 use Rattle.lookup_merge.specs.Merge.{Stored, Merged, merge}
-use Rattle.lookup_merge.specs.Merging.{Walks, Fillable, Merges}
+use Rattle.lookup_merge.specs.Merging.{Walks, Merges}
 use Rattle.lookup_merge.specs.LookupLaws.{answers-length}
 
 map-constant : (b : ℕ) (is : List Id) → map (λ (i : Id). b) is ≡ replicate (length is) b
@@ -19,9 +19,6 @@ map-constant b [] = refl
 map-constant b (i ∷ is) = ap (λ (bs : List ℕ). b ∷ bs) (map-constant b is)
 
 module _ (xs : List Stored) (a o : List ℕ) {j n : ℕ} {o′ : List ℕ} (w : Walks xs a o j n o′) where
-  pub fillable : idCount a ≤ length o → Fillable j (idCount a) o′
-  fillable h = record { ordered = w .passed-within; within = omega (arith, w .size-kept) }
-
   -- how many are left
   rest-count : length (drop j (idsIn a)) ≡ idCount a - j
   rest-count = length-drop j (idsIn a) ∙ ap (λ (m : ℕ). m - j) (ids-length a 0 (idCount a))

@@ -8,7 +8,6 @@ use lib.ListN.{length, getD, take, drop, set, length-set}
 use lib.Seq.{take-suc-set, drop-set-lt, drop-drop}
 use Rattle.bytes_order.specs.Compare.{orderOf}
 use Rattle.bytes_order.specs.declared.Order.the-variants.{Less, Equal, Greater}
-use Rattle.update_format.specs.Update.{idLength}
 use Rattle.update_format.specs.Decode.{idCount, idsIn}
 use Rattle.standing_bytes.specs.StandingByte.{unknownByte}
 use Rattle.lookup_merge.specs.Merge.{Merged, merge}

@@ -1,13 +1,13 @@
 -- Worked examples, by hand from the request's sentence. Ids are of one byte here.
 use mathlib.Core.Path.{_≡_, refl}
-use mathlib.Core.List.{List, [], _∷_}
+use mathlib.Core.List.{[], _∷_}
 use Prim.Native.Nat.{ℕ}
 use Rattle.bytes_order.specs.Order.{before, same}
 use Rattle.bytes_order.specs.Member.{keep}
 use Rattle.bytes_order.specs.Sort.{insert, sort}
 use Rattle.bytes_order.specs.Compare.{orderOf}
 use Rattle.update_format.specs.Update.{Id}
-use Rattle.lookup_merge.specs.Merge.{Stored, Merged, mergeFrom, merge}
+use Rattle.lookup_merge.specs.Merge.{Stored, mergeFrom, merge}
 use Rattle.lookup_merge.specs.ClosedForm.{lastOf, closedForm}
 
 -- an id, and a stored one with its byte

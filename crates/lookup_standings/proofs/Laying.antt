@@ -1,10 +1,10 @@
 -- What holds at each turn of the gathering loop, and what each turn keeps.
-use Prim.Native.Nat.{ℕ, suc, _+_, _*_, _≤_, _<_}
+use Prim.Native.Nat.{ℕ, _+_, _*_, _≤_, _<_}
 use mathlib.Core.Path.{_≡_, refl, sym, ap, ap₂, subst, _∙_}
 use mathlib.Core.List.{List, [], _∷_, _++_, map, map-append}
 use native.Mathlib.Omega.{arith}
 use native.Mathlib.Numerals.{add-one}
-use lib.ListN.{length, getD, take, drop, set, length-set}
+use lib.ListN.{length, getD, take, length-set}
 use lib.Seq.{take-suc, take-suc-set, length-take-le}
 use Rattle.bytes_copy.specs.Overwritten.{overwritten}
 use Rattle.bytes_copy.specs.OverwrittenLaws.{overwritten-length, overwritten-back, overwritten-before}
@@ -15,7 +15,7 @@ use Rattle.lookup_merge.specs.Merge.{Stored, merge}
 use Rattle.lookup_merge.specs.Merging.{Merges}
 use Rattle.lookup_merge.specs.Layout.{storedIn}
 use Rattle.lookup_merge.specs.LayoutLaws.{stored-take, stored-then}
-use Rattle.ledger_state.specs.State.{places, Place, Book, placeAt}
+use Rattle.ledger_state.specs.State.{places, Book, placeAt}
 use Rattle.lookup_standings.specs.Lookup.{storedId, lookUp}
 use Rattle.lookup_standings.specs.Gathering.{PutAt}
 

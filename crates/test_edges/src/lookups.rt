@@ -6,7 +6,8 @@ use crate::show;
 use crate::show::Digits;
 use ledger::Asked;
 use ledger::Ledger;
-use ledger::Standing;
+use standing_bytes::UNKNOWN;
+use standing_bytes::standing_byte;
 use test_script::number;
 use test_script::put;
 use test_script::word;
@@ -73,18 +74,6 @@ pub fn spread(l: Ledger, store: &[u8], out: &mut [u8], line: &[u8]) {
     let mut ids = [0u8; SPREAD_ROOM];
     let end = lay_out_spread(&mut ids, count(line));
     look_up(l, store, slice_of(&ids, 0, end), out, Digits::Digest);
-}
-
-// The byte of an id that is not stored.
-const UNKNOWN: u8 = 3;
-
-// The byte of a standing.
-fn standing_byte(s: Standing) -> u8 {
-    match s {
-        Standing::Held => 0,
-        Standing::Waiting => 1,
-        Standing::Void => 2,
-    }
 }
 
 // Puts the byte of an answer that is no refusal at index k, and gives the index past it.

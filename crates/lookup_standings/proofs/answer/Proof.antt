@@ -1,5 +1,5 @@
 -- `answer` meets its contract: the places in order of id, their ids laid out, and the merge.
-use mathlib.Core.Path.{_≡_, sym, subst, _∙_}
+use mathlib.Core.Path.{sym, subst, _∙_}
 use native.Mathlib.Omega.{arith}
 use borrow.Author.Needs.{needs}
 use denote.Ref.{now}
