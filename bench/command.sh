@@ -12,11 +12,11 @@ turns=5
 mkdir -p target
 folder=$(mktemp -d target/bench.XXXXXX)
 trap 'rm -rf "$folder"' EXIT
-proved=target/bin/silkcliff
+proved=crates/silkcliff/out/silkcliff
 rust=$folder/rust/release/oracle
 flood=$folder/rust/release/flood
 
-rt check silkcliff >"$folder/check.log" 2>&1 || { cat "$folder/check.log"; exit 1; }
+(cd crates/silkcliff && rt run) >"$folder/check.log" 2>&1 </dev/null || { cat "$folder/check.log"; exit 1; }
 cargo build --release --offline --quiet --manifest-path oracle/Cargo.toml --target-dir "$folder/rust"
 
 "$flood" ordered 0 >"$folder/ordered"

@@ -6,13 +6,13 @@ command -v valgrind >/dev/null || { echo "valgrind is missing here"; exit 1; }
 mkdir -p target
 folder=$(mktemp -d target/bench.XXXXXX)
 trap 'rm -rf "$folder"' EXIT
-program=target/bin/test_edges
+program=crates/test_edges/out/test_edges
 rust=$folder/rust/release
 
 # prepare FUNCTION..: builds the edges program and the second program. What the functions, none of which calls another, take is left out of the counts.
 prepare() {
     printing=("$@")
-    rt check test_edges >"$folder/check.log" 2>&1 || { cat "$folder/check.log"; exit 1; }
+    (cd crates/test_edges && rt run) >"$folder/check.log" 2>&1 </dev/null || { cat "$folder/check.log"; exit 1; }
     cargo build --release --offline --quiet --manifest-path oracle/Cargo.toml --target-dir "$folder/rust"
     local function
     for function in "${printing[@]}"; do

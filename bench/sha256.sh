@@ -7,7 +7,9 @@ cd "$(dirname "${BASH_SOURCE[0]}")/.."
 mkdir -p target
 folder=$(mktemp -d target/bench.XXXXXX)
 trap 'rm -rf "$folder"' EXIT
-rt staticlib sha256_digest >"$folder/staticlib.log" 2>&1 || { cat "$folder/staticlib.log"; exit 1; }
+(cd crates/sha256_digest_c && rt lib) >"$folder/staticlib.log" 2>&1 || { cat "$folder/staticlib.log"; exit 1; }
+mkdir -p target/staticlib
+cp crates/sha256_digest_c/out/libsha256_digest_c.a target/staticlib/libsha256_digest.a
 for file in plain unrolled; do
     gcc -O3 -Wall -Wextra -Werror -c -o "$folder/$file.o" "bench/$file.c"
 done

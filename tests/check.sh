@@ -22,7 +22,7 @@ cargo_oracle() { cargo "$1" --release --offline --quiet --manifest-path ../../or
 
 # compare_edges NAME: the whole output of the edges program on the random scripts of the second program's NAME, against what the rules give.
 compare_edges() {
-    local edges=../../target/bin/test_edges
-    [ -x "$edges" ] || { echo "there is no target/bin/test_edges: run rt check test_edges first"; return 1; }
+    local edges=../../crates/test_edges/out/test_edges
+    [ -x "$edges" ] || { echo "there is no crates/test_edges/out/test_edges: run rt run in crates/test_edges first"; return 1; }
     "../../oracle/target/release/$1" "$edges"
 }

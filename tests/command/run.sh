@@ -1,13 +1,13 @@
 #!/usr/bin/env bash
 # The command against the second program, and that against the stored sessions, whose outputs were worked out by hand; the command where calls of the system fail
 # (faults.sh); the script ./silkcliff (script.sh). The last line is 'N passed, M failed'.
-# The command must have been built: rt check silkcliff.
+# The command must have been built: .ci/run builds it, or rt run in crates/silkcliff.
 set -euo pipefail
 cd "$(dirname "${BASH_SOURCE[0]}")"
 source ../check.sh
 
 oracle=../../oracle/target/release/oracle
-command=../../target/bin/silkcliff
+command=../../crates/silkcliff/out/silkcliff
 crate=../../crates/silkcliff
 
 # What crates/silkcliff has in its files stdin and stdout is the long session and the second program's output.
@@ -15,7 +15,7 @@ long_session() { ./long.sh | cmp - "$crate/stdin" && "$oracle" <"$crate/stdin" |
 
 # compare_command: the whole output of the command against the second program's.
 compare_command() {
-    [ -x "$command" ] || { echo "there is no target/bin/silkcliff: run rt check silkcliff first"; return 1; }
+    [ -x "$command" ] || { echo "there is no crates/silkcliff/out/silkcliff: run rt run in crates/silkcliff first"; return 1; }
     ./compare.sh "$command" limit
 }
 

@@ -1,11 +1,12 @@
-# Sourced by run.sh: the script ./silkcliff, with its help, its files and what it says where it builds. It stands in a tree of its own, whose `rt` only copies the command.
+# Sourced by run.sh: the script ./silkcliff, with its help, its files and what it says where it builds. It stands in a tree of its own, whose `rt`, called in the
+# command's folder, only copies the command.
 
 tree=$(mktemp -d)
 trap 'rm -rf "$faults" "$tree"' EXIT
 
 build_tree() {
     mkdir -p "$tree/crates/silkcliff" "$tree/kit" && cp ../../silkcliff "$tree/" && echo 'silkcliff:' >"$tree/crates.txt" &&
-        printf '#!/bin/sh\nmkdir -p target/bin && cp "%s" target/bin/silkcliff && echo "rt: silkcliff proved (0 s)"\n' "$(readlink -f "$command")" >"$tree/kit/rt" && chmod +x "$tree/kit/rt"
+        printf '#!/bin/sh\nmkdir -p out && cp "%s" out/silkcliff && echo "logic=proved functions=1"\n' "$(readlink -f "$command")" >"$tree/kit/rt" && chmod +x "$tree/kit/rt"
 }
 
 # script STATUS [FILE..]: runs the script, from standard input, and whether its status is STATUS. What it wrote is in out, what it said in said.
@@ -25,7 +26,7 @@ help_and_building() {
     script 0 <../sessions/example.in && cmp ../sessions/example.out "$tree/out" && silent || return 1
     touch -t 209901010000 "$tree/crates.txt"
     script 0 <../sessions/example.in && cmp ../sessions/example.out "$tree/out" && grep -q rebuilding "$tree/said" && ! grep -q 'the first time' "$tree/said" || return 1
-    rm "$tree/target/bin/silkcliff"
+    rm "$tree/crates/silkcliff/out/silkcliff"
     script 0 <../sessions/example.in && grep -q rebuilding "$tree/said" && touch -t 200001010000 "$tree/crates.txt"
 }
 

@@ -1,6 +1,6 @@
 #!/usr/bin/env bash
 # Runs the commands of README.md's blocks marked `sh`, in order and in one POSIX shell, in a folder of their own, and compares what each writes with the block marked `text` after it. The block that
-# begins with `# update.sh:` is put into that file. The block marked `rust` must be the main function of crates/example_board, which is proved. The last line is 'N passed, M failed'. The command must have been built: rt check silkcliff.
+# begins with `# update.sh:` is put into that file. The block marked `rust` must be the main function of crates/example_board, which is proved. The last line is 'N passed, M failed'. The command must have been built: .ci/run builds it, or rt run in crates/silkcliff.
 set -euo pipefail
 cd "$(dirname "${BASH_SOURCE[0]}")/../.."
 root=$PWD

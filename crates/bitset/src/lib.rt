@@ -1,4 +1,6 @@
 // A set of places as one 64-bit word, bit k for place k.
+#![tactic(auto)]
+
 ghost use Rattle.std.specs.Prelude.{◌≡◌};
 ghost use Rattle.bitset.specs.Bits.{word_bits, has, including_below, join, within, count};
 

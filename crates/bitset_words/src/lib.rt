@@ -1,4 +1,6 @@
 // A set of places as a run of 64-bit words, the lowest places first: place k is bit k % 64 of word k / 64.
+#![tactic(auto)]
+
 ghost use Rattle.std.specs.Prelude.{◌≡◌, ◌-◌, ◌≤◌, length};
 ghost use Rattle.bitset.specs.Bits.{word_bits, has, including_below, join, within, count};
 ghost use Rattle.bitset_words.specs.Run.{number, room, max_words, Rows, JoinsRows};

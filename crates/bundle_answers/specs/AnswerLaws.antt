@@ -82,7 +82,7 @@ count_fits p l s h =
     let a = sound→ l s h in
     omega (arith, count_below-le l.used (λ (k : ℕ). p (place_at l k).standing), a.few, places-most (allowed→ l.terms a.terms_allowed))
 
-pub offer-counts : {l r : Ledger} {s s' b : List ℕ} {v : OfferValues} → OfferRow l s b v r s' → CountsFit v
+pub offer-counts : {l r : Ledger} {s b s' : List ℕ} {v : OfferValues} → OfferRow l s b v r s' → CountsFit v
 offer-counts (unfit e) x h w q = let z : ◌≡◌ {A = ℕ} 0 1 = cc in absurd (omega arith)
 offer-counts (malformed n e d) x h w q = let z : ◌≡◌ {A = ℕ} 0 1 = cc in absurd (omega arith)
 offer-counts (known u k e d f) x h w q = let z : ◌≡◌ {A = ℕ} 0 1 = cc in absurd (omega arith)

@@ -1,4 +1,6 @@
 // The answers to a bundle's items, in the bytes of a lent buffer.
+#![tactic(auto)]
+
 ghost use Rattle.std.specs.Prelude.{◌≡◌, ◌+◌, ◌/◌, ◌%◌, ◌≤◌, length};
 ghost use Rattle.bytes_copy.specs.Overwritten.{overwritten};
 ghost use Rattle.ledger_offering.specs.Values.{offer_values};

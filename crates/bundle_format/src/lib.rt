@@ -1,4 +1,6 @@
 // The bytes of a bundle: items one after the other, each a two-byte big-endian length, then its bytes; at most 64.
+#![tactic(auto)]
+
 ghost use Rattle.std.specs.Prelude.{◌≡◌, ◌+◌, ◌≤◌, length, drop};
 ghost use Rattle.bundle_format.specs.Bundle.{length_bytes, first_length, first_item, first_whole, items_of};
 ghost use Rattle.bundle_format.specs.Counted.{count_of, length_of};
@@ -12,7 +14,7 @@ pub const MOST_ITEMS: usize = 64;
 pub const LENGTH_BYTES: usize = 2;
 
 // What bytes are as a bundle: how many items it has.
-#[derive(Drop)]
+#[derive(Clone, Copy)]
 pub enum Counted {
     Items(usize),
     NoBundle,

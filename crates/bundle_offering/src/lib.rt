@@ -1,4 +1,6 @@
 // Offering a bundle of updates to a ledger to which row 1 does not apply.
+#![tactic(auto)]
+
 ghost use Rattle.std.specs.Prelude.{◌≡◌, true};
 ghost use Rattle.ledger_state.specs.Row1.{sound};
 ghost use Rattle.ledger_state.specs.View.{book_of};
@@ -11,14 +13,14 @@ use ledger_refusals::Refusal;
 use ledger_state::Ledger;
 
 // What a bundle answers: how many bytes of the answer buffer were written.
-#[derive(Drop)]
+#[derive(Clone, Copy)]
 pub enum Bundled {
     Answered(usize),
     Refused(Refusal),
 }
 
 // An answer beside the ledger that the next call is handed.
-#[derive(Drop)]
+#[derive(Clone, Copy)]
 pub struct BundleOffered {
     pub answer: Bundled,
     pub ledger: Ledger,

@@ -1,6 +1,6 @@
 -- Digits as text: no digit is a separator, hexadecimal digits give back their bytes and decimal ones their number, how long the digits are, and the digits one
 -- after another.
-use Rattle.std.specs.Prelude.{ℕ, zero, suc, ◌+◌, ◌*◌, ◌/◌, ◌%◌, ◌-◌, ◌^◌, ◌≤◌, ◌<◌, ◌≡◌, refl, ◌⊎◌, Bool, true, false, cond, length, get_or, drop, ltb}
+use Rattle.std.specs.Prelude.{ℕ, zero, suc, ◌+◌, ◌*◌, ◌/◌, ◌%◌, ◌-◌, ◌^◌, ◌≤◌, ◌<◌, ◌≡◌, refl, Bool, true, false, cond, length, get_or, drop, ltb}
 use Rattle.std.proofs.Common.{add-one, arith, sym, ◌∙◌, ap, subst, ⊎_elim, length-append, drop_of_length-le, drop-cons, ltb-true, ltb-false, lt-ltb, le-ltb}
 use mathlib.Core.List.Memᴰ
 use mathlib.Core.List.{List, [], ◌∷◌, ◌++◌, nil≢cons, cons≢nil, head-eq_of_cons-eq, tail-eq_of_cons-eq}

@@ -1,4 +1,6 @@
 // Copying bytes.
+#![tactic(auto)]
+
 ghost use Rattle.std.specs.Prelude.{◌≡◌, ◌++◌, ◌≤◌, length, drop};
 
 // Copies s to the front of d; the bytes after it keep their values.

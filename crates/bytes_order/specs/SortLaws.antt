@@ -114,7 +114,7 @@ module _ {A : Type 0} (key : A → List ℕ) where
       step false true m below = inr m
       step false false m below = ⊎_elim (λ (q : z ≡ y). inr (Memᴰ.head q)) (λ (k : z ∈ insert key x ys). ⊎_elim (λ (q : z ≡ x). inl q) (λ (l : z ∈ ys). inr (Memᴰ.tail l)) (below k)) (∈-cases m)
 
-  pub ∈-insert : (x : A) {ys : List A} {z : A} → z ∈ ys → z ∈ insert key x ys
+  pub ∈-insert : (x : A) {z : A} {ys : List A} → z ∈ ys → z ∈ insert key x ys
   unfolding insert
   ∈-insert x {z = z} (Memᴰ.head {x = y} {xs = ys} e) = step (before (key x) (key y)) (same (key x) (key y))
     where

@@ -1,9 +1,11 @@
 // The order of byte strings: compared as unsigned bytes from the first.
+#![tactic(auto)]
+
 ghost use Rattle.std.specs.Prelude.{◌≡◌};
 ghost use Rattle.bytes_order.specs.Compare.{order_of};
 ghost use Rattle.bytes_order.specs.Order.{same};
 
-#[derive(Drop)]
+#[derive(Clone, Copy)]
 pub enum Order {
     Less,
     Equal,

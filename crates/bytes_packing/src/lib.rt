@@ -1,4 +1,6 @@
 // Bytes put together into 64-bit words, big-endian: the first byte is the highest. An id, of 32 bytes, is four words.
+#![tactic(auto)]
+
 ghost use Rattle.std.specs.Prelude.{◌≡◌, ◌+◌, ◌≤◌, length};
 ghost use Rattle.bytes_words.specs.Words.{word_from, Packed};
 

@@ -1,4 +1,6 @@
 // Numbers of two bytes, the higher first (big-endian).
+#![tactic(auto)]
+
 ghost use Rattle.std.specs.Prelude.{◌≡◌, ◌+◌, ◌≤◌, length};
 ghost use Rattle.bytes_pairs.specs.Pairs.{pair_at};
 

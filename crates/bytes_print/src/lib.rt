@@ -1,4 +1,6 @@
 // Printing on a page that the caller lends.
+#![tactic(auto)]
+
 ghost use Rattle.std.specs.Prelude.{◌≤◌};
 ghost use Rattle.bytes_print.specs.Page.{Prints, farthest};
 

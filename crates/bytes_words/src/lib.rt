@@ -1,5 +1,7 @@
 // Bytes as 64-bit words, big-endian: the first byte is the highest. So words compare as their bytes do, eight bytes at a time. An id, of 32
 // bytes, is four words.
+#![tactic(auto)]
+
 ghost use Rattle.std.specs.Prelude.{◌≡◌, ◌*◌, ◌<◌, length, get_or};
 ghost use Rattle.bytes_order.specs.Order.{same};
 ghost use Rattle.bytes_order.specs.Compare.{order_of};

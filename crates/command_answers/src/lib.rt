@@ -1,4 +1,6 @@
 // Answers: what is printed for a line.
+#![tactic(auto)]
+
 ghost use Rattle.std.specs.Prelude.{◌+◌, ◌≤◌};
 ghost use Rattle.bytes_print.specs.Page.{Prints};
 ghost use Rattle.ledger_offering.specs.Values.{offer_values};
@@ -14,7 +16,7 @@ use ledger_refusals::Refusal;
 use ledger_state::Standing;
 
 // What a line is answered: that it is not read, or what its offer is answered.
-#[derive(Drop)]
+#[derive(Clone, Copy)]
 pub enum Reply {
     Unread,
     Offered(Answer),

@@ -1,4 +1,6 @@
 // The command's work on a piece of the input: its bytes to lines, and lines to answers. A piece may have any length.
+#![tactic(auto)]
+
 ghost use Rattle.command_syntax.specs.Line.{line_in};
 ghost use Rattle.command_feeding.specs.Answering.{Answers};
 ghost use Rattle.command_feeding.specs.Feeding.{Feeds, Feeding};
@@ -13,7 +15,7 @@ pub const MAX_ANSWER: usize = 22;
 
 // What a piece of input comes to: the ledger; how long the line so far is, as `command_lines::take_line` counts; how many bytes of the piece were consumed; how many bytes of
 // output were put at the start of the output buffer; and whether the line buffer was refused.
-#[derive(Drop)]
+#[derive(Clone, Copy)]
 pub struct Fed {
     pub ledger: Ledger,
     pub fill: usize,
@@ -23,7 +25,7 @@ pub struct Fed {
 }
 
 // A ledger, and what the line that led to it was answered.
-#[derive(Drop)]
+#[derive(Clone, Copy)]
 struct Answered {
     ledger: Ledger,
     reply: Reply,

@@ -1,4 +1,6 @@
 // Input lines, assembled in a lent buffer from pieces of the input.
+#![tactic(auto)]
+
 ghost use Rattle.std.specs.Prelude.{◌≡◌, false, ◌≤◌, length, take};
 ghost use Rattle.command_lines.specs.Lines.{broken, FirstNewline, BlocksFrom, Appends, TakesLine};
 
@@ -13,7 +15,7 @@ const LARGE_BLOCK: usize = 64;
 const SMALL_BLOCK: usize = 8;
 
 // What a piece adds to the line so far: the length so far, how many bytes of the piece were consumed, and whether the line has ended.
-#[derive(Drop)]
+#[derive(Clone, Copy)]
 pub struct Assembled {
     pub fill: usize,
     pub consumed: usize,

@@ -1,5 +1,7 @@
 // The command's loop: reads, feeds what was read, and writes what that puts out. The work on the bytes is `command_session`, the calls are `command_streams`. What is
 // made of the answers of these is `next_state` and `ended_by`, which make no call.
+#![tactic(auto)]
+
 ghost use Rattle.std.specs.Prelude.{◌≡◌};
 ghost use Rattle.command_session.specs.Session.{max_input};
 ghost use Rattle.command_loop.specs.Command.{next_state, ended_by, AtPiece, HandsOn, Room, Passes, BeginsRun, StepReady, Steps, Ends, Lent, Runs, Commands};
@@ -14,7 +16,7 @@ use ledger_state::STORE_LENGTH;
 const CHUNK: usize = 65536;
 
 // What a piece of a chunk comes to: what `feed` gives; how many bytes of the output `write` took; and the number of the error of a write that failed, 0 where none did.
-#[derive(Drop)]
+#[derive(Clone, Copy)]
 struct Handed {
     fed: Fed,
     taken: usize,
@@ -22,7 +24,7 @@ struct Handed {
 }
 
 // What a chunk of the input comes to: the ledger, the length of the line so far, and the error of a write as above.
-#[derive(Drop)]
+#[derive(Clone, Copy)]
 struct Passed {
     ledger: Ledger,
     fill: usize,
@@ -31,7 +33,7 @@ struct Passed {
 
 // What the command's loop carries: the ledger; the length of the line so far; how many bytes of the chunk were read last, none at the end of the input; what is left of
 // the limit; and the numbers of the errors of a read and of a write, 0 where there was none.
-#[derive(Drop)]
+#[derive(Clone, Copy)]
 struct State {
     ledger: Ledger,
     fill: usize,
@@ -42,7 +44,7 @@ struct State {
 }
 
 // What the command came to: how many bytes of the end of the output `write` took; what is left of the limit; and the two errors.
-#[derive(Drop)]
+#[derive(Clone, Copy)]
 pub struct Ended {
     pub taken: usize,
     pub left: usize,

@@ -1,4 +1,6 @@
 // The command's work on slices: the input in pieces of any length, which `command_feeding` answers, and the report at the end.
+#![tactic(auto)]
+
 ghost use Rattle.std.specs.Prelude.{◌≡◌, ◌≤◌, length};
 ghost use Rattle.ledger_state.specs.View.{book_of};
 ghost use Rattle.command_session.specs.Finishing.{end_values, put_out, ReportsAt, Finishes};
@@ -13,7 +15,7 @@ use ledger::{Form, Ledger, MAX_REPORT, Refusal, Reported};
 pub const MAX_END: usize = MAX_ANSWER + MAX_REPORT;
 
 // What the end of the input comes to.
-#[derive(Drop)]
+#[derive(Clone, Copy)]
 pub enum Finished {
     // So many bytes of output: the answer to the last line, if one was begun, and the report.
     Written(usize),

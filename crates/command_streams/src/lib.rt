@@ -1,5 +1,7 @@
 // Standard input and output by the C library's calls. A call that was interrupted, or that would block, is made again. No contract can say which bytes a call of C
 // reads or writes, nor that it is made: these say what is made of its answer. Each function that makes a call hands the answer to one that makes none.
+#![tactic(auto)]
+
 ghost use Rattle.std.specs.Prelude.{◌≡◌, ◌+◌, ◌^◌, ◌≤◌, ◌<◌, length};
 ghost use Rattle.command_streams.specs.Streams.{passing, error_of, came_to, took_some, lasting, taken_from, taken_after, MovesAtMost, TakesSome, ReadsAgain, WritesAgain, Reads, Writes};
 
@@ -7,7 +9,7 @@ use libc::types::timespec;
 use libc::{EAGAIN, EINTR, EIO, STDERR_FILENO, STDIN_FILENO, STDOUT_FILENO};
 
 // What a call came to: how many bytes, and the number of its error, 0 where there was none.
-#[derive(Drop)]
+#[derive(Clone, Copy)]
 pub struct Moved {
     pub count: usize,
     pub error: u64,
@@ -15,7 +17,7 @@ pub struct Moved {
 
 // What reading came to: how many bytes are at the start of the buffer, none at the end of the input or of the limit; what is left of the limit; and the number of the
 // error, 0 where there was none.
-#[derive(Drop)]
+#[derive(Clone, Copy)]
 pub struct Input {
     pub got: usize,
     pub left: usize,

@@ -1,4 +1,6 @@
 // Lines read as offers.
+#![tactic(auto)]
+
 ghost use Rattle.std.specs.Prelude.{◌≡◌, ◌*◌, ◌≤◌, max, length, take, drop, ltb};
 ghost use Rattle.std.proofs.Math.Option.{some};
 ghost use Rattle.bytes_order.specs.Member.{all};
@@ -12,7 +14,7 @@ pub const MAX_LINE: usize = 2000;
 pub const MAX_OFFERED: usize = 996;
 
 // How a line reads: as an offer of so many bytes; or not so.
-#[derive(Drop)]
+#[derive(Clone, Copy)]
 pub enum Line {
     Offered(usize),
     Unread,

@@ -1,4 +1,6 @@
 // A board to copy: it books hours in a fresh ledger, and writes the short report to standard output.
+#![tactic(auto)]
+
 use ledger::{Refusal, Reported};
 use ledger_state::STORE_LENGTH;
 use libc::STDOUT_FILENO;

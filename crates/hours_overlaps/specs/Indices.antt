@@ -45,7 +45,7 @@ reading_in ws i = cond (eqb (get_or ws (width * i + 4) 0) 0) Plain (Hours (limit
 
 -- hours have a longest run of a minute or more
 unfoldable pub Kept : Reading → Type 0
-Kept Plain = ⊤
+Kept Plain = Unit {0}
 Kept (Hours h) = 1 ≤ h.longest
 
 -- there is room for a reading at index i

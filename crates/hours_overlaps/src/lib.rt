@@ -1,4 +1,6 @@
 // Whether hours overlap others on their pond: the byte of each entry, with no ledger. What tags are read as lies in a run of numbers, five for each entry.
+#![tactic(auto)]
+
 ghost use Rattle.std.specs.Prelude.{◌≡◌, ◌+◌, ◌*◌, ◌≤◌, length};
 ghost use Rattle.hours_tags.specs.declared.Reading.TheVariants.{Hours};
 ghost use Rattle.hours_runs.specs.Runs.{surely, may};

@@ -1,4 +1,6 @@
 // Which runs within limits overlap, by comparisons of the limits.
+#![tactic(auto)]
+
 ghost use Rattle.std.specs.Prelude.{◌≡◌, ◌+◌};
 ghost use Rattle.hours_runs.specs.Runs.{surely, may};
 

@@ -1,4 +1,6 @@
 // Tags that say hours within limits (document 02, E12, which calls them hours tags): read from their bytes.
+#![tactic(auto)]
+
 ghost use Rattle.std.specs.Prelude.{◌≡◌, length};
 ghost use Rattle.update_format.specs.Update.{tag_length};
 ghost use Rattle.hours_tags.specs.Hours.{limits_in, bounded, read_tag};
@@ -18,7 +20,7 @@ const LONGEST_RUN: u16 = 1440;
 
 // What an hours tag says: the pond, a byte that is kept as the other numbers are, and in minutes of the week when a run starts at the earliest and at the latest, and how
 // long it is at least and at most.
-#[derive(Drop)]
+#[derive(Clone, Copy)]
 pub struct Limits {
     pub pond: u16,
     pub earliest: u16,
@@ -28,7 +30,7 @@ pub struct Limits {
 }
 
 // What a tag is read as.
-#[derive(Drop)]
+#[derive(Clone, Copy)]
 pub enum Reading {
     Hours(Limits),
     Plain,

@@ -1,5 +1,7 @@
 // The hours ledger: the public library. Copies of the ledger take updates in any order; each stored update is held, waiting or void by its ancestors
 // alone. The bookkeeping goes in by value and the new one comes back; the updates' bytes lie in a store that the caller lends.
+#![tactic(auto)]
+
 ghost use Rattle.std.specs.Prelude.{◌≡◌};
 ghost use Rattle.rules.specs.Report.{default_form, longest};
 ghost use Rattle.ledger_state.specs.View.{book_of};
@@ -32,7 +34,7 @@ use write_asking::write_asked;
 pub use write_operations::Kind;
 
 // How an id stands.
-#[derive(Drop)]
+#[derive(Clone, Copy)]
 pub enum Asked {
     Is(Standing),
     Unknown,
@@ -96,7 +98,7 @@ pub fn standings(ledger: Ledger, store: &[u8], asked: &[u8], out: &mut [u8]) -> 
 }
 
 // What a report answers: how many bytes of the output buffer it takes.
-#[derive(Drop)]
+#[derive(Clone, Copy)]
 pub enum Reported {
     Written(usize),
     Refused(Refusal),

@@ -1,4 +1,6 @@
 // Judging a waiting update: by its predecessors, its ancestors and its operation. And whether the predecessors of an update are all held.
+#![tactic(auto)]
+
 ghost use Rattle.std.specs.Prelude.{◌≡◌, Bool, not, ◌≤◌, ◌<◌};
 ghost use Rattle.std.proofs.Math.Option.{some};
 ghost use Rattle.update_format.specs.Update.{document_bounds};
@@ -26,7 +28,7 @@ use update_format::numbers::{ID_LENGTH, TAG_LENGTH};
 use update_format::{Operation, ParseResult, Parsed};
 
 // What the predecessors of an update say: whether all are held, whether some is void, their places, and their ancestors.
-#[derive(Drop)]
+#[derive(Clone, Copy)]
 pub struct Gathered {
     pub ready: bool,
     pub void: bool,
@@ -35,7 +37,7 @@ pub struct Gathered {
 }
 
 // How a waiting update is judged: it holds, with these ancestors; it fails; it goes on waiting.
-#[derive(Drop)]
+#[derive(Clone, Copy)]
 pub enum Judgement {
     Holds(Set),
     Fails,

@@ -9,21 +9,21 @@ use Rattle.ledger_offering.specs.Values.{OfferValues}
 use Rattle.ledger_offering.specs.Offer.{OfferRow, unfit, malformed, known, full, taken}
 use Rattle.ledger_offering.specs.Calls.{Calls, done, call, Offers}
 
-pub offer-length : {l r : Ledger} {s s' b : List ℕ} {v : OfferValues} → OfferRow l s b v r s' → length s' ≡ length s
+pub offer-length : {l r : Ledger} {s b s' : List ℕ} {v : OfferValues} → OfferRow l s b v r s' → length s' ≡ length s
 offer-length (unfit e) = refl
 offer-length (malformed n e d) = refl
 offer-length (known u k e d f) = refl
 offer-length (full u e d f n) = refl
 offer-length {l = l} {s = s} (taken u r e d f n t) = (sound→ (book_of r) _ t.still_sound).store ∙ sym (sound→ (book_of l) s e).store
 
-pub offer-terms : {l r : Ledger} {s s' b : List ℕ} {v : OfferValues} → OfferRow l s b v r s' → (book_of r).terms ≡ (book_of l).terms
+pub offer-terms : {l r : Ledger} {s b s' : List ℕ} {v : OfferValues} → OfferRow l s b v r s' → (book_of r).terms ≡ (book_of l).terms
 offer-terms (unfit e) = refl
 offer-terms (malformed n e d) = refl
 offer-terms (known u k e d f) = refl
 offer-terms (full u e d f n) = refl
 offer-terms (taken u r e d f n t) = t.terms_kept
 
-pub offer-sound : {l r : Ledger} {s s' b : List ℕ} {v : OfferValues} → OfferRow l s b v r s' → sound (book_of l) s ≡ true → sound (book_of r) s' ≡ true
+pub offer-sound : {l r : Ledger} {s b s' : List ℕ} {v : OfferValues} → OfferRow l s b v r s' → sound (book_of l) s ≡ true → sound (book_of r) s' ≡ true
 offer-sound (unfit e) h = h
 offer-sound (malformed n e d) h = h
 offer-sound (known u k e d f) h = h

@@ -1,4 +1,6 @@
 // An offer to a ledger to which row 1 does not apply.
+#![tactic(auto)]
+
 ghost use Rattle.std.specs.Prelude.{◌≡◌, true};
 ghost use Rattle.ledger_state.specs.Row1.{sound};
 ghost use Rattle.ledger_state.specs.View.{book_of};
@@ -12,7 +14,7 @@ use ledger_state::{Found, Ledger, PLACES, Standing};
 use update_format::{Id, ParseResult};
 
 // What an offer answers.
-#[derive(Drop)]
+#[derive(Clone, Copy)]
 pub enum Answer {
     // The update took a place: how it stands, how many updates are newly held, and how many newly void.
     Taken {
@@ -26,7 +28,7 @@ pub enum Answer {
 }
 
 // An answer beside the ledger that the next call is handed.
-#[derive(Drop)]
+#[derive(Clone, Copy)]
 pub struct Offered {
     pub answer: Answer,
     pub ledger: Ledger,

@@ -1,11 +1,13 @@
 // Why a call of the library is refused.
+#![tactic(auto)]
+
 ghost use Rattle.std.specs.Prelude.{◌≡◌};
 ghost use Rattle.ledger_refusals.specs.Numbers.{refusal_number};
 
 use update_format::Malformed;
 
 // Why a call is refused.
-#[derive(Drop)]
+#[derive(Clone, Copy)]
 pub enum Refusal {
     // Row 1: the ledger and the store do not fit each other.
     Unfit,

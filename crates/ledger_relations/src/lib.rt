@@ -1,4 +1,6 @@
 // What held places do to a place of a ledger, the tests of a place that go by it, and whether a place is a fault.
+#![tactic(auto)]
+
 ghost use Rattle.std.specs.Prelude.{◌≡◌, not, ◌<◌};
 ghost use Rattle.rules.specs.CausalOrder.{is_before, is_apart};
 ghost use Rattle.ledger_state.specs.State.{places, document_terms};
@@ -14,7 +16,7 @@ use ledger_state::{Ledger, Place, Standing};
 use rules::CausalOrder;
 
 // What a held place can do to another place: be after it; be a fork of it; remove it; delete it.
-#[derive(Drop)]
+#[derive(Clone, Copy)]
 pub enum Effect {
     Covers,
     Forks,

@@ -1,4 +1,6 @@
 // Whether row 1 of the table applies to a ledger and its store.
+#![tactic(auto)]
+
 ghost use Rattle.std.specs.Prelude.{◌≡◌};
 ghost use Rattle.ledger_state.specs.State.{document_terms};
 ghost use Rattle.ledger_state.specs.View.{place_of, book_of};

@@ -1,5 +1,7 @@
 // Settling by a worklist: the newest place is judged; of each place that is settled, the waiting places whose updates name it are judged, until no settled place is left
 // whose successors were not. So the newest place is judged once, and any other at most once for each of its predecessors that is settled.
+#![tactic(auto)]
+
 ghost use Rattle.std.specs.Prelude.{◌≡◌, ◌&&◌, ◌<◌};
 ghost use Rattle.update_format.specs.Update.{document_bounds};
 ghost use Rattle.update_format.specs.Decode.{decode};
@@ -17,7 +19,7 @@ use update_format::{Id, ParseResult};
 
 // How far settling has come: the ledger; the places settled so far, in order, which are the first `held + void` elements of the worklist; and how many of them became held,
 // and how many void.
-#[derive(Drop)]
+#[derive(Clone, Copy)]
 pub struct Settling {
     pub ledger: Ledger,
     pub worklist: [usize; PLACES],

@@ -1,4 +1,6 @@
 // The bookkeeping of a ledger: places, standings and ancestor words, by value; and the lent store.
+#![tactic(auto)]
+
 pub mod find;
 pub mod places;
 pub mod store;
@@ -19,7 +21,7 @@ pub const PLACES: usize = 64;
 pub const STORE_LENGTH: usize = PLACES * MAX_LENGTH;
 
 // One place: its update's id, length, ancestors (bit k for place k) and standing. The update's bytes are in the store.
-#[derive(Drop)]
+#[derive(Clone, Copy)]
 pub struct Place {
     pub id: Id,
     pub length: usize,
@@ -28,14 +30,14 @@ pub struct Place {
 }
 
 // The places below `used` are taken.
-#[derive(Drop)]
+#[derive(Clone, Copy)]
 pub struct Ledger {
     pub used: usize,
     pub places: [Place; PLACES],
 }
 
 // Where an id is.
-#[derive(Drop)]
+#[derive(Clone, Copy)]
 pub enum Found {
     At(usize),
     Nowhere,

@@ -1,4 +1,6 @@
 // Looking ids up by a merge: stored ids beside asked ones, both ascending.
+#![tactic(auto)]
+
 ghost use Rattle.std.specs.Prelude.{◌≡◌, ◌-◌, ◌≤◌, length, replicate};
 ghost use Rattle.bytes_copy.specs.Overwritten.{overwritten};
 ghost use Rattle.update_format.specs.Decode.{id_count, ids_in};
@@ -13,7 +15,7 @@ use update_format::named;
 use update_format::numbers::ID_LENGTH;
 
 // How far a walk came: the asked ids that it passed, and how many comparisons of two ids it made.
-#[derive(Drop)]
+#[derive(Clone, Copy)]
 struct Progress {
     passed: usize,
     comparisons: usize,

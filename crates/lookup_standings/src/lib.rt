@@ -1,4 +1,6 @@
 // Looking ids up in a ledger to which row 1 does not apply.
+#![tactic(auto)]
+
 ghost use Rattle.std.specs.Prelude.{◌≡◌, true, ◌<◌};
 ghost use Rattle.ledger_state.specs.Row1.{sound};
 ghost use Rattle.ledger_state.specs.View.{place_of, book_of};
@@ -19,7 +21,7 @@ use update_format::{Malformed, ascends};
 const IDS_LENGTH: usize = PLACES * ID_LENGTH;
 
 // What looking ids up answers: how many comparisons of two ids the walk made.
-#[derive(Drop)]
+#[derive(Clone, Copy)]
 pub enum LookedUp {
     Compared(usize),
     Refused(Refusal),

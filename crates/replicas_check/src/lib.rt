@@ -1,4 +1,6 @@
 // Two copies of the ledger side by side.
+#![tactic(auto)]
+
 ghost use Rattle.std.specs.Prelude.{map};
 ghost use Rattle.ledger_state.specs.View.{fresh_ledger};
 ghost use Rattle.ledger_offering.specs.Calls.{Offers};
@@ -7,7 +9,7 @@ ghost use Rattle.replicas_check.specs.Check.{OneCopy, Checking, SecondChecking};
 use ledger::{Form, Ledger, Refusal, Reported};
 
 // What the comparison of two copies answers.
-#[derive(Drop)]
+#[derive(Clone, Copy)]
 pub enum Compared {
     // The two full reports are the same bytes, so many.
     Same { length: usize },

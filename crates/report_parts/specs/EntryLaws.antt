@@ -274,7 +274,7 @@ module _ (l : Book) (s : List ℕ) where
       only = b.only;
       all_in = λ x m. ⊎_elim (λ (k : x ∈ O). k) (λ (k : x ∈ []). absurd (Memᴰ.not-nil k)) (b.all_in x m);
     }
-    run (ascending-cons h d) b = run d (next h b)
+    run {O} {w = w} (ascending-cons {x = x} h d) b = run {O = x ∷ O} d (next h b)
 
     pub put-all : Ascending key All → IsWalk key All (put_all l s [] All)
     unfolding entries_at keep

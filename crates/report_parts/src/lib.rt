@@ -1,9 +1,11 @@
 // What the report shows of a ledger and its store: the marked authors, and the places of the list's entries.
+#![tactic(auto)]
+
 pub mod list;
 pub mod marks;
 
 // What of a place marks its author: it is one of two that are a fork; it is a fault.
-#[derive(Drop)]
+#[derive(Clone, Copy)]
 pub enum Evidence {
     Fork,
     Fault,

@@ -1,4 +1,6 @@
 // The report of a ledger and its store in one of its forms, printed on a page that the caller lends.
+#![tactic(auto)]
+
 ghost use Rattle.std.specs.Prelude.{◌≤◌};
 ghost use Rattle.ledger_state.specs.State.{places};
 ghost use Rattle.ledger_state.specs.View.{book_of};

@@ -1,4 +1,6 @@
 // The words and the lines of the report, printed on a page that the caller lends.
+#![tactic(auto)]
+
 ghost use Rattle.std.specs.Prelude.{◌+◌, ◌*◌, ◌≤◌, ◌++◌};
 ghost use Rattle.update_format.specs.Update.{document_bounds, id_length};
 ghost use Rattle.update_format.specs.Decode.{decode};
@@ -11,7 +13,7 @@ use bytes_print::{digits, put};
 use rules::MarkKind;
 
 // The parts of the report that show updates.
-#[derive(Drop)]
+#[derive(Clone, Copy)]
 pub enum Part {
     Held,
     Heads,

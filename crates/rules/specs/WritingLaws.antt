@@ -84,7 +84,7 @@ module _ (rules : Rules) (most : ℕ) (S : List Update) (distinct : Distinct rul
   pred-on-top : {x : Update} → x ∈ S → rules.ident x ∈ (written_of rules most S a o).preds → (v : Update) → Held rules S v → Ancestor rules S x v → ⊥
   pred-on-top {x} m p v k b =
       let f = written-heads (rules.ident x) p in
-      f.1.on-top v k (subst (λ (y : Update). Ancestor rules S y v) (distinct-eq distinct m (held-stored rules S f.1.is_held_lem) (sym f.2)) b)
+      f.1.on-top v k (subst (λ (y : Update). Ancestor rules S y v) (distinct-eq distinct m (held-stored rules S f.1.is-held) (sym f.2)) b)
 
   -- writable is fine
 

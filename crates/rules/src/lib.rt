@@ -1,7 +1,8 @@
 // The rules of documents 01 and 02, as definitions and theorems: all of it is in specs/, but for four enums that the code has too.
+#![tactic(auto)]
 
 // How an update of a set stands: document 01, "Held, waiting, void".
-#[derive(Drop)]
+#[derive(Clone, Copy)]
 pub enum Standing {
     Held,
     Waiting,
@@ -9,7 +10,7 @@ pub enum Standing {
 }
 
 // How one update stands to another: document 02's four answers, E4.
-#[derive(Drop)]
+#[derive(Clone, Copy)]
 pub enum CausalOrder {
     Same,
     Before,
@@ -18,14 +19,14 @@ pub enum CausalOrder {
 }
 
 // The two forms of a report: document 02, E10.
-#[derive(Drop)]
+#[derive(Clone, Copy)]
 pub enum Form {
     Full,
     Short,
 }
 
 // What an author is marked for: document 02, E7.
-#[derive(Drop)]
+#[derive(Clone, Copy)]
 pub enum MarkKind {
     Fork,
     Fault,

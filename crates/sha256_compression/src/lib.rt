@@ -1,5 +1,7 @@
 // The functions, constants and compression of SHA-256 (FIPS 180-4, 4.1.2, 4.2.2 and 6.2.2). The contracts cite the standard's definitions, in its own
 // names, of crate `sha256_fips180`.
+#![tactic(auto)]
+
 ghost use Rattle.std.specs.Prelude.{◌≡◌, ℕ, ◌+◌, ◌<◌, ◌≤◌, List, length};
 ghost use Rattle.sha256_fips180.specs.Fips180.{ROTR, Ch, Maj, Σ₀, Σ₁, σ₀, σ₁, K, word_at, words, Working, T₁, T₂, step, steps, added, compress};
 ghost use Rattle.sha256_compression.specs.Code.{working, Scheduled, Underway, Rotation, StepsFrom, Loadable, Blocks};
@@ -17,7 +19,7 @@ pub const CONSTANTS: [u32; 64] = [
 ];
 
 // The eight working variables, or the eight words of a hash value.
-#[derive(Drop)]
+#[derive(Clone, Copy)]
 pub struct State {
     pub a: u32,
     pub b: u32,

@@ -1,6 +1,8 @@
 // SHA-256 (FIPS 180-4): padding, the blocks one after the other, and the digest. The contracts cite the standard's definitions, in its own names, of
 // crate `sha256_fips180`. The message is read where it lies: of its bytes only those after its last whole block are copied, into the last one or
 // two blocks of the padded message, which are all of it that is built.
+#![tactic(auto)]
+
 ghost use Rattle.std.specs.Prelude.{◌≡◌, ◌++◌, ◌+◌, ◌/◌, ◌≤◌, ◌<◌, length, take, drop};
 ghost use Rattle.sha256_fips180.specs.Fips180.{SHA-256, big_endian, pad, hash, bytes_of};
 ghost use Rattle.sha256_compression.specs.Code.{working, Blocks};
@@ -112,10 +114,9 @@ pub fn digest(s: &[u8]) -> [u8; 32]
     bytes_of(finish(h, s, &k))
 }
 
-// For callers from other languages: writes the SHA-256 of s to the front of `out` and returns 32, or writes nothing and returns 0 where
-// `out` is shorter than that.
-#[unsafe(no_mangle)]
-pub extern "C" fn silkcliff_sha256(s: &[u8], out: &mut [u8]) -> usize
+// For callers from other languages, which call it by `sha256_digest_c`: writes the SHA-256 of s to the front of `out` and returns 32, or writes
+// nothing and returns 0 where `out` is shorter than that.
+pub fn silkcliff_sha256(s: &[u8], out: &mut [u8]) -> usize
     ensures written { 32 ≤ length out.old → (result ≡ 32) × (out.new ≡ SHA-256 s.now ++ drop 32 out.old) }
     ensures short { length out.old < 32 → (result ≡ 0) × (out.new ≡ out.old) }
 {

@@ -1,4 +1,6 @@
 // The command: offers from standard input, answers and the report to standard output.
+#![tactic(auto)]
+
 use command_loop::Ended;
 
 // Says on standard error what failed: the command has no exit status to give.

@@ -1,4 +1,6 @@
 // The byte that tells a standing, and the one of an id that is not stored.
+#![tactic(auto)]
+
 ghost use Rattle.std.specs.Prelude.{◌≡◌};
 ghost use Rattle.standing_bytes.specs.StandingByte.{standing_byte};
 

@@ -1,4 +1,6 @@
 // Runs a script of calls of the ledger, and prints their answers. The script's first lines say how it reads.
+#![tactic(auto)]
+
 mod bundles;
 mod calls;
 mod commands;

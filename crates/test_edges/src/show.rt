@@ -153,7 +153,7 @@ pub fn bundled(b: Bundled, out: &[u8]) {
 }
 
 // How answers to ids are shown: all of them, or their SHA-256.
-#[derive(Drop)]
+#[derive(Clone, Copy)]
 pub enum Digits {
     All,
     Digest,

@@ -1,4 +1,6 @@
 // Scripts: lines of words, what the words of a command must be, and byte strings in slots that words call.
+#![tactic(auto)]
+
 mod forms;
 mod slots;
 mod words;

@@ -69,7 +69,7 @@ fn extended(n: usize, b: u8) -> usize {
 }
 
 // A number, and how many of a word's bytes spell it.
-#[derive(Drop)]
+#[derive(Clone, Copy)]
 struct Spelled {
     value: usize,
     length: usize,

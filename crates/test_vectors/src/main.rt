@@ -2,6 +2,8 @@
 // of blocks. Each line is COUNT BYTES DIGEST: the message is BYTES, in hexadecimal, repeated COUNT
 // times. The expected lines are NIST's own (tests/data/nist-sha256.txt); those of `test_edges` come from
 // another implementation.
+#![tactic(auto)]
+
 fn main() {
     whole(b"");
     whole(b"abc");

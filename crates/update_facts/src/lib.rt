@@ -1,5 +1,7 @@
 // The facts of an update in one word: its author, its kind byte, the count of its predecessors and the count of the ids that it names, a byte each. With them the
 // offsets of its fields are known again, and its bytes need not be read for them.
+#![tactic(auto)]
+
 ghost use Rattle.std.specs.Prelude.{◌≡◌};
 ghost use Rattle.update_facts.specs.Facts.{kind_in, named_in, packed, author_by, kind_by, predecessors_by, named_by, operation_by, unpacked, Packable};
 

@@ -1,4 +1,6 @@
 // The fields of an update, read from its bytes.
+#![tactic(auto)]
+
 ghost use Rattle.std.specs.Prelude.{◌≡◌, ◌≤◌, ◌<◌, length};
 ghost use Rattle.bytes_order.specs.Member.{member};
 ghost use Rattle.update_format.specs.Update.{document_bounds, tag_length};
@@ -12,7 +14,7 @@ use update_format::{Operation, ParseResult};
 
 // What bytes lay out: the kind byte of an update, 0 where they are none; the author; where the tag or the value begins; where the ids
 // begin, and how many they are (those that a Remove names, the anchor of an Insert, the id that a Delete deletes).
-#[derive(Drop)]
+#[derive(Clone, Copy)]
 pub struct Layout {
     pub kind: u8,
     pub author: u8,

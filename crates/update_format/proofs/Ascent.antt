@@ -1,6 +1,6 @@
 -- The ascent of a run of ids, one pair after the other.
-use Prim.Native.Nat.{ℕ, zero, suc, ◌+◌, ◌*◌, ◌-◌, ◌≤◌, ◌<◌}
-use mathlib.Core.Path.{◌≡◌, refl, sym, ap, ap₂, ◌∙◌}
+use Prim.Native.Nat.{ℕ, suc, ◌+◌, ◌*◌, ◌-◌, ◌≤◌, ◌<◌}
+use mathlib.Core.Path.{◌≡◌, refl, sym, ap, ◌∙◌}
 use mathlib.Core.List.{List}
 use mathlib.Core.Bool.{Bool, true, false, cond, ◌&&◌}
 use native.Mathlib.Omega.{arith}
@@ -25,10 +25,6 @@ less-before a b o h = ap is_less h ∙ go (before a b) (same a b)
     go true q = refl
     go false true = refl
     go false false = refl
-
-positive : (n : ℕ) → (n ≡ 0 → ⊥) → n ≡ suc (n - 1 - 0)
-positive zero h = absurd (h refl)
-positive (suc n) h = omega arith
 
 module _ (b : List ℕ) (at : ℕ) where
   -- the k-th id of the run
@@ -58,12 +54,6 @@ module _ (b : List ℕ) (at : ℕ) where
   -- a pair that rises leaves the rest
   pub go_on : (last k : ℕ) → k < last → before (id k) (id (k + 1)) ≡ true → from last k ≡ from last (k + 1)
   go_on last k h e = next last k h ∙ ap (λ (t : Bool). t && from last (k + 1)) e
-
-  pub all : (n : ℕ) → (n ≡ 0 → ⊥) → ascending (ids_at b at n) ≡ from (n - 1) 0
-  all n h =
-      let c : n ≡ suc (n - 1 - 0) = positive n h in
-      let e : at ≡ at + id_length * 0 = omega arith in
-      ap₂ (λ (i m : ℕ). ascending (ids_at b i m)) e c
 
   nothing : true ≡ ascending (ids_at b at 0)
   unfolding ascending ids_at

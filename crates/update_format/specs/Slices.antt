@@ -1,6 +1,6 @@
 -- Parts of a byte string, and the ids laid out in one.
 use Rattle.std.specs.Prelude.{ℕ, zero, suc, ◌+◌, ◌*◌, ◌≤◌, ◌<◌, ◌≡◌, refl, List, [], ◌∷◌, ◌++◌, length, get_or, take, drop}
-use Rattle.std.proofs.Common.{sym, ap, ap₂, ◌∙◌, append_assoc, ⊎_elim, add-one, arith, length-append, take-append-drop, length-drop, length-take-le, take_all, drop-cons, drop-drop, take-add, take_at}
+use Rattle.std.proofs.Common.{sym, ap, ap₂, subst, ◌∙◌, append_assoc, ⊎_elim, add-one, arith, length-append, take-append-drop, length-drop, length-take-le, take_all, drop-cons, drop-drop, take-add, take_at}
 use mathlib.Core.List.Memᴰ
 use Rattle.std.proofs.Math.Seq.{drop-append-add}
 use Rattle.bytes_order.specs.Member.{◌∈◌, concat_map}
@@ -91,7 +91,7 @@ ids-back [] q h = refl
 ids-back (x ∷ xs) q h =
     let e : length x ≡ id_length = h x (Memᴰ.head refl) in
     let k : id_length ≡ length x + 0 = omega arith in
-    rw append_assoc
+    subst (λ (t : List ℕ). ids_at t 0 (suc (length xs)) ≡ x ∷ xs) (sym (append_assoc x (joined xs) q))
     (ap₂ (λ (i : Id) (r : List Id). i ∷ r)
     (take_at x (joined xs ++ q) id_length e)
     (ap (λ (n : ℕ). ids_at (x ++ (joined xs ++ q)) n (length xs)) k

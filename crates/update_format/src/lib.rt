@@ -1,5 +1,7 @@
 // One update: the offsets of its fields in the bytes, or the refusal (rows 2 to 9 of document 01's table), and the parts of the bytes
 // that the offsets name.
+#![tactic(auto)]
+
 ghost use Rattle.std.specs.Prelude.{◌≡◌};
 ghost use Rattle.update_format.specs.ParseResult.{malformed_number};
 
@@ -16,14 +18,14 @@ pub type Id = [u8; ID_LENGTH];
 pub type Tag = [u8; TAG_LENGTH];
 
 // What the terms of a ledger choose of an update's layout: how many authors there are, numbered from 0, and how many predecessors an update names at most.
-#[derive(Drop)]
+#[derive(Clone, Copy)]
 pub struct Bounds {
     pub authors: usize,
     pub predecessors: usize,
 }
 
 // The offsets of an operation's fields.
-#[derive(Drop)]
+#[derive(Clone, Copy)]
 pub enum Operation {
     Add {
         tag: usize,
@@ -43,7 +45,7 @@ pub enum Operation {
 }
 
 // An update's author, the count of its predecessors, which stand from byte 3 on, and its operation.
-#[derive(Drop)]
+#[derive(Clone, Copy)]
 pub struct Parsed {
     pub author: u8,
     pub count: usize,
@@ -51,7 +53,7 @@ pub struct Parsed {
 }
 
 // Why bytes are no update: rows 2 to 9.
-#[derive(Drop)]
+#[derive(Clone, Copy)]
 pub enum Malformed {
     Length,
     Version,
@@ -81,7 +83,7 @@ impl Malformed {
     }
 }
 
-#[derive(Drop)]
+#[derive(Clone, Copy)]
 pub enum ParseResult {
     Update(Parsed),
     Refused(Malformed),

@@ -1,11 +1,13 @@
 // Document 01: "The reader of an update carries the lent bytes together with how far it has read". `start`, `past` and `byte` are all that is
 // done with one; `read_header` carries one through an update's layout, for every caller with a plain slice.
+#![tactic(auto)]
+
 ghost use Rattle.std.specs.Prelude.{◌≡◌, ◌+◌, ◌<◌, ◌^◌, get_or};
 ghost use Rattle.update_header.specs.Header.{header_of};
 
 use update_format::numbers::{ID_LENGTH, TAG_LENGTH};
 
-#[derive(Drop)]
+#[derive(Clone, Copy)]
 pub struct Reader<'a> {
     pub bytes: &'a [u8],
     pub at: usize,
@@ -13,7 +15,7 @@ pub struct Reader<'a> {
 
 // The bytes that say how an update is laid out, and where its operation's own bytes begin. `named` is a Remove's count byte; 0 stands for a
 // missing byte.
-#[derive(Drop)]
+#[derive(Clone, Copy)]
 pub struct Header {
     pub version: u8,
     pub author: u8,

@@ -1,4 +1,6 @@
 // Reads one update: from its bytes to the offsets of its fields, or the refusal (rows 2 to 9 of document 01's table).
+#![tactic(auto)]
+
 ghost use Rattle.std.specs.Prelude.{◌≡◌, ◌≤◌};
 ghost use Rattle.update_format.specs.Update.{document_bounds, max_count};
 ghost use Rattle.update_format.specs.Decode.{decode};

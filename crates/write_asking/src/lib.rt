@@ -1,4 +1,6 @@
 // Writing an update that rows 1, 4, 8 and 9 let through.
+#![tactic(auto)]
+
 ghost use Rattle.ledger_state.specs.View.{book_of};
 ghost use Rattle.write_asking.specs.Write.{wrote_values, Writing, WellAsked};
 
@@ -11,7 +13,7 @@ use update_format::{Id, Tag};
 use write_operations::Kind;
 
 // What the writer answers: how many bytes of the output buffer the update takes.
-#[derive(Drop)]
+#[derive(Clone, Copy)]
 pub enum Wrote {
     Written(usize),
     Refused(Refusal),

@@ -1,4 +1,6 @@
 // The author's highest held place.
+#![tactic(auto)]
+
 ghost use Rattle.std.specs.Prelude.{◌≡◌, ◌+◌, ◌≤◌, ◌<◌};
 ghost use Rattle.bytes_order.specs.Order.{before};
 ghost use Rattle.ledger_state.specs.State.{places, place_at, found_of};

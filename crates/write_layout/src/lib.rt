@@ -1,4 +1,6 @@
 // Writing a new update: its bytes, with the chosen predecessors.
+#![tactic(auto)]
+
 ghost use Rattle.std.specs.Prelude.{◌≤◌};
 ghost use Rattle.update_format.specs.Update.{document_bounds, max_length, encode};
 ghost use Rattle.bytes_print.specs.Page.{Prints};

@@ -1,4 +1,6 @@
 // What a written update is to do: what is asked of the named ids, the kinds of operation, and their bytes.
+#![tactic(auto)]
+
 ghost use Rattle.std.specs.Prelude.{◌≡◌, ◌∷◌, ◌+◌, ◌≤◌};
 ghost use Rattle.update_format.specs.Update.{id_length, tag_length, Add, Remove, Insert, Delete, encode_operation};
 ghost use Rattle.update_format.specs.Decode.{ids_in};
@@ -13,7 +15,7 @@ use update_format::{Id, Tag};
 const MAX_NAMED_LENGTH: usize = ID_LENGTH * (MAX_NAMED as usize);
 
 // The kind of a written operation.
-#[derive(Drop)]
+#[derive(Clone, Copy)]
 pub enum Kind {
     Add,
     Remove,
