@@ -5,11 +5,10 @@ use Rattle.bitset_words.proofs.Joining.{joined_to, join-next, join-all}
 use Rattle.bitset_words.proofs.join.Goals as goal
 
 pub loop-i-preserved : goal.loop-i-preserved
-loop-i-preserved c =
-    (
-      search rules,
-      join-next c.args.s.now c.args.t.now (search rules) c.loop-i.i (search rules) c.loop-i.invariant.1 c.join-w.ensures,
-    )
+loop-i-preserved c = (
+  search rules,
+  join-next c.args.s.now c.args.t.now (search rules) c.loop-i.i (search rules) c.loop-i.invariant.1 c.join-w.ensures,
+)
 
 pub returns : goal.returns
 returns c =

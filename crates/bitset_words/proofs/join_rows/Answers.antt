@@ -4,11 +4,10 @@ use Rattle.bitset_words.proofs.Joining.{rows_joined, rows_next, rows_all}
 use Rattle.bitset_words.proofs.join_rows.Goals as goal
 
 pub loop-i-preserved : goal.loop-i-preserved
-loop-i-preserved c =
-    (
-      search rules,
-      rows_next c.args.s.now c.args.to c.args.from c.args.n c.requires c.loop-i.i (search rules) c.loop-i.invariant.1 c.join-w.ensures,
-    )
+loop-i-preserved c = (
+  search rules,
+  rows_next c.args.s.now c.args.to c.args.from c.args.n c.requires c.loop-i.i (search rules) c.loop-i.invariant.1 c.join-w.ensures,
+)
 
 pub returns : goal.returns
 returns c =

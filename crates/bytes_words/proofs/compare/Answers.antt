@@ -20,11 +20,10 @@ returns-then-b-i c =
     ∙ larger _ _ c.loop-i.i (search rules) (search rules) c.if-b-i.true)
 
 pub loop-i-preserved : goal.loop-i-preserved
-loop-i-preserved c =
-    (
-      search rules,
-      rw add-one (c.loop-i.invariant.1 ∙ next _ _ c.loop-i.i (search rules) (search rules) (omega arith)),
-    )
+loop-i-preserved c = (
+  search rules,
+  rw add-one (c.loop-i.invariant.1 ∙ next _ _ c.loop-i.i (search rules) (search rules) (omega arith)),
+)
 
 pub returns : goal.returns
 returns c =

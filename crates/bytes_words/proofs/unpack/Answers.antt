@@ -10,12 +10,11 @@ size : (w : List ℕ) → length w ≡ 4 → length (bytes_of w) ≡ 32
 size w e = omega (arith, length-bytes_of w)
 
 pub loop-i-preserved : goal.loop-i-preserved
-loop-i-preserved c =
-    (
-      search rules,
-      simp length-set c.loop-i.invariant.1,
-      written c.loop-i.id (bytes_of c.args.w.now) c.loop-i.i _ (omega arith) (omega (arith, size c.args.w.now c.requires)) c.loop-i.invariant.2 c.byte_at.ensures,
-    )
+loop-i-preserved c = (
+  search rules,
+  simp length-set c.loop-i.invariant.1,
+  written c.loop-i.id (bytes_of c.args.w.now) c.loop-i.i _ (omega arith) (omega (arith, size c.args.w.now c.requires)) c.loop-i.invariant.2 c.byte_at.ensures,
+)
 
 pub returns : goal.returns
 returns c =

@@ -14,11 +14,10 @@ returns-then-not-rises c =
     ∙ sym c.loop-k.invariant.1
 
 pub loop-k-preserved : goal.loop-k-preserved
-loop-k-preserved c =
-    (
-      search rules,
-      c.loop-k.invariant.1 ∙ go_on c.args.s.now c.args.at (c.args.count - 1) c.loop-k.k (search rules) (sym c.rises.ensures ∙ c.if-not-rises.false),
-    )
+loop-k-preserved c = (
+  search rules,
+  c.loop-k.invariant.1 ∙ go_on c.args.s.now c.args.at (c.args.count - 1) c.loop-k.k (search rules) (sym c.rises.ensures ∙ c.if-not-rises.false),
+)
 
 pub returns : goal.returns
 returns c =
