@@ -22,7 +22,7 @@ use Rattle.update_fields.specs.Fields.{test_of}
 use Rattle.bitset.specs.Bits.{has, including, join}
 use Rattle.ledger_judging.specs.declared.Gathered.{Gathered}
 use Rattle.rules.specs.declared.Standing.{Standing}
-use Rattle.rules.specs.declared.Standing.TheVariants.{Held, Waiting, Void}
+use Rattle.rules.specs.declared.Standing.TheVariants.{Held}
 use Rattle.ledger_judging.specs.declared.Judgement.TheVariants.{Holds, Fails, Waits}
 use Rattle.ledger_state.specs.State.{Place, Book, place_at, stored_at, find_in}
 use Rattle.ledger_judging.specs.Antichain.{antichain_at}
@@ -39,14 +39,6 @@ module _ (p : Place) (g : Gathered) (j : ℕ) (l : Book) (at : place_at l j ≡ 
       ap₂ (λ (x y : ℕ). record { ready = g.ready; void = g.void; direct = x; above = y }) e
       (f ∙ ap (λ (q : Place). join g.above q.ancestors) (sym at))
       ∙ by-standing Held v
-
-  pub by-waiting : p.standing ≡ Waiting
-      → record { ready = false; void = g.void; direct = g.direct; above = g.above } ≡ gather_at l g (some j)
-  by-waiting = by-standing Waiting
-
-  pub by-void : p.standing ≡ Void
-      → record { ready = g.ready; void = true; direct = g.direct; above = g.above } ≡ gather_at l g (some j)
-  by-void = by-standing Void
 
 -- the judgement of bytes, by what reading them answered
 module _ (l : Book) (s b : List ℕ) (r : ParseResult) (read : decoded_of b r ≡ decode l.terms.bounds b) where

@@ -1,53 +1,31 @@
 -- The tests of places, from what their parts answer.
 use Prim.Native.Nat.{ℕ}
-use mathlib.Core.Path.{◌≡◌, refl, sym, ap, ap₂, ◌∙◌}
+use mathlib.Core.Path.{◌≡◌, refl, sym, ap, ◌∙◌}
 use mathlib.Core.List.{List}
-use mathlib.Core.Bool.{Bool, true, false, not, ◌&&◌, not-not}
-use borrow.Author.Tests.{eq-eqb, ne_eqb}
+use mathlib.Core.Bool.{Bool, true, false, not, ◌&&◌}
+use borrow.Author.Tests.{eq-eqb}
 use lib.Dec.{eqb}
-use Rattle.rules.specs.CausalOrder.{is_apart}
 use Rattle.rules.specs.Settle.{is_insert}
 use Rattle.bitset.specs.Bits.{count}
 use Rattle.rules.specs.declared.Standing.TheVariants.{Held, Waiting, Void}
 use Rattle.ledger_state.specs.State.{Place, Book, place_at, decoded_in, decoded_at, is_held, Terms}
-use Rattle.ledger_state.specs.PlaceOrder.{place_order}
 use Rattle.ledger_state.specs.Number.{has_standing}
 use Rattle.ledger_state.specs.NumberLaws.{is-held, is-waiting, is-void}
-use Rattle.update_fields.specs.Fields.{test_of, author_in, is_any_add}
+use Rattle.update_fields.specs.Fields.{test_of, is_any_add}
 use Rattle.ledger_judging.specs.Judge.{ready_at}
 use Rattle.ledger_relations.specs.declared.Effect.TheVariants.{Removes, Deletes}
 use Rattle.ledger_relations.specs.PlaceTests.{id_at, held_at, waiting_at, void_at, fault_at, removed_at, present_at, deleted_at, shown_at}
-use Rattle.ledger_relations.specs.Effects.{forks, ranked_in, some_held}
+use Rattle.ledger_relations.specs.Effects.{ranked_in, some_held}
 
 pub with-true : (x : Bool) → (x && true) ≡ x
 with-true true = refl
 with-true false = refl
-
-with-false : (x : Bool) → (x && false) ≡ false
-with-false true = refl
-with-false false = refl
 
 both_true : {a b c : Bool} → a ≡ true → b ≡ c → b ≡ (a && c)
 both_true {a} {b} {c} e f = f ∙ ap (λ (x : Bool). x && c) (sym e)
 
 first-false : {a : Bool} (c : Bool) → a ≡ false → false ≡ (a && c)
 first-false c e = ap (λ (x : Bool). x && c) (sym e)
-
-module _ (own : Place) (k : ℕ) (other : Place) (q : ℕ) where
-  module _ (terms : Terms) (s : List ℕ) where
-    abbrev same_author : Bool
-    same_author = eqb (author_in (decoded_in terms s own k)) (author_in (decoded_in terms s other q))
-
-    module _ {c : Bool} (told : c ≡ not (is_apart (place_order own k other q))) where
-      apart_by : (b : Bool) → c ≡ not b → is_apart (place_order own k other q) ≡ b
-      apart_by b e = sym (not-not (is_apart (place_order own k other q))) ∙ ap not (sym told ∙ e) ∙ not-not b
-
-      -- two updates of one author
-      pub fork-apart : {a b : ℕ} → c ≡ false → a ≡ author_in (decoded_in terms s own k) → b ≡ author_in (decoded_in terms s other q) → eqb a b ≡ forks terms s own k other q
-      fork-apart e f g = ap₂ eqb f g ∙ sym (ap (λ (x : Bool). same_author && x) (apart_by true e) ∙ with-true same_author)
-
-      pub fork-comparable : c ≡ true → false ≡ forks terms s own k other q
-      fork-comparable e = sym (ap (λ (x : Bool). same_author && x) (apart_by false e) ∙ with-false same_author)
 
 -- a test of a place that is to be held, by the answer whether it is
 module _ (p : Place) {b : Bool} (h : b ≡ has_standing Held p.standing) where
@@ -64,9 +42,6 @@ module _ (terms : Terms) (s : List ℕ) (p : Place) (k : ℕ) {b : Bool} (h : b 
 
   pub ranked-none : (n : ℕ) → b ≡ false → false ≡ ranked_in terms s n p k
   ranked-none n e = ap (λ (x : Bool). x && eqb (count p.ancestors) n) (held-not p h (test_of is_insert (decoded_in terms s p k)) e)
-
-  pub ranked-other : (n : ℕ) {m : ℕ} → m ≡ count p.ancestors → (m ≡ n → ⊥) → false ≡ ranked_in terms s n p k
-  ranked-other n e f = sym (ap (λ (x : Bool). holds_insert && x) (ne_eqb (count p.ancestors) n (λ g. f (e ∙ g))) ∙ with-false holds_insert)
 
   pub ranked-insert : (n : ℕ) {c : Bool} {m : ℕ} → b ≡ true → m ≡ count p.ancestors → m ≡ n → c ≡ test_of is_insert (decoded_in terms s p k) → c ≡ ranked_in terms s n p k
   ranked-insert n {c} e f g i =

@@ -15,9 +15,9 @@ use Rattle.ledger_state.specs.View.{book_of}
 use Rattle.ledger_state.specs.BookLaws.{replaced-other}
 use Rattle.ledger_settling.specs.declared.Settling.{Settling}
 use Rattle.ledger_settling.specs.Settle.{follows, follows_at}
-use Rattle.ledger_settling.specs.Worklist.{Progress, progress_of, Judged, waits, holds, fails, WorklistAt, SuccessorsAt, Roomy, ListedAt, Judges, JudgesSuccessors, Empties}
+use Rattle.ledger_settling.specs.Worklist.{Progress, progress_of, Judged, waits, holds, fails, WorklistAt, SuccessorsAt, Roomy, ListedAt, Judges, Empties}
 use Rattle.ledger_settling.specs.SettleLaws.{settled-place}
-use Rattle.ledger_settling.specs.WorklistLaws.{successors-begin, place-passed, place-judged, successors-end, worklist-end}
+use Rattle.ledger_settling.specs.WorklistLaws.{successors-begin, place-passed, place-judged, worklist-end}
 
 -- judging a place keeps the terms, how many are taken, and the other places
 judged-terms : {s : List ℕ} {k : ℕ} {p q : Progress} → Judged s k p q → q.book.terms ≡ p.book.terms
@@ -99,26 +99,13 @@ module _ (s : List ℕ) (i : ℕ) (l : Book) (id : Id) (used : ℕ) (x : Settlin
           later = λ j g. judged-other o.judged j (λ (e : j ≡ k). omega arith) ∙ h.later j (omega arith);
         }
 
-  pub loop-end : (y : Settling) (k : ℕ) → SuccessorsLoop s i l id used k x y → used ≤ k → JudgesSuccessors s i x y
-  loop-end y k h all =
-      record {
-        roomy = h.roomy;
-        onward = λ m u. successors-end m s (h.underway m u) (subst (λ (n : ℕ). n ≤ k) (sym h.used_is) all);
-      }
-
 -- the loop over the worklist, of whose first i places the successors were judged
 pub record WorklistLoop (s : List ℕ) (x : Settling) (i : ℕ) (y : Settling) : Type 0 where
   pub roomy : Roomy y
   pub underway : (l : Book) → WorklistAt l s 0 (progress_of x) → WorklistAt l s i (progress_of y)
 
 module _ (s : List ℕ) (x : Settling) where
-  pub worklist-begin : Roomy x → WorklistLoop s x 0 x
-  worklist-begin r = record { roomy = r; underway = λ l u. u }
-
   module _ (i : ℕ) (y : Settling) (h : WorklistLoop s x i y) where
-    pub worklist-next : (z : Settling) → JudgesSuccessors s i y z → WorklistLoop s x (i + 1) z
-    worklist-next z o = record { roomy = o.roomy; underway = λ l u. o.onward l (h.underway l u) }
-
     pub worklist-done : y.held + y.void ≤ i → Empties s x y
     worklist-done all =
         record { settles = λ l u. worklist-end l s (omega (arith, worklist-length y h.roomy)) (h.underway l u) }

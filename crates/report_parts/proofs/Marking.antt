@@ -1,8 +1,8 @@
 -- The marked authors, place by place.
 use Prim.Native.Nat.{ℕ, ◌+◌, ◌≤◌, ◌<◌}
-use mathlib.Core.Path.{◌≡◌, refl, sym, ap, ap₂, ◌∙◌}
+use mathlib.Core.Path.{◌≡◌, sym, ap, ap₂, ◌∙◌}
 use mathlib.Core.List.{List}
-use mathlib.Core.Bool.{Bool, true, false, ◌&&◌, ◌||◌}
+use mathlib.Core.Bool.{Bool, true, ◌&&◌, ◌||◌}
 use borrow.Author.Tests.{eq-eqb, eqb-true}
 use lib.Dec.{eqb}
 use Rattle.bytes_order.specs.BoolLaws.{test-ext}
@@ -36,14 +36,6 @@ module _ (l : Book) (s : List ℕ) (v : Evidence) where
       ap (λ (x : ℕ). has x a) (g ∙ included n w _ h)
       ∙ has-including w _ a
       ∙ ap (λ (x : Bool). has w a || x) (eqb-sym a _ ∙ ap (λ (c : ℕ). eqb c a) f ∙ sym (with-true (eqb (author_at l s k) a)) ∙ ap (λ (x : Bool). eqb (author_at l s k) a && x) (sym (sym e ∙ t)))
-
-  pub author-kept : (w k a : ℕ) {b : Bool} → b ≡ evidence_at l s v k → b ≡ false → has w a ≡ has w a || against a k
-  author-kept w k a e t = go (has w a) (eqb (author_at l s k) a) ∙ ap (λ (x : Bool). has w a || (eqb (author_at l s k) a && x)) (sym (sym e ∙ t))
-    where
-      go : (x y : Bool) → x ≡ x || (y && false)
-      go true y = refl
-      go false true = refl
-      go false false = refl
 
   pub marked_start : (a : ℕ) → has 0 a ≡ any_below 0 (against a)
   marked_start a = has-none a ∙ sym (any_below-none (against a))

@@ -2,18 +2,12 @@
 use Prim.Native.Nat.{ℕ}
 use mathlib.Core.Path.{◌≡◌, refl, ap, ◌∙◌}
 use mathlib.Core.List.{List, [], ◌∷◌, ◌++◌, append_assoc}
-use denote.Enum.Declared.{tag_of}
-use types.Run.{OneOf, miss}
-use Rattle.update_format.specs.Update.{Id}
 use Rattle.update_format.specs.Decode.{Decoded}
 use Rattle.bytes_ascii.specs.Ascii.{codes, ascii, hex, decimal}
 use Rattle.rules.specs.declared.MarkKind.{MarkKind}
 use Rattle.rules.specs.Report.{set_line, bytes_line, mark_line}
 use Rattle.update_fields.specs.Fields.{author_in, tag_in, set_entry_in}
-use Rattle.report_wording.specs.declared.Part.{Part}
-use Rattle.report_wording.specs.declared.Part.TheVariants.{Held, Heads, Waiting, Void, Set, List as Entries}
-use Rattle.report_wording.specs.Lines.{mark_end, author_line_by, line_by}
-use Rattle.report_wording.specs.contracts.Part.{the_type}
+use Rattle.report_wording.specs.Lines.{mark_end, author_line_by}
 
 -- 40, 41, 32 and 10 are the brackets, the space and the newline
 
@@ -40,12 +34,3 @@ author-line bs d a e =
 pub set_line_lem : (d : Decoded) {t : List ℕ} → t ≡ tag_in d → author_line_by t d ≡ set_line (set_entry_in d)
 unfolding set_line
 set_line_lem d e = ap (λ (t : List ℕ). author_line_by t d) e
-
--- Held, Waiting and Void, the parts 0, 2 and 3, have lines of updates
-pub update-lines : (i : Id) (d : Decoded) (p : Part) → OneOf (0 ∷ 2 ∷ 3 ∷ []) (tag_of the_type p) → author_line_by i d ≡ line_by p i d
-update-lines i d Held n = refl
-update-lines i d Waiting n = refl
-update-lines i d Void n = refl
-update-lines i d Heads n = absurd (miss (0 ∷ 2 ∷ 3 ∷ []) 1 tt n)
-update-lines i d Set n = absurd (miss (0 ∷ 2 ∷ 3 ∷ []) 4 tt n)
-update-lines i d Entries n = absurd (miss (0 ∷ 2 ∷ 3 ∷ []) 5 tt n)

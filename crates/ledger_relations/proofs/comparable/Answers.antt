@@ -1,0 +1,22 @@
+-- `comparable` meets its contract, by the order of the two places.
+use mathlib.Core.Path.{sym, ap, ◌∙◌}
+use mathlib.Core.Bool.{not}
+use Rattle.rules.specs.declared.CausalOrder.{CausalOrder}
+use Rattle.rules.specs.CausalOrder.{is_apart}
+use Rattle.ledger_relations.proofs.comparable.Goals as goal
+
+pub returns-in-Same : goal.returns-in-Same
+unfolding is_apart
+returns-in-Same c = ap (λ (o : CausalOrder). not (is_apart o)) (sym c.in-Same.is ∙ c.causal_order.ensures)
+
+pub returns-in-Before : goal.returns-in-Before
+unfolding is_apart
+returns-in-Before c = ap (λ (o : CausalOrder). not (is_apart o)) (sym c.in-Before.is ∙ c.causal_order.ensures)
+
+pub returns-in-After : goal.returns-in-After
+unfolding is_apart
+returns-in-After c = ap (λ (o : CausalOrder). not (is_apart o)) (sym c.in-After.is ∙ c.causal_order.ensures)
+
+pub returns-in-Apart : goal.returns-in-Apart
+unfolding is_apart
+returns-in-Apart c = ap (λ (o : CausalOrder). not (is_apart o)) (sym c.in-Apart.is ∙ c.causal_order.ensures)

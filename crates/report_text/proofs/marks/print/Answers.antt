@@ -1,0 +1,11 @@
+-- `print` meets its contract.
+use Rattle.update_format.specs.Update.{document_bounds}
+use Rattle.bytes_print.proofs.Printing.{both, same_text}
+use Rattle.bitset.specs.Bits.{has}
+use Rattle.report_parts.specs.PlaceParts.{author_marks}
+use Rattle.report_text.proofs.MarkLaws.{marks-is}
+use Rattle.report_text.proofs.marks.print.Goals as goal
+
+pub returns-clause-prints : goal.returns-clause-prints
+returns-clause-prints c =
+    same_text (marks-is (author_marks document_bounds.authors (has c.args.forked) (has c.args.faulty))) (both c.put-opened.ensures (both c.lines-shown.ensures.prints c.put.ensures))
