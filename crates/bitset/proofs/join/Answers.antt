@@ -1,4 +1,3 @@
--- `join` meets its contract.
 use Rattle.std.proofs.Common.{rules}
 use Rattle.bitset.specs.Bits.{join}
 use Rattle.bitset.proofs.join.Goals as goal

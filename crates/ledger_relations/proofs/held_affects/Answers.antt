@@ -1,4 +1,3 @@
--- `held_affects` meets its contract.
 use Rattle.ledger_state.specs.View.{place_of}
 use Rattle.ledger_relations.proofs.Testing.{held-and, held-not}
 use Rattle.ledger_relations.proofs.held_affects.Goals as goal

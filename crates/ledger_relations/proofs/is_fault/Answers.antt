@@ -1,4 +1,3 @@
--- `is_fault` meets its contract.
 use Rattle.ledger_state.specs.View.{book_of}
 use Rattle.ledger_relations.proofs.Testing.{fault-ready, fault-none}
 use Rattle.ledger_relations.proofs.is_fault.Goals as goal

@@ -1,4 +1,3 @@
--- `is_forked` meets its contract.
 use Rattle.ledger_state.specs.State.{place_at}
 use Rattle.ledger_state.specs.View.{book_of}
 use Rattle.ledger_relations.specs.PlaceTests.{forked_at, forked_with, author_at, held_at}

@@ -1,4 +1,3 @@
--- `is_head` meets its contract.
 use mathlib.Core.Path.{ap}
 use mathlib.Core.Bool.{not}
 use Rattle.ledger_state.specs.State.{place_at}

@@ -1,4 +1,3 @@
--- `is_shown` meets its contract.
 use Rattle.ledger_state.specs.View.{book_of}
 use Rattle.ledger_relations.proofs.Testing.{shown-is}
 use Rattle.ledger_relations.proofs.is_shown.Goals as goal

@@ -1,4 +1,3 @@
--- `sound_place` meets its contract.
 use mathlib.Core.Path.{◌∙◌}
 use borrow.Author.Rules.{rules}
 use Rattle.ledger_row1.proofs.Row1Laws.{short, long, by-ancestors}

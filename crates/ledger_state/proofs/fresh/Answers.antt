@@ -1,4 +1,3 @@
--- `fresh` meets its contract.
 use mathlib.Core.Path.{refl}
 use Rattle.ledger_state.specs.View.{fresh_ledger}
 use Rattle.ledger_state.proofs.fresh.Goals as goal

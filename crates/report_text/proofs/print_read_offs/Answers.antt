@@ -1,4 +1,3 @@
--- `print_read_offs` meets its contract.
 use mathlib.Core.Path.{ap}
 use Rattle.ledger_state.specs.View.{book_of}
 use Rattle.report_text.specs.Parts.{marks_part, part_of}

@@ -1,4 +1,3 @@
--- `author_line` meets its contract.
 use Rattle.update_format.specs.Update.{document_bounds}
 use Rattle.update_format.specs.Decode.{decode}
 use Rattle.bytes_print.proofs.Printing.{both, same_text}

@@ -1,4 +1,3 @@
--- `bytes_line` meets its contract.
 use Rattle.bytes_print.proofs.Printing.{both, same_text}
 use Rattle.report_wording.proofs.LineLaws.{bytes-line}
 use Rattle.report_wording.proofs.bytes_line.Goals as goal

@@ -1,4 +1,3 @@
--- `mark_line` meets its contract.
 use Rattle.bytes_print.proofs.Printing.{both, same_text}
 use Rattle.report_wording.proofs.LineLaws.{mark-line}
 use Rattle.report_wording.proofs.mark_line.Goals as goal

@@ -1,4 +1,3 @@
--- `open_bytes` meets its contract.
 use Rattle.bytes_print.proofs.Printing.{both, same_text}
 use Rattle.report_wording.proofs.LineLaws.{open-bytes}
 use Rattle.report_wording.proofs.open_bytes.Goals as goal

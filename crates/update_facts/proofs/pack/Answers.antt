@@ -1,4 +1,3 @@
--- `pack` meets its contract.
 use native.Mathlib.Omega.{arith}
 use Rattle.update_facts.specs.Facts.{packed}
 use Rattle.update_facts.proofs.pack.Goals as goal

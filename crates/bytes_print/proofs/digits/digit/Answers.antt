@@ -1,4 +1,3 @@
--- `digit` meets its contract.
 use Rattle.std.proofs.Common.{◌+◌, Bool, cond, sym, ap, lt-ltb, le-ltb}
 use Rattle.bytes_ascii.specs.Ascii.{digit}
 use Rattle.bytes_print.proofs.digits.digit.Goals as goal

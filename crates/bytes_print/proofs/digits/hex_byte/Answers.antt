@@ -1,4 +1,3 @@
--- `hex_byte` meets its contract.
 use Rattle.std.proofs.Common.{ℕ, [], ◌∷◌, ap₂}
 use Rattle.bytes_ascii.specs.Ascii.{hex_byte}
 use Rattle.bytes_print.proofs.Printing.{same_text}

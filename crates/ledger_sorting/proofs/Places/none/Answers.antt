@@ -1,4 +1,3 @@
--- `none` meets its contract.
 use mathlib.Core.Path.{refl}
 use native.Mathlib.Omega.{arith}
 use Rattle.bytes_order.specs.Member.{all}

@@ -1,4 +1,3 @@
--- `insert_listed` meets its contract.
 use mathlib.Core.Path.{sym, ◌∙◌}
 use Rattle.ledger_state.specs.View.{book_of}
 use Rattle.ledger_sorting.proofs.Keys.{candidate-keyed}

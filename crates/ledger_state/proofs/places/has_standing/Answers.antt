@@ -1,4 +1,3 @@
--- `has_standing` meets its contract.
 use mathlib.Core.Path.{ap₂}
 use lib.Dec.{eqb}
 use Rattle.ledger_state.specs.Number.{has_standing}

@@ -1,4 +1,3 @@
--- `stored` meets its contract.
 use borrow.Author.Rules.{rules}
 use Rattle.ledger_state.specs.State.{start_of}
 use Rattle.ledger_state.proofs.store.stored.Goals as goal

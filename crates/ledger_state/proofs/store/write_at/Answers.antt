@@ -1,4 +1,3 @@
--- `write_at` meets its contract.
 use Prim.Native.Nat.{◌-◌}
 use native.Mathlib.Nat.{le_refl}
 use lib.ListN.{length}

@@ -1,4 +1,3 @@
--- `print` meets its contract.
 use Rattle.update_format.specs.Update.{document_bounds}
 use Rattle.bytes_print.proofs.Printing.{both, same_text}
 use Rattle.bitset.specs.Bits.{has}

@@ -1,4 +1,3 @@
--- `print` meets its contract.
 use Rattle.ledger_sorting.specs.PlaceLists.{places_in}
 use Rattle.bytes_print.proofs.Printing.{both, same_text}
 use Rattle.ledger_state.specs.View.{book_of}
