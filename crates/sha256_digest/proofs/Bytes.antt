@@ -74,10 +74,6 @@ word-written {p} {d} {d'} at x f h e k =
       front = rw (e, take-splice d (big_endian 4 x) at 4 (length-big_endian 4 x) (omega arith), f.front);
     }
 
--- k bytes have room in n where z are left over
-pub room : (k z : ℕ) {n : ℕ} → n ≡ k + z → k ≤ n
-room k z e = omega arith
-
 -- the eight words of a digest, written one after the other
 pub eight-written
     : (s : Working) {d1 d2 d3 d4 d5 d6 d7 d8 : List ℕ}

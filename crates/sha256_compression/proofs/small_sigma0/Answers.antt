@@ -1,0 +1,7 @@
+-- `small_sigma0` meets its contract: the definition, at what the rotations ensure.
+use Rattle.sha256_fips180.specs.Fips180.{σ₀}
+use Rattle.sha256_compression.proofs.small_sigma0.Goals as goal
+
+pub returns : goal.returns
+unfolding σ₀
+returns c = rw (c.rotr.ensures, c.rotr-2.ensures)
