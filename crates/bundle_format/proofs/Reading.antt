@@ -1,14 +1,13 @@
--- Reading a bundle from byte `at` on: the length there, whether the item is whole, its bytes; and counting the items.
+-- Reading a bundle from byte `at` on: the length there, where a whole item ends, its bytes; and counting the items.
 use Prim.Native.Nat.{ℕ, suc, ◌+◌, ◌-◌, ◌*◌, ◌≤◌, ◌<◌}
 use native.Mathlib.Omega.{arith}
 use mathlib.Core.Path.{◌≡◌, refl, sym, ap, ◌∙◌}
 use mathlib.Core.List.{List, ◌∷◌}
 use mathlib.Core.Option.{Option, none, some}
-use mathlib.Core.Bool.{Bool, true, false}
+use mathlib.Core.Bool.{true, false}
 use lib.ListN.{length, get_or, take, drop, length-drop}
 use lib.Seq.{drop-cons, drop-drop}
-use lib.Dec.{leb}
-use borrow.Author.Tests.{leb-true, leb-false, le-leb, lt-leb}
+use borrow.Author.Tests.{leb-true}
 use Rattle.bytes_words.specs.Words.{big_of}
 use Rattle.bundle_format.specs.Bundle.{length_bytes, most_items, first_length, first_item, after_first, first_whole, with_first, items_within, items_of}
 use Rattle.bundle_format.specs.Counted.{length_of}
@@ -27,18 +26,6 @@ module _ (b : List ℕ) (at : ℕ) where
 
   left-length : length (drop at b) ≡ length b - at
   left-length = length-drop at b
-
-  pub not-whole : length b - at < length_bytes → false ≡ first_whole (drop at b)
-  not-whole h = sym (lt-leb (length_bytes + first_length (drop at b)) (length (drop at b)) (omega (arith, left-length)))
-
-  pub whole_by : {n : ℕ} → n ≡ first_length (drop at b) → length_bytes ≤ length b - at → leb n (length b - at - length_bytes) ≡ first_whole (drop at b)
-  whole_by {n} e h = by-test (leb n (length b - at - length_bytes)) refl
-    where
-      by-test : (t : Bool) → leb n (length b - at - length_bytes) ≡ t → t ≡ first_whole (drop at b)
-      by-test true q =
-          sym (le-leb (length_bytes + first_length (drop at b)) (length (drop at b)) (omega (arith, e, left-length, leb-true n (length b - at - length_bytes) q)))
-      by-test false q =
-          sym (lt-leb (length_bytes + first_length (drop at b)) (length (drop at b)) (omega (arith, e, left-length, leb-false n (length b - at - length_bytes) q)))
 
   -- an item that is whole ends within the bundle
   pub whole-within : at ≤ length b → first_whole (drop at b) ≡ true → at + (length_bytes + first_length (drop at b)) ≤ length b

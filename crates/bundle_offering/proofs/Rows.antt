@@ -18,7 +18,7 @@ use Rattle.ledger_refusals.specs.declared.Refusal.TheVariants.{Unfit, Short, Bun
 use Rattle.bundle_offering.specs.declared.Bundled.TheVariants.{Answered}
 use Rattle.bundle_offering.specs.declared.BundleOffered.{BundleOffered}
 use Rattle.bundle_answers.specs.AnswerBytes.{answer_length}
-use Rattle.bundle_offering.specs.Bundle.{refused_bundle, unfit, no_bundle, short, answered, Bundling, Offerable, AllOffered}
+use Rattle.bundle_offering.specs.Bundle.{refused_bundle, unfit, no_bundle, short, answered, Bundling, AllOffered}
 
 -- by what counting the items answered
 none-counted : (o : Option (List (List ℕ))) → none ≡ length_of o → o ≡ none
@@ -49,15 +49,6 @@ module _ (l : Ledger) (s b o : List ℕ) (fits : sound (book_of l) s ≡ true) {
 
     pub bundle-short : length o < answer_length * n → {x : BundleOffered} → x ≡ refused_bundle l Short → Bundling l s b o x s o
     bundle-short h e = rw e (short has-items.0 fits has-items.1 (subst (λ (k : ℕ). length o < answer_length * k) (number_of has-items.1) h))
-
-    pub offerable : answer_length * n ≤ length o → Offerable (book_of l) s b o
-    offerable h =
-        record {
-          is_sound = fits;
-          items = has-items.0;
-          read = has-items.1;
-          fits = subst (λ (k : ℕ). answer_length * k ≤ length o) (number_of has-items.1) h;
-        }
 
     pub bundle-answered : answer_length * n ≤ length o → {l' : Ledger} {s' o' : List ℕ} → AllOffered l s b o l' s' o'
         → Bundling l s b o (record { answer = Answered (answer_length * n); ledger = l' }) s' o'

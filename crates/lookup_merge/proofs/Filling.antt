@@ -3,7 +3,7 @@ use Prim.Native.Nat.{ℕ, suc, ◌+◌, ◌-◌, ◌≤◌, ◌<◌}
 use mathlib.Core.Path.{◌≡◌, sym, ap, ap₂, ◌∙◌}
 use mathlib.Core.List.{List, [], ◌∷◌, ◌++◌, append_assoc}
 use native.Mathlib.Omega.{arith}
-use lib.ListN.{length, get_or, take, drop, set, replicate, length-append, length-replicate, replicate-append-replicate, take-append-drop}
+use lib.ListN.{length, get_or, take, drop, set, replicate, length-append, length-replicate, replicate-append-replicate}
 use lib.Seq.{length-take-le, drop-cons, set_at}
 use Rattle.bytes_copy.specs.Overwritten.{overwritten}
 
@@ -14,12 +14,6 @@ module _ (o : List ℕ) (from b : ℕ) where
 
   filled-as : (n : ℕ) → filled n ≡ take from o ++ (replicate n b ++ drop (from + n) o)
   filled-as n = ap (λ (m : ℕ). take from o ++ (replicate n b ++ drop (from + m) o)) (length-replicate n b)
-
-  pub filled_none : o ≡ filled (from - from)
-  filled_none =
-      let e : from - from ≡ 0 = omega arith in
-      let f : from + 0 ≡ from = omega arith in
-      sym (ap filled e ∙ filled-as 0 ∙ ap (λ (m : ℕ). take from o ++ drop m o) f ∙ take-append-drop from o)
 
   -- one more
   pub filled_more : (k : ℕ) → from ≤ k → k < length o → set (filled (k - from)) k b ≡ filled (k + 1 - from)

@@ -1,6 +1,6 @@
 -- What holds at each turn of the walk's loop, and what each step keeps.
 use Prim.Native.Nat.{ℕ, suc, ◌+◌, ◌≤◌, ◌<◌}
-use mathlib.Core.Path.{◌≡◌, refl, sym, ap, ◌∙◌}
+use mathlib.Core.Path.{◌≡◌, sym, ap, ◌∙◌}
 use mathlib.Core.List.{List, [], ◌∷◌, ◌++◌, map}
 use native.Mathlib.Omega.{arith}
 use native.Mathlib.Numerals.{add-one}
@@ -10,7 +10,7 @@ use Rattle.bytes_order.specs.Compare.{order_of}
 use Rattle.bytes_order.specs.declared.Order.TheVariants.{Less, Equal, Greater}
 use Rattle.update_format.specs.Decode.{id_count, ids_in}
 use Rattle.standing_bytes.specs.StandingByte.{unknown_byte}
-use Rattle.lookup_merge.specs.Merge.{Merged, merge}
+use Rattle.lookup_merge.specs.Merge.{merge}
 use Rattle.lookup_merge.specs.Layout.{stored_in}
 use Rattle.lookup_merge.specs.Merging.{Walks}
 use Rattle.lookup_merge.specs.StepLaws.{after, left, stored_at, asked_at, stored-passed, both-passed, asked-passed, stored-ended, asked-ended}
@@ -31,20 +31,6 @@ drop_more o o' j e =
     f o' ∙ ap (drop 1) e ∙ sym (f o)
 
 module _ (ids bs a o : List ℕ) where
-  pub walking_start : Walking ids bs a o 0 0 0 o
-  walking_start =
-      record {
-        stored_within = omega arith;
-        asked_within = omega arith;
-        size_kept = refl;
-        rest_kept = refl;
-        few = omega arith;
-        walked = start (merge (stored_in ids bs) (ids_in a));
-      }
-    where
-      start : (m : Merged) → m ≡ after [] 0 m
-      start m = let e : m.comparisons ≡ 0 + m.comparisons = omega arith in ap (λ (c : ℕ). record { answers = m.answers; comparisons = c }) e
-
   module _ {i j n : ℕ} {o' : List ℕ} (w : Walking ids bs a o i j n o') where
     pub walking-stored : i < length bs → j < id_count a → order_of (stored_at ids bs a i) (asked_at ids bs a j) ≡ Less → Walking ids bs a o (i + 1) j (n + 1) o'
     walking-stored h k e =
