@@ -6,19 +6,12 @@ use mathlib.Core.List.{List}
 use mathlib.Core.Option.{Option, none, some}
 use lib.ListN.{length, take, drop}
 use Rattle.command_syntax.specs.declared.Line.{Line}
-use Rattle.command_syntax.specs.declared.Line.TheVariants.{Offered, Unread}
+use Rattle.command_syntax.specs.declared.Line.TheVariants.{Offered}
 use Rattle.command_syntax.specs.Syntax.{unhex, max_offered}
 use Rattle.command_syntax.specs.Line.{line_in, line_for, Spells}
 use Rattle.command_syntax.specs.LineLaws.{line_in-spells}
 
 module _ (buffer : List ℕ) (fill : ℕ) {r : Line} (reads : r ≡ line_for (line_in buffer fill)) where
-  pub read_none : r ≡ Unread → line_in buffer fill ≡ none
-  read_none q = go (line_in buffer fill) (sym reads ∙ q)
-    where
-      go : (o : Option (List ℕ)) → line_for o ≡ Unread → o ≡ none
-      go none e = refl
-      go (some b) e = let z : ◌≡◌ {A = ℕ} 0 1 = cc in absurd (omega arith)
-
   read_some : (n : ℕ) → r ≡ Offered n → (b : List ℕ) × (line_in buffer fill ≡ some b) × (length b ≡ n)
   read_some n q = go (line_in buffer fill) (sym reads ∙ q)
     where

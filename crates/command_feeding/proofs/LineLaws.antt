@@ -53,9 +53,6 @@ module _ (buffer : List ℕ) (fill : ℕ) (update : List ℕ) {x : Line} (reads 
     read_some : (line_in buffer fill ≡ some (take n update)) × (n ≤ length update)
     read_some = subst (λ (y : Line). ReadsOffer buffer fill y update) q reads
 
-    pub offer-inside : n ≤ length update
-    offer-inside = read_some.1
-
     pub answer-offered : {l : Ledger} {s s' : List ℕ} {r : Offered} → Offering l s (take n update) r s'
         → Answers l s (line_in buffer fill) (record { ledger = r.ledger; reply = Replied r.answer }) s'
     answer-offered {l} {s} {s'} {r} o =

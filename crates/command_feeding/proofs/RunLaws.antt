@@ -1,6 +1,6 @@
 -- Feeding, turn after turn: what was done once some of the input is consumed and some of the output is written; and what that comes to at the end.
 use mathlib.Core.Path.{◌≡◌, refl, sym, ap, subst₂, ◌∙◌}
-use Prim.Native.Nat.{ℕ, ◌+◌, ◌-◌, ◌*◌, ◌≤◌, ◌<◌}
+use Prim.Native.Nat.{ℕ, ◌+◌, ◌*◌, ◌≤◌, ◌<◌}
 use native.Mathlib.Omega.{arith}
 use mathlib.Core.Bool.{true, false}
 use mathlib.Core.List.{List, ◌++◌}
@@ -14,7 +14,7 @@ use Rattle.command_syntax.specs.Line.{line_in}
 use Rattle.command_answers.specs.Answers.{max_answer, reply_text}
 use Rattle.command_feeding.specs.declared.Answered.{Answered}
 use Rattle.command_feeding.specs.Answering.{Answers}
-use Rattle.command_feeding.specs.Feeding.{Moves, Feeds}
+use Rattle.command_feeding.specs.Feeding.{Moves}
 use Rattle.command_feeding.specs.FeedLaws.{moves-none, moves-then}
 use Rattle.command_feeding.proofs.OutLaws.{Extends, extends-none, extends-printed, part_from, with_part, part-is, part_length}
 use Rattle.command_feeding.proofs.TurnLaws.{turn-text, turn-line}
@@ -76,10 +76,6 @@ module _ {l : Ledger} {s buffer input out : List ℕ} {fill : ℕ} where
       left : 0 < length (part_from input consumed)
       left = omega (arith, part_length input consumed run.within_input)
 
-      -- less is left of the input
-      pub run-less : length input - (consumed + a.consumed) < length input - consumed
-      run-less = omega (arith, t.some_taken left)
-
       -- the line goes on
       pub run-text : a.ended ≡ false → Running l s buffer fill input out l₁ s₁ buffer₂ out₁ a.fill (consumed + a.consumed) written
       run-text e =
@@ -94,31 +90,3 @@ module _ {l : Ledger} {s buffer input out : List ℕ} {fill : ℕ} where
       run-line e w sk p few room =
           run-turn (turn-line t e w.answers) (extends-printed out₁ written (omega arith) p (omega arith)) (t.some_taken left) t.within
           (omega (arith, p.past)) sk bk
-
-    -- all is consumed
-    pub run_ends : length input ≤ consumed
-        → Feeds l s buffer fill input out (record { ledger = l₁; fill = fill₁; consumed = consumed; written = written; refused = false }) s₁ buffer₁ out₁
-    run_ends h =
-        record {
-          accepted = refl;
-          within_input = run.within_input;
-          within_out = run.within_out;
-          goes_on = λ g. omega (arith, run.within_input);
-          some_consumed = λ g j. omega arith;
-          rest_kept = run.rest_kept;
-          moves = run.moves;
-        }
-
-    -- there is no room for another answer
-    pub run-full : length out < written + max_answer
-        → Feeds l s buffer fill input out (record { ledger = l₁; fill = fill₁; consumed = consumed; written = written; refused = false }) s₁ buffer₁ out₁
-    run-full h =
-        record {
-          accepted = refl;
-          within_input = run.within_input;
-          within_out = run.within_out;
-          goes_on = λ g. absurd (omega arith);
-          some_consumed = λ g j. omega (arith, run.slow);
-          rest_kept = run.rest_kept;
-          moves = run.moves;
-        }

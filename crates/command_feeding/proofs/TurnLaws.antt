@@ -6,7 +6,6 @@ use mathlib.Core.Option.{Option}
 use mathlib.Core.Bool.{Bool, true, false}
 use lib.ListN.{take}
 use Rattle.ledger_state.specs.declared.Ledger.{Ledger}
-use Rattle.command_syntax.specs.Syntax.{read_line}
 use Rattle.command_syntax.specs.Line.{line_in}
 use Rattle.command_lines.specs.declared.Assembled.{Assembled}
 use Rattle.command_lines.specs.Lines.{Keeps, TakesLine, ending}

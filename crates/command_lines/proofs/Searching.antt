@@ -1,16 +1,16 @@
 -- The search for the first newline: what is known of the bytes that were passed.
-use Prim.Native.Nat.{ℕ, ◌+◌, ◌-◌, ◌≤◌, ◌<◌}
+use Prim.Native.Nat.{ℕ, ◌+◌, ◌-◌, ◌<◌}
 use native.Mathlib.Omega.{arith}
 use native.Mathlib.Numerals.{add-one}
 use mathlib.Core.Path.{◌≡◌, refl, sym, ◌∙◌, ap, ap₂}
 use mathlib.Core.List.{List, [], ◌∷◌, ◌++◌}
 use mathlib.Core.Bool.{Bool, true, false, ◌||◌}
 use lib.ListN.{length, get_or, take, drop}
-use lib.Seq.{take-suc, take-add, drop-cons}
+use lib.Seq.{take-suc, take-add}
 use lib.Dec.{eqb}
 use borrow.Author.Tests.{eq-eqb, ne_eqb}
 use Rattle.bytes_order.specs.Member.{any}
-use Rattle.command_lines.specs.Lines.{broken, FirstNewline}
+use Rattle.command_lines.specs.Lines.{broken}
 
 any_append : {A : Type 0} (p : A → Bool) (xs ys : List A) → any p (xs ++ ys) ≡ (any p xs || any p ys)
 unfolding any
@@ -55,15 +55,3 @@ block-passed xs at n e f =
     ap broken (take-add at n xs)
     ∙ any_append (λ (b : ℕ). eqb b 10) (take at xs) (take n (drop at xs))
     ∙ ap₂ (λ (a b : Bool). a || b) e (ap (λ (m : ℕ). broken (take m (drop at xs))) (sym k) ∙ f)
-
--- where the search ends
-pub at-end : (xs : List ℕ) (at : ℕ) → at ≤ length xs → broken (take at xs) ≡ false → length xs ≤ at → FirstNewline xs at
-at-end xs at h e g = record { within = h; none_before = e; here = λ k. absurd (omega arith) }
-
-pub at-newline : (xs : List ℕ) (at : ℕ) → at ≤ length xs → broken (take at xs) ≡ false → get_or xs at 0 ≡ 10 → FirstNewline xs at
-at-newline xs at h e g =
-    record {
-      within = h;
-      none_before = e;
-      here = λ k. drop-cons xs at 0 k ∙ ap₂ (λ (b n : ℕ). b ∷ drop n xs) g (sym (add-one at));
-    }

@@ -4,11 +4,11 @@ use Prim.Native.Nat.{ℕ, ◌≤◌}
 use native.Mathlib.Omega.{arith}
 use mathlib.Core.List.{List, [], ◌∷◌, ◌++◌, append-nil, append_assoc}
 use mathlib.Core.Option.{Option}
-use lib.ListN.{length, take, drop, length-append, length-drop, take-append-drop, drop_of_length-le}
+use lib.ListN.{length, take, drop, take-append-drop, drop_of_length-le}
 use lib.Seq.{length-take-le, drop-append-le}
 use Rattle.ledger_state.specs.declared.Ledger.{Ledger}
 use Rattle.ledger_state.specs.View.{book_of}
-use Rattle.command_syntax.specs.Syntax.{max_line, read_line}
+use Rattle.command_syntax.specs.Syntax.{max_line}
 use Rattle.command_lines.specs.KeepLaws.{keeps-unbegun, keeps-begun}
 use Rattle.command_answers.specs.Answers.{max_answer}
 use Rattle.command_feeding.specs.declared.Fed.{Fed}
@@ -53,9 +53,6 @@ module _ {l : Ledger} {s buffer : List ℕ} {fill : ℕ} (out : List ℕ) (sized
 
     long : length o ≡ max_answer
     long = kept ∙ length-take-le max_answer out (omega arith)
-
-    pub end-inside : r.written ≤ length (o ++ drop max_answer out)
-    end-inside = omega (arith, f.within_out, kept, length-append o (drop max_answer out))
 
     abbrev put : List ℕ
     put = take r.written o

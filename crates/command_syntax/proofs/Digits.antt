@@ -1,46 +1,20 @@
 -- The digits of a line: their values, the test that all are digits, and the bytes spelled so far.
-use Prim.Native.Nat.{ℕ, suc, ◌+◌, ◌-◌, ◌*◌, ◌≤◌, ◌<◌, max}
+use Prim.Native.Nat.{ℕ, suc, ◌+◌, ◌*◌, ◌<◌, max}
 use native.Mathlib.Omega.{arith}
 use native.Mathlib.Numerals.{add-one}
 use mathlib.Core.Path.{◌≡◌, refl, sym, ◌∙◌, ap, ap₂}
 use mathlib.Core.List.{List, [], ◌∷◌, ◌++◌}
 use mathlib.Core.Option.{some, some-injective}
-use mathlib.Core.Bool.{Bool, true, false, cond, ◌&&◌}
+use mathlib.Core.Bool.{Bool, true, false, ◌&&◌}
 use lib.ListN.{length, get_or, set, take, drop, length-drop}
 use lib.Seq.{take-suc, take-suc-set, take-add, drop-cons, drop-drop, get_or-take, get_or-drop, length-take-le}
-use lib.Dec.{ltb, leb}
-use borrow.Author.Tests.{ltb-true, ltb-false, lt-ltb, le-ltb, le-leb, lt-leb}
+use lib.Dec.{ltb}
+use borrow.Author.Tests.{ltb-true, ltb-false, lt-ltb, le-ltb}
 use Rattle.bytes_order.specs.Member.{all}
-use Rattle.bytes_order.specs.BoolLaws.{and-true}
 use Rattle.bytes_order.specs.MemberLaws.{all→∈, get_or-∈}
 use Rattle.command_syntax.specs.Syntax.{unhex}
 use Rattle.command_syntax.specs.Line.{digit_value, Spells}
 use Rattle.command_syntax.specs.LineLaws.{is_digit, none≢some, unhex-more, unhex-begins, unhex-digits}
-
--- a byte between two others, by its tests
-module _ (lo hi b : ℕ) where
-  pub between : lo ≤ b → leb b hi ≡ true → (leb lo b && leb b hi) ≡ true
-  between h e = and-true (leb lo b) (leb b hi) (le-leb lo b h) e
-
-  pub above : lo ≤ b → leb b hi ≡ false → (leb lo b && leb b hi) ≡ false
-  above h e = ap₂ (λ (p q : Bool). p && q) (le-leb lo b h) e
-
-  pub below : b < lo → (leb lo b && leb b hi) ≡ false
-  below h = ap (λ (p : Bool). p && leb b hi) (lt-leb lo b h)
-
--- the value of a digit, by the tests
-module _ (b : ℕ) where
-  valued : {p q : Bool} → (leb 48 b && leb b 57) ≡ p → (leb 97 b && leb b 102) ≡ q → cond p (b - 48) (cond q (b - 87) 16) ≡ digit_value b
-  valued e f = sym (ap₂ (λ (p q : Bool). cond p (b - 48) (cond q (b - 87) 16)) e f)
-
-  pub numeral : (leb 48 b && leb b 57) ≡ true → b - 48 ≡ digit_value b
-  numeral e = valued e refl
-
-  pub letter : (leb 48 b && leb b 57) ≡ false → (leb 97 b && leb b 102) ≡ true → b - 87 ≡ digit_value b
-  letter e f = valued e f
-
-  pub no_digit : (leb 48 b && leb b 57) ≡ false → (leb 97 b && leb b 102) ≡ false → 16 ≡ digit_value b
-  no_digit e f = valued e f
 
 all_append : {A : Type 0} (p : A → Bool) (xs ys : List A) → all p (xs ++ ys) ≡ (all p xs && all p ys)
 unfolding all

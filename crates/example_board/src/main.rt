@@ -3,7 +3,9 @@
 
 use ledger::{Refusal, Reported};
 use ledger_state::STORE_LENGTH;
-use libc::STDOUT_FILENO;
+
+// The descriptor of standard output.
+const STDOUT_FILENO: i32 = 1;
 
 fn main() {
     // A ledger goes in by value and the new one comes back; the bytes of its updates lie in the store.

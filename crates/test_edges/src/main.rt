@@ -14,9 +14,11 @@ use commands::{
     SHORT, SPREAD, STORE, VIEW, WRITE, command,
 };
 use ledger::{Form, Ledger};
-use libc::STDIN_FILENO;
 use plain::{BUFFER_ROOM, FILL, STORE_ROOM, fill, prepare};
 use test_script::{LENGTHS, ROOM, bytes_of, find, lend, slot, word};
+
+// The descriptor of standard input.
+const STDIN_FILENO: i32 = 0;
 
 const NEWLINE: u8 = 10;
 

@@ -2,10 +2,12 @@
 ghost use Rattle.std.specs.Prelude.{◌<◌, ◌≤◌};
 
 use ledger::{ANSWER_LENGTH, Answer, Asked, Bundled, LookedUp, Refusal, Standing};
-use libc::STDOUT_FILENO;
 use replicas_check::Compared;
 use rules::CausalOrder;
 use update_format::{ParseResult, slice_of};
+
+// The descriptor of standard output.
+const STDOUT_FILENO: i32 = 1;
 
 pub fn text(s: &[u8]) {
     io::write_all(STDOUT_FILENO, s);
