@@ -11,6 +11,8 @@ use command_streams::{Input, Moved};
 use command_syntax::MAX_LINE;
 use ledger::Ledger;
 use ledger_state::STORE_LENGTH;
+use std::io::Input as StandardInput;
+use std::rt::Clock;
 
 // How many bytes are read, and written, at a time.
 const CHUNK: usize = 65536;
@@ -60,7 +62,8 @@ fn max_input() -> usize
 }
 
 // Feeds the chunk from byte `at` on, as far as there is room for answers, and writes what that puts out.
-fn hand_on(
+fn hand_on<R: Print + Clock>(
+    rt: &R,
     ledger: Ledger,
     store: &mut [u8],
     line: &mut [u8],
@@ -74,7 +77,7 @@ fn hand_on(
 {
     let f = command_session::feed(ledger, store, line, fill, &chunk[at..], out);
     let written = f.written;
-    let m = command_streams::write_all(&out[..written]);
+    let m = command_streams::write_all(rt, &out[..written]);
     Handed {
         fed: f,
         taken: m.count,
@@ -83,7 +86,8 @@ fn hand_on(
 }
 
 // Feeds a chunk, and writes what it puts out. Each turn has room for an answer, and so consumes some of the chunk.
-fn pass_on(
+fn pass_on<R: Print + Clock>(
+    rt: &R,
     ledger: Ledger,
     store: &mut [u8],
     line: &mut [u8],
@@ -98,7 +102,7 @@ fn pass_on(
     let mut length = fill;
     let mut at: usize = 0;
     while at < chunk.len() {
-        let h = hand_on(current, store, line, length, chunk, at, out);
+        let h = hand_on(rt, current, store, line, length, chunk, at, out);
         let f = h.fed;
         let next = f.ledger;
         current = next;
@@ -135,10 +139,10 @@ fn next_state(p: Passed, i: Input) -> State
 }
 
 // The beginning: a fresh ledger, no line, and the first bytes of the input.
-fn begin(chunk: &mut [u8]) -> State
+fn begin<R: StandardInput + Clock>(rt: &R, chunk: &mut [u8]) -> State
     ensures { BeginsRun result chunk.new }
 {
-    let i = command_streams::read_some(max_input(), chunk);
+    let i = command_streams::read_some(rt, max_input(), chunk);
     let ledger = ledger::fresh();
     let p = Passed {
         ledger: ledger,
@@ -149,13 +153,20 @@ fn begin(chunk: &mut [u8]) -> State
 }
 
 // Feeds what was read last, and reads on, unless a write failed.
-fn step(state: State, store: &mut [u8], line: &mut [u8], chunk: &mut [u8], out: &mut [u8]) -> State
+fn step<R: StandardInput + Print + Clock>(
+    rt: &R,
+    state: State,
+    store: &mut [u8],
+    line: &mut [u8],
+    chunk: &mut [u8],
+    out: &mut [u8],
+) -> State
     requires { StepReady state line.old chunk.old out.old }
     ensures { Steps state store.old line.old chunk.old result store.new line.new chunk.new }
 {
     let ledger = state.ledger;
     let got = state.got;
-    let p = pass_on(ledger, store, line, state.fill, &chunk[..got], out);
+    let p = pass_on(rt, ledger, store, line, state.fill, &chunk[..got], out);
     if p.error != 0 {
         let none = Input {
             got: 0,
@@ -164,17 +175,24 @@ fn step(state: State, store: &mut [u8], line: &mut [u8], chunk: &mut [u8], out: 
         };
         return next_state(p, none);
     }
-    let i = command_streams::read_some(state.left, chunk);
+    let i = command_streams::read_some(rt, state.left, chunk);
     next_state(p, i)
 }
 
 // The end of the input. With room for the longest end, there always is a report (`command-output`, specs/CommandLaws).
-fn end(ledger: Ledger, store: &mut [u8], line: &[u8], fill: usize, out: &mut [u8]) -> Moved
+fn end<R: Print + Clock>(
+    rt: &R,
+    ledger: Ledger,
+    store: &mut [u8],
+    line: &[u8],
+    fill: usize,
+    out: &mut [u8],
+) -> Moved
     ensures { Ends ledger store.old line.now fill out.old result store.new out.new }
 {
     let finished = command_session::finish(ledger, store, line, fill, out);
     let n = finished.written();
-    command_streams::write_all(&out[..n])
+    command_streams::write_all(rt, &out[..n])
 }
 
 // What the command came to, of the last state and of what the last write came to.
@@ -190,13 +208,19 @@ fn ended_by(state: State, m: Moved) -> Ended
 }
 
 // Reads, feeds and writes, up to the limit.
-fn run_on(store: &mut [u8], line: &mut [u8], chunk: &mut [u8], out: &mut [u8]) -> Ended
+fn run_on<R: StandardInput + Print + Clock>(
+    rt: &R,
+    store: &mut [u8],
+    line: &mut [u8],
+    chunk: &mut [u8],
+    out: &mut [u8],
+) -> Ended
     requires { Lent store.old line.old out.old }
     ensures { Runs store.old line.old result store.new line.new out.new }
 {
-    let mut state = begin(chunk);
+    let mut state = begin(rt, chunk);
     while 0 < state.got {
-        state = step(state, store, line, chunk, out);
+        state = step(rt, state, store, line, chunk, out);
     }
     if state.writing != 0 {
         let none = Moved {
@@ -206,17 +230,17 @@ fn run_on(store: &mut [u8], line: &mut [u8], chunk: &mut [u8], out: &mut [u8]) -
         return ended_by(state, none);
     }
     let ledger = state.ledger;
-    let m = end(ledger, store, line, state.fill, out);
+    let m = end(rt, ledger, store, line, state.fill, out);
     ended_by(state, m)
 }
 
 // The command, from a fresh ledger to the report.
-pub fn run() -> Ended
+pub fn run<R: StandardInput + Print + Clock>(rt: &R) -> Ended
     ensures { Commands result }
 {
     let mut store = [0u8; STORE_LENGTH];
     let mut line = [0u8; MAX_LINE];
     let mut chunk = [0u8; CHUNK];
     let mut out = [0u8; CHUNK];
-    run_on(&mut store, &mut line, &mut chunk, &mut out)
+    run_on(rt, &mut store, &mut line, &mut chunk, &mut out)
 }

@@ -1,12 +1,21 @@
-// Standard input and output by the C library's calls. A call that was interrupted, or that would block, is made again. No contract can say which bytes a call of C
+// Standard input and output by std's single reads and writes. A call that was interrupted, or that would block, is made again. No contract can say which bytes a call
 // reads or writes, nor that it is made: these say what is made of its answer. Each function that makes a call hands the answer to one that makes none.
 #![tactic(auto)]
 
-ghost use Rattle.std.specs.Prelude.{◌≡◌, ◌+◌, ◌^◌, ◌≤◌, ◌<◌, length};
+ghost use Rattle.std.specs.Prelude.{◌≡◌, ◌+◌, ◌-◌, ◌^◌, ◌≤◌, ◌<◌, min, pos, negsuc, length, unwrap_or, MatchResult};
+ghost use Rattle.std.specs.IoError.{raw_os_error};
 ghost use Rattle.command_streams.specs.Streams.{passing, error_of, came_to, took_some, lasting, taken_from, taken_after, MovesAtMost, TakesSome, ReadsAgain, WritesAgain, Reads, Writes};
 
-use libc::types::timespec;
-use libc::{EAGAIN, EINTR, EIO, STDERR_FILENO, STDIN_FILENO, STDOUT_FILENO};
+use std::io::{Input as StandardInput, Read, Result};
+use std::rt::Clock;
+use std::time::Duration;
+
+// Numbers of C's errno, on Linux: of a call that was interrupted, of one that would block, and of an input or output error.
+const EINTR: i32 = 4;
+
+const EAGAIN: i32 = 11;
+
+const EIO: i32 = 5;
 
 // What a call came to: how many bytes, and the number of its error, 0 where there was none.
 #[derive(Clone, Copy)]
@@ -48,17 +57,29 @@ fn came_to(answer: isize, errno: i32, bytes: &[u8]) -> Moved
     }
 }
 
-// Waits for a millisecond, or until a signal.
-fn pause() {
-    let asked = timespec {
-        tv_sec: 0,
-        tv_nsec: 1000000,
-    };
-    let mut left = timespec {
-        tv_sec: 0,
-        tv_nsec: 0,
-    };
-    libc::nanosleep(&asked, &mut left);
+// The answer of C's call, of what std's call over it gave: how many bytes, which are never more than the largest `isize`, or a number below 0 where it failed.
+fn answer_of(called: &Result<usize>) -> isize
+    ensures { MatchResult called.now (λ n. result ≡ pos (min n (2 ^ 63 - 1))) (λ _. result ≡ negsuc 0) }
+{
+    match called {
+        Ok(n) => isize::try_from(*n).unwrap_or(isize::MAX),
+        Err(_) => -1,
+    }
+}
+
+// C's errno, of what std's call gave: 0 where it did not fail, or its error has none.
+fn errno_of(called: &Result<usize>) -> i32
+    ensures { MatchResult called.now (λ _. result ≡ pos 0) (λ e. result ≡ unwrap_or (raw_os_error e) (pos 0)) }
+{
+    match called {
+        Ok(_) => 0,
+        Err(e) => e.raw_os_error().unwrap_or(0),
+    }
+}
+
+// Waits for a millisecond.
+fn pause<R: Clock>(rt: &R) {
+    rt.sleep(Duration::from_millis(1));
 }
 
 // Whether a call with this error is made again: it was interrupted, or would block.
@@ -69,9 +90,9 @@ fn is_passing(error: u64) -> bool
 }
 
 // Waits where a call would block, before it is made again.
-fn wait(error: u64) {
+fn wait<R: Clock>(rt: &R, error: u64) {
     if error == EAGAIN as u64 {
-        pause();
+        pause(rt);
     }
 }
 
@@ -89,23 +110,23 @@ fn lasting(m: Moved) -> Moved
 }
 
 // One read.
-fn try_read(buffer: &mut [u8]) -> Moved
+fn try_read<R: StandardInput>(rt: &R, buffer: &mut [u8]) -> Moved
     ensures { MovesAtMost (length buffer.new) result }
 {
-    let got = libc::read(STDIN_FILENO, buffer);
-    let errno = os::errno();
-    came_to(got, errno, buffer)
+    let mut input = rt.reader();
+    let got = input.read(buffer);
+    came_to(answer_of(&got), errno_of(&got), buffer)
 }
 
 // A read, made again while its error passes. A proved loop has to end, so it counts its turns down, from a number that no run uses up.
-fn read_again(buffer: &mut [u8]) -> Moved
+fn read_again<R: StandardInput + Clock>(rt: &R, buffer: &mut [u8]) -> Moved
     ensures { ReadsAgain (length buffer.new) result }
 {
     let mut turns = u64::MAX;
-    let mut moved = try_read(buffer);
+    let mut moved = try_read(rt, buffer);
     while turns > 0 && is_passing(moved.error) {
-        wait(moved.error);
-        moved = try_read(buffer);
+        wait(rt, moved.error);
+        moved = try_read(rt, buffer);
         turns -= 1;
     }
     lasting(moved)
@@ -131,11 +152,11 @@ fn taken_from(left: usize, read: Moved) -> Input
 }
 
 // Reads once from standard input into the buffer, where the limit leaves `left` bytes to be read.
-pub fn read_some(left: usize, buffer: &mut [u8]) -> Input
+pub fn read_some<R: StandardInput + Clock>(rt: &R, left: usize, buffer: &mut [u8]) -> Input
     ensures { Reads left (length buffer.new) result }
 {
     let most = least(left, buffer.len());
-    let m = read_again(&mut buffer[..most]);
+    let m = read_again(rt, &mut buffer[..most]);
     taken_from(left, m)
 }
 
@@ -156,23 +177,22 @@ fn took_some(m: Moved) -> Moved
 }
 
 // One write.
-fn try_write(bytes: &[u8]) -> Moved
+fn try_write<R: Print>(rt: &R, bytes: &[u8]) -> Moved
     ensures { TakesSome (length bytes.now) result }
 {
-    let took = libc::write(STDOUT_FILENO, bytes);
-    let errno = os::errno();
-    took_some(came_to(took, errno, bytes))
+    let took = rt.write_some(bytes);
+    took_some(came_to(answer_of(&took), errno_of(&took), bytes))
 }
 
 // A write, made again while its error passes.
-fn write_again(bytes: &[u8]) -> Moved
+fn write_again<R: Print + Clock>(rt: &R, bytes: &[u8]) -> Moved
     ensures { WritesAgain (length bytes.now) result }
 {
     let mut turns = u64::MAX;
-    let mut moved = try_write(bytes);
+    let mut moved = try_write(rt, bytes);
     while turns > 0 && is_passing(moved.error) {
-        wait(moved.error);
-        moved = try_write(bytes);
+        wait(rt, moved.error);
+        moved = try_write(rt, bytes);
         turns -= 1;
     }
     lasting(moved)
@@ -191,12 +211,12 @@ fn taken_after(at: usize, wrote: Moved) -> Moved
 }
 
 // Writes the bytes to standard output, from the first on, until all are taken or a write fails.
-pub fn write_all(bytes: &[u8]) -> Moved
+pub fn write_all<R: Print + Clock>(rt: &R, bytes: &[u8]) -> Moved
     ensures { Writes (length bytes.now) result.count result.error }
 {
     let mut at: usize = 0;
     while at < bytes.len() {
-        let m = write_again(&bytes[at..]);
+        let m = write_again(rt, &bytes[at..]);
         let done = taken_after(at, m);
         if done.error != 0 {
             return done;
@@ -209,9 +229,11 @@ pub fn write_all(bytes: &[u8]) -> Moved
     }
 }
 
-// A line on standard error: the words before the error's number, the number, and the words after it.
-pub fn tell(before: &[u8], error: u64, after: &[u8]) {
-    io::write_all(STDERR_FILENO, before);
-    io::print_decimal(STDERR_FILENO, error);
-    io::write_all(STDERR_FILENO, after);
+// A line on standard error: the words before the error's number, the number, and the words after it. That this fails can be told nowhere. Standard error takes bytes
+// by its own handle, which the runtime that `main` is given has; `Eprint` takes text.
+pub fn tell(rt: &HostRuntime, before: &[u8], error: u64, after: &[u8]) {
+    let to = rt.stderr();
+    let _ = to.write_all(before);
+    let _ = to.print(error);
+    let _ = to.write_all(after);
 }

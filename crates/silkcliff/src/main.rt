@@ -4,19 +4,25 @@
 use command_loop::Ended;
 
 // Says on standard error what failed: the command has no exit status to give.
-fn tell(ended: Ended) {
+fn tell(rt: &HostRuntime, ended: Ended) {
     if ended.reading != 0 {
         command_streams::tell(
+            rt,
             b"silkcliff: reading failed (errno ",
             ended.reading,
             b"); the report is of what came before\n",
         );
     }
     if ended.writing != 0 {
-        command_streams::tell(b"silkcliff: writing failed (errno ", ended.writing, b")\n");
+        command_streams::tell(
+            rt,
+            b"silkcliff: writing failed (errno ",
+            ended.writing,
+            b")\n",
+        );
     }
 }
 
-fn main() {
-    tell(command_loop::run());
+fn main(rt: HostRuntime) {
+    tell(&rt, command_loop::run(&rt));
 }

@@ -1,0 +1,14 @@
+use Rattle.command_loop.proofs.PassLaws.{consumes-none, consumes_more, passes-all, passes-part}
+use Rattle.command_loop.proofs.pass_on.Goals as goal
+
+pub loop-at-init : goal.loop-at-init
+loop-at-init g c = consumes-none
+
+pub returns-then-h-ne0 : goal.returns-then-h-ne0
+returns-then-h-ne0 g c = passes-part (consumes_more c.loop-at.invariant c.hand_on-h.ensures) c.hand_on-h.ensures.writes c.if-h-ne0.true
+
+pub loop-at-preserved : goal.loop-at-preserved
+loop-at-preserved g c = consumes_more c.loop-at.invariant c.hand_on-h.ensures
+
+pub returns : goal.returns
+returns g c = passes-all c.loop-at.invariant c.loop-at-test.false
