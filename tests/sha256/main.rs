@@ -1,4 +1,4 @@
-// Compares the exported function of crates/sha256_digest with NIST's examples and with a SHA-256 of its own.
+// Compares the exported function of crates/sha256_digest_c with NIST's examples and with a SHA-256 of its own.
 //
 //     sha256-test NIST-FILE VECTORS-FILE SYMBOLS-FILE [--independent-large]
 //
