@@ -6,14 +6,14 @@ use Rattle.bytes_order.specs.MemberLaws.{concat_map-append}
 use Rattle.bytes_words.specs.Words.{bytes_in, big_of}
 use Rattle.bytes_words.specs.WordsLaws.{length-bytes_in, big-bytes_in}
 use Rattle.bitset.specs.BelowLaws.{count_below-le}
-use Rattle.rules.specs.TermsLaws.{allowed→, places-most}
+use Rattle.rules.proofs.TermsLaws.{allowed→, places-most}
 use Rattle.rules.specs.declared.Standing.{Standing}
 use Rattle.standing_bytes.specs.StandingByteLaws.{standing_of, standing-back}
 use Rattle.ledger_state.specs.declared.Ledger.{Ledger}
 use Rattle.ledger_state.specs.State.{Book, place_at, is_held, is_void, standing_count}
 use Rattle.ledger_state.specs.View.{book_of}
 use Rattle.ledger_state.specs.Row1.{sound}
-use Rattle.ledger_state.specs.Row1Laws.{sound→}
+use Rattle.ledger_state.proofs.Row1Laws.{sound→}
 use Rattle.ledger_offering.specs.Values.{OfferValues, taken_as, known_as, refused_as}
 use Rattle.ledger_offering.specs.Offer.{OfferRow, unfit, malformed, known, full, taken}
 use Rattle.ledger_offering.specs.Calls.{Calls}

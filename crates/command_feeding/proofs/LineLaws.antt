@@ -11,7 +11,7 @@ use Rattle.bytes_ascii.specs.Ascii.{ascii}
 use Rattle.ledger_state.specs.declared.Ledger.{Ledger}
 use Rattle.rules.specs.declared.Standing.{Standing}
 use Rattle.ledger_state.specs.State.{Book, place_at, is_held, is_void, standing_count}
-use Rattle.ledger_state.specs.RoomLaws.{room→}
+use Rattle.ledger_state.proofs.RoomLaws.{room→}
 use Rattle.ledger_state.specs.View.{book_of}
 use Rattle.ledger_offering.specs.declared.Offered.{Offered}
 use Rattle.ledger_offering.specs.Values.{OfferValues}

@@ -8,13 +8,14 @@ use Rattle.bytes_order.specs.BoolLaws.{true-false}
 use Rattle.update_format.specs.Update.{Update}
 use Rattle.rules.specs.declared.Form.TheVariants.{Full}
 use Rattle.rules.specs.Report.{report_of, report_size, max_report}
-use Rattle.rules.specs.ReportLaws.{terms-report-length, document-size}
+use Rattle.rules.specs.ReportLaws.{document-size}
+use Rattle.rules.proofs.ReportLaws.{terms-report-length}
 use Rattle.ledger_state.specs.declared.Ledger.{Ledger}
 use Rattle.ledger_state.specs.State.{Terms, document_terms, Book}
 use Rattle.ledger_state.specs.View.{book_of}
 use Rattle.ledger_state.specs.Stands.{rules, Stands}
 use Rattle.ledger_state.specs.FindLaws.{ident-length}
-use Rattle.ledger_state.specs.TakeLaws.{stands-sound}
+use Rattle.ledger_state.proofs.TakeLaws.{stands-sound}
 use Rattle.ledger_refusals.specs.Numbers.{Output, put_bytes}
 use Rattle.ledger.specs.Report.{ReportRow, unfit, short, written}
 use Rattle.ledger.specs.BufferLaws.{buffer-length, report-within}

@@ -1,11 +1,11 @@
 -- However the input is cut, the outputs of the pieces and of the end, put together, are the output of the whole.
 use Rattle.std.specs.Prelude.{◌≡◌, refl, ℕ, ◌≤◌, List, [], ◌++◌, length, take}
 use Rattle.std.proofs.Common.{sym, ap, ◌∙◌}
-use Rattle.rules.specs.TermsLaws.{document-allowed}
+use Rattle.rules.proofs.TermsLaws.{document-allowed}
 use Rattle.ledger_state.specs.declared.Ledger.{Ledger}
 use Rattle.ledger_state.specs.State.{document_terms, store_length_of}
 use Rattle.ledger_state.specs.View.{book_of, fresh_ledger}
-use Rattle.ledger_state.specs.TakeLaws.{fresh-stands}
+use Rattle.ledger_state.proofs.TakeLaws.{fresh-stands}
 use Rattle.command_syntax.specs.Syntax.{max_line}
 use Rattle.command_lines.specs.KeepLaws.{keeps-none}
 use Rattle.command_feeding.specs.declared.Fed.{Fed}

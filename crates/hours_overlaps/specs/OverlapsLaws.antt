@@ -10,7 +10,7 @@ use Rattle.bytes_order.specs.OrderLaws.{eq→same, same-false→ne, ne→same-fa
 use Rattle.bytes_order.specs.Member.{◌∈◌, any}
 use Rattle.bytes_order.specs.MemberLaws.{any→∈, ∈→any}
 use Rattle.rules.specs.SetEntry.{SetEntry, entry_key}
-use Rattle.rules.specs.SetEntryLaws.{entry-key-injective}
+use Rattle.rules.proofs.SetEntryLaws.{entry-key-injective}
 use Rattle.hours_tags.specs.declared.Limits.{Limits}
 use Rattle.hours_tags.specs.declared.Reading.{Reading}
 use Rattle.hours_tags.specs.declared.Reading.TheVariants.{Hours, Plain}

@@ -8,10 +8,10 @@ use lib.ListN.{length, drop}
 use Rattle.update_format.specs.Update.{id_length}
 use Rattle.rules.specs.declared.Form.{Form}
 use Rattle.rules.specs.Report.{report_size}
-use Rattle.rules.specs.ReportLaws.{size-grows}
-use Rattle.rules.specs.TermsLaws.{some-authors}
+use Rattle.rules.proofs.ReportLaws.{size-grows}
+use Rattle.rules.proofs.TermsLaws.{some-authors}
 use Rattle.ledger_state.specs.Row1.{sound}
-use Rattle.ledger_state.specs.Row1Laws.{sound→}
+use Rattle.ledger_state.proofs.Row1Laws.{sound→}
 use Rattle.ledger_state.specs.State.{Book, place_at}
 use Rattle.report_text.specs.Text.{text_of}
 use Rattle.bytes_print.specs.Page.{Prints}

@@ -8,7 +8,7 @@ use Rattle.rules.specs.declared.Form.{Form}
 use Rattle.rules.specs.Parts.{Parts, ReadFrom}
 use Rattle.rules.specs.Settle.{parts_of}
 use Rattle.rules.specs.Report.{report_text, report_of}
-use Rattle.rules.specs.PartsLaws.{read_right}
+use Rattle.rules.proofs.PartsLaws.{read_right}
 use Rattle.ledger_state.specs.declared.Ledger.{Ledger}
 use Rattle.ledger_state.specs.View.{book_of, fresh_ledger}
 use Rattle.ledger_state.specs.State.{document_terms, store_length_of, Book}

@@ -19,19 +19,19 @@ use Rattle.rules.specs.declared.Standing.{Standing}
 use Rattle.rules.specs.declared.Standing.TheVariants.{Held as IsHeld, Waiting as IsWaiting, Void as IsVoid}
 use Rattle.rules.specs.Standing.{Held, Void, Waiting}
 use Rattle.rules.specs.Settle.{Row, Table, is_held, is_void, held_in, void_in, settled_table}
-use Rattle.rules.specs.SettlingTable.{held_in_lem, void-in}
-use Rattle.rules.specs.Settling.{settled-decides}
-use Rattle.rules.specs.Decides.{Decides}
+use Rattle.rules.proofs.SettlingTable.{held_in_lem, void-in}
+use Rattle.rules.proofs.Settling.{settled-decides}
+use Rattle.rules.proofs.Decides.{Decides}
 use Rattle.rules.specs.Terms.{Terms}
 use Rattle.rules.specs.Room.{has_room}
-use Rattle.ledger_state.specs.RoomLaws.{room-stored}
+use Rattle.ledger_state.proofs.RoomLaws.{room-stored}
 use Rattle.ledger_state.specs.declared.Ledger.{Ledger}
 use Rattle.ledger_state.specs.View.{book_of}
 use Rattle.ledger_state.specs.State.{Book, place_at, standing_count}
 use Rattle.ledger_state.specs.Stands.{ident, rules, no_update, update_at, Stands}
 use Rattle.ledger_state.specs.FindLaws.{stored_at, find-right}
-use Rattle.ledger_state.specs.TakeLaws.{stands-sound}
-use Rattle.ledger_state.specs.CountLaws.{held-count, void-count}
+use Rattle.ledger_state.proofs.TakeLaws.{stands-sound}
+use Rattle.ledger_state.proofs.CountLaws.{held-count, void-count}
 use Rattle.ledger_refusals.specs.Numbers.{row10_number}
 use Rattle.ledger_offering.specs.Values.{OfferValues, taken_as, known_as, refused_as}
 use Rattle.ledger_offering.specs.Words.{values_text}

@@ -11,9 +11,9 @@ use Rattle.update_format.specs.Update.{Id, Update}
 use Rattle.update_format.specs.Decode.{Decoded, refused, update, decode}
 use Rattle.update_format.specs.Laws.{decode-sound}
 use Rattle.rules.specs.Standing.{Held, Void, Waiting}
-use Rattle.rules.specs.LeastSets.{held-stored, void-stored, held-not-void}
+use Rattle.rules.proofs.LeastSets.{held-stored, void-stored, held-not-void}
 use Rattle.rules.specs.Room.{has_room}
-use Rattle.rules.specs.TermsLaws.{document-allowed}
+use Rattle.rules.proofs.TermsLaws.{document-allowed}
 use Rattle.ledger_state.specs.declared.Ledger.{Ledger}
 use Rattle.rules.specs.declared.Standing.{Standing}
 use Rattle.rules.specs.declared.Standing.TheVariants.{Held as IsHeld, Waiting as IsWaiting, Void as IsVoid}
@@ -21,8 +21,8 @@ use Rattle.ledger_state.specs.State.{Terms, document_terms, store_length_of, roo
 use Rattle.ledger_state.specs.View.{book_of, fresh_ledger}
 use Rattle.ledger_state.specs.Stands.{ident, rules, update_at, Stands}
 use Rattle.ledger_state.specs.FindLaws.{stored_at, place_of, find-right, find-all, find_none}
-use Rattle.ledger_state.specs.RoomLaws.{room-stored}
-use Rattle.ledger_state.specs.TakeLaws.{stands-sound, fresh-stands}
+use Rattle.ledger_state.proofs.RoomLaws.{room-stored}
+use Rattle.ledger_state.proofs.TakeLaws.{stands-sound, fresh-stands}
 use Rattle.ledger_offering.specs.Values.{OfferValues}
 use Rattle.ledger_offering.specs.Offer.{OfferRow, unfit, malformed, known, full, taken}
 use Rattle.ledger_offering.specs.Calls.{Calls, done, call, Offers}

@@ -4,10 +4,11 @@ use Rattle.std.proofs.Common.{sym, ap, subst, le_trans, arith}
 use Rattle.update_format.specs.Update.{id_length}
 use Rattle.rules.specs.declared.Form.{Form}
 use Rattle.rules.specs.Report.{report_size, report_per_place, longest}
-use Rattle.rules.specs.ReportLaws.{size-grows, document-size, allowed-size}
-use Rattle.rules.specs.TermsLaws.{some-authors}
+use Rattle.rules.specs.ReportLaws.{document-size}
+use Rattle.rules.proofs.ReportLaws.{size-grows, allowed-size}
+use Rattle.rules.proofs.TermsLaws.{some-authors}
 use Rattle.ledger_state.specs.State.{Terms, document_terms, Book, place_at}
-use Rattle.ledger_state.specs.Row1Laws.{sound→}
+use Rattle.ledger_state.proofs.Row1Laws.{sound→}
 use Rattle.report_text.specs.TextLength.{text_of-length}
 use Rattle.ledger_refusals.specs.Numbers.{row1_number, row11_number, Output, refused_by}
 use Rattle.ledger.specs.Report.{ReportRow, unfit, short, written}

@@ -12,22 +12,22 @@ use Rattle.update_format.specs.Decode.{refused, decode, update}
 use Rattle.update_format.specs.Laws.{decode-complete}
 use Rattle.rules.specs.Standing.{Ancestor, Held}
 use Rattle.rules.specs.ReadOff.{Forked, Fault}
-use Rattle.rules.specs.Growth.{Reached}
+use Rattle.rules.proofs.Growth.{Reached}
 use Rattle.rules.specs.Writing.{written_of, writable_of}
-use Rattle.rules.specs.WritingLaws.{written_held, written-no-fault, written-no-fork, written-no-fork-next, add-writable}
+use Rattle.rules.proofs.WritingLaws.{written_held, written-no-fault, written-no-fork, written-no-fork-next, add-writable}
 use Rattle.bitset.specs.Below.{count_below}
 use Rattle.bitset.specs.BelowLaws.{count_below-more, count_below-mono}
 use Rattle.rules.specs.declared.Standing.{Standing}
 use Rattle.rules.specs.declared.Standing.TheVariants.{Held as IsHeld, Waiting as IsWaiting}
 use Rattle.rules.specs.Room.{has_room}
-use Rattle.rules.specs.TermsLaws.{some-predecessors}
-use Rattle.ledger_state.specs.RoomLaws.{room-stored}
+use Rattle.rules.proofs.TermsLaws.{some-predecessors}
+use Rattle.ledger_state.proofs.RoomLaws.{room-stored}
 use Rattle.ledger_state.specs.declared.Ledger.{Ledger}
 use Rattle.ledger_state.specs.View.{book_of}
 use Rattle.ledger_state.specs.State.{Place, Book, place_at, standing_count, is_held, is_void}
 use Rattle.ledger_state.specs.Stands.{ident, rules, no_update, update_at, Stands}
 use Rattle.ledger_state.specs.FindLaws.{stored_at, find-right}
-use Rattle.ledger_state.specs.TakeLaws.{stands-sound}
+use Rattle.ledger_state.proofs.TakeLaws.{stands-sound}
 use Rattle.write_operations.specs.declared.Kind.{Kind}
 use Rattle.write_operations.specs.declared.Kind.TheVariants.{Add as AnAdd}
 use Rattle.write_operations.specs.Operations.{operation_for, bad_named, unordered_named}

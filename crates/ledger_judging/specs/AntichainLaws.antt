@@ -10,15 +10,15 @@ use Rattle.update_format.specs.Update.{Id, Update}
 use Rattle.rules.specs.declared.CausalOrder.TheVariants.{Before, After}
 use Rattle.rules.specs.Standing.{Ancestor}
 use Rattle.rules.specs.CausalOrder.{OrderExactly, before_or_after}
-use Rattle.rules.specs.LeastSets.{held-acyclic}
-use Rattle.rules.specs.CausalLaws.{before_or_after→}
+use Rattle.rules.proofs.LeastSets.{held-acyclic}
+use Rattle.rules.proofs.CausalLaws.{before_or_after→}
 use Rattle.bitset.specs.Below.{count_below}
 use Rattle.bitset.specs.BelowLaws.{all_below→, all_below←}
 use Rattle.bitset.specs.Bits.{has}
 use Rattle.rules.specs.declared.Standing.TheVariants.{Held as IsHeld}
 use Rattle.ledger_state.specs.State.{Book, place_at}
 use Rattle.ledger_state.specs.PlaceOrder.{order_at}
-use Rattle.ledger_state.specs.PlaceOrderLaws.{order-at-exactly}
+use Rattle.ledger_state.proofs.PlaceOrderLaws.{order-at-exactly}
 use Rattle.ledger_state.specs.Stands.{rules, update_at, Holds, Truthful}
 use Rattle.ledger_judging.specs.Antichain.{clear_below, antichain_at, pairs_below}
 use Rattle.ledger_judging.specs.Judge.{nothing_gathered, gather}

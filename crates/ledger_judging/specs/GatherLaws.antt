@@ -17,8 +17,8 @@ use Rattle.bytes_order.specs.BoolLaws.{true-false, not-true→false, and-true→
 use Rattle.bytes_order.specs.MemberLaws.{∈-cast, any→∈, ∈→any, any-false→, any_false}
 use Rattle.bytes_order.specs.DistinctLaws.{distinct-index}
 use Rattle.update_format.specs.Update.{Id, Update}
-use Rattle.rules.specs.SettlingTable.{is_held→, is_void→}
-use Rattle.rules.specs.TableLaws.{not-true→, not-true}
+use Rattle.rules.proofs.SettlingTable.{is_held→, is_void→}
+use Rattle.rules.proofs.TableLaws.{not-true→, not-true}
 use Rattle.bitset.specs.Below.{count_below}
 use Rattle.bitset.specs.BelowLaws.{count_below-cong, count_below-with}
 use Rattle.bitset.specs.Bits.{has, including, within}
@@ -29,7 +29,7 @@ use Rattle.ledger_judging.specs.declared.Gathered.{Gathered}
 use Rattle.ledger_state.specs.State.{Book, place_at, find_in, is_held, is_waiting, is_void}
 use Rattle.ledger_judging.specs.Judge.{nothing_gathered, gather_by, gather_at, gather, all_held}
 use Rattle.ledger_state.specs.Stands.{ident, no_update, update_at, Holds}
-use Rattle.ledger_state.specs.StandingLaws.{held-left}
+use Rattle.ledger_state.proofs.StandingLaws.{held-left}
 use Rattle.ledger_state.specs.FindLaws.{find-taken, find-right, find-all}
 
 -- each id is that of an update at a held place

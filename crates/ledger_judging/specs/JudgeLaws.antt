@@ -22,8 +22,8 @@ use Rattle.update_format.specs.Decode.{Decoded}
 use Rattle.rules.specs.Standing.{beginning, Ancestor, InsertAncestor, Valid, Known, Antichain, Held, PredsHeld, Void}
 use Rattle.rules.specs.Settle.{is_add, is_insert}
 use Rattle.update_fields.specs.Fields.{test_of}
-use Rattle.rules.specs.LeastSets.{ancestor-stored, ancestor-cases}
-use Rattle.rules.specs.SettlingTable.{is_add→, →is_add, is_insert→, →is_insert}
+use Rattle.rules.proofs.LeastSets.{ancestor-stored, ancestor-cases}
+use Rattle.rules.proofs.SettlingTable.{is_add→, →is_add, is_insert→, →is_insert}
 use Rattle.bitset.specs.Bits.{has, join}
 use Rattle.bitset.specs.BitsLaws.{has_join}
 use Rattle.rules.specs.declared.Standing.TheVariants.{Held as IsHeld, Void as IsVoid}

@@ -21,14 +21,14 @@ use Rattle.rules.specs.declared.Standing.TheVariants.{Waiting}
 use Rattle.bytes_copy.specs.Overwritten.{overwritten}
 use Rattle.rules.specs.Room.{has_room}
 use Rattle.ledger_state.specs.State.{room_in, start_of, Place, Book, place_at, with_taken, find_in, is_held, is_void, standing_count}
-use Rattle.ledger_state.specs.RoomLaws.{room→, room-stored}
+use Rattle.ledger_state.proofs.RoomLaws.{room→, room-stored}
 use Rattle.ledger_state.specs.Row1.{sound}
-use Rattle.ledger_state.specs.Row1Laws.{SoundPlace, sound→, sound←}
+use Rattle.ledger_state.proofs.Row1Laws.{SoundPlace, sound→, sound←}
 use Rattle.ledger_settling.specs.Settle.{OthersWait, SettledFrom}
 use Rattle.ledger_settling.specs.Worklist.{NewestWaits}
 use Rattle.ledger_state.specs.Stands.{ident, Holds, Truthful, Stands}
 use Rattle.ledger_state.specs.FindLaws.{find_none}
-use Rattle.ledger_state.specs.TakeLaws.{taken-new, taken-old, take-holds, take-truthful}
+use Rattle.ledger_state.proofs.TakeLaws.{taken-new, taken-old, take-holds, take-truthful}
 use Rattle.ledger_settling.specs.WaitLaws.{taken-others}
 use Rattle.ledger_settling.specs.SettleLaws.{settled_kept, settled-sound, settled-stands}
 use Rattle.ledger_settling.specs.CountLaws.{steps-counted}

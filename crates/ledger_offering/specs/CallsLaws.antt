@@ -4,7 +4,7 @@ use Rattle.std.proofs.Common.{sym, ap, ◌∙◌}
 use Rattle.ledger_state.specs.declared.Ledger.{Ledger}
 use Rattle.ledger_state.specs.View.{book_of}
 use Rattle.ledger_state.specs.Row1.{sound}
-use Rattle.ledger_state.specs.Row1Laws.{sound→}
+use Rattle.ledger_state.proofs.Row1Laws.{sound→}
 use Rattle.ledger_offering.specs.Values.{OfferValues}
 use Rattle.ledger_offering.specs.Offer.{OfferRow, unfit, malformed, known, full, taken}
 use Rattle.ledger_offering.specs.Calls.{Calls, done, call, Offers}

@@ -10,7 +10,7 @@ use Rattle.bitset.specs.Bits.{count}
 use Rattle.rules.specs.declared.Standing.TheVariants.{Held, Waiting, Void}
 use Rattle.ledger_state.specs.State.{Place, Book, place_at, decoded_in, decoded_at, is_held, Terms}
 use Rattle.ledger_state.specs.Number.{has_standing}
-use Rattle.ledger_state.specs.NumberLaws.{is-held, is-waiting, is-void}
+use Rattle.ledger_state.proofs.NumberLaws.{is-held, is-waiting, is-void}
 use Rattle.update_fields.specs.Fields.{test_of, is_any_add}
 use Rattle.ledger_judging.specs.Judge.{ready_at}
 use Rattle.ledger_relations.specs.declared.Effect.TheVariants.{Removes, Deletes}

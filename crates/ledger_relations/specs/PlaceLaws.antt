@@ -12,8 +12,8 @@ use Rattle.update_format.specs.Update.{Operation, Update}
 use Rattle.update_format.specs.Decode.{update}
 use Rattle.rules.specs.Standing.{Ancestor, Held}
 use Rattle.rules.specs.CausalOrder.{OrderExactly}
-use Rattle.rules.specs.LeastSets.{held-not-void}
-use Rattle.rules.specs.SettlingTable.{is_held→}
+use Rattle.rules.proofs.LeastSets.{held-not-void}
+use Rattle.rules.proofs.SettlingTable.{is_held→}
 use Rattle.bitset.specs.Below.{up_to}
 use Rattle.bitset.specs.BelowLaws.{up_to-∈, up_to-ascending}
 use Rattle.bitset.specs.Bits.{has}
@@ -22,7 +22,7 @@ use Rattle.rules.specs.declared.Standing.TheVariants.{Held as IsHeld, Waiting as
 use Rattle.ledger_state.specs.FindLaws.{stored-update}
 use Rattle.ledger_state.specs.State.{Book, place_at, decoded_at, is_held}
 use Rattle.ledger_state.specs.PlaceOrder.{order_at}
-use Rattle.ledger_state.specs.PlaceOrderLaws.{order-at-exactly}
+use Rattle.ledger_state.proofs.PlaceOrderLaws.{order-at-exactly}
 use Rattle.update_fields.specs.Fields.{test_of, author_in}
 use Rattle.ledger_state.specs.Stands.{ident, rules, no_update, update_at, Stands}
 use Rattle.ledger_relations.specs.PlaceTests.{id_at, held_at, author_at}

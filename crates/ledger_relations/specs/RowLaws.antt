@@ -19,11 +19,11 @@ use Rattle.update_format.specs.Update.{Id, Operation, Update}
 use Rattle.rules.specs.Standing.{Ancestor, Held, Void}
 use Rattle.rules.specs.CausalOrder.{is_before, is_apart}
 use Rattle.rules.specs.Settle.{Row, Table, is_held, is_waiting, is_void, held_in, held_row, order_in, settled_table, covered, forked_by, forked_row, fault_row}
-use Rattle.rules.specs.Decides.{Decides}
-use Rattle.rules.specs.LeastSets.{ancestor-stored, held-not-void}
-use Rattle.rules.specs.SettlingTable.{is_held→, held_in_lem, all_held}
-use Rattle.rules.specs.TableLaws.{held-order}
-use Rattle.rules.specs.Settling.{settled-ascending, settled-decides}
+use Rattle.rules.proofs.Decides.{Decides}
+use Rattle.rules.proofs.LeastSets.{ancestor-stored, held-not-void}
+use Rattle.rules.proofs.SettlingTable.{is_held→, held_in_lem, all_held}
+use Rattle.rules.proofs.TableLaws.{held-order}
+use Rattle.rules.proofs.Settling.{settled-ascending, settled-decides}
 use Rattle.bitset.specs.Below.{any_below, up_to}
 use Rattle.bitset.specs.BelowLaws.{any_below→, any_below←, up_to-∈, ∈-up_to}
 use Rattle.bitset.specs.Bits.{has}

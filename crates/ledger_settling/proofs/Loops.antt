@@ -8,11 +8,11 @@ use mathlib.Core.Bool.{true, false, ◌&&◌}
 use lib.ListN.{length, get_or, take}
 use lib.Seq.{length-take-le, get_or-take}
 use Rattle.update_format.specs.Update.{Id}
-use Rattle.rules.specs.SettlingTable.{is_waiting→}
+use Rattle.rules.proofs.SettlingTable.{is_waiting→}
 use Rattle.rules.specs.declared.Standing.TheVariants.{Held as IsHeld, Waiting as IsWaiting, Void as IsVoid}
 use Rattle.ledger_state.specs.State.{Terms, Place, Book, place_at, decoded_in, is_waiting}
 use Rattle.ledger_state.specs.View.{book_of}
-use Rattle.ledger_state.specs.BookLaws.{replaced-other}
+use Rattle.ledger_state.proofs.BookLaws.{replaced-other}
 use Rattle.ledger_settling.specs.declared.Settling.{Settling}
 use Rattle.ledger_settling.specs.Settle.{follows, follows_at}
 use Rattle.ledger_settling.specs.Worklist.{Progress, progress_of, Judged, waits, holds, fails, WorklistAt, SuccessorsAt, Roomy, ListedAt, Judges, Empties}

@@ -6,7 +6,7 @@ use Rattle.bitset.specs.BelowLaws.{count_below-one, count_below-cong}
 use Rattle.rules.specs.declared.Standing.{Standing}
 use Rattle.rules.specs.declared.Standing.TheVariants.{Held as IsHeld, Void as IsVoid}
 use Rattle.ledger_state.specs.State.{Place, Book, place_at, with_standing, is_held, is_void, standing_count}
-use Rattle.ledger_state.specs.BookLaws.{replaced-same, replaced-other}
+use Rattle.ledger_state.proofs.BookLaws.{replaced-same, replaced-other}
 use Rattle.ledger_settling.specs.Settle.{SettleSteps, start, held, void}
 use Rattle.ledger_settling.specs.SettleLaws.{settled-place, place-cases}
 

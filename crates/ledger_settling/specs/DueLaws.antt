@@ -17,7 +17,7 @@ use Rattle.rules.specs.declared.Standing.TheVariants.{Waiting}
 use Rattle.ledger_judging.specs.declared.Gathered.{Gathered}
 use Rattle.ledger_judging.specs.declared.Judgement.TheVariants.{Waits}
 use Rattle.ledger_state.specs.State.{start_of, Place, Book, place_at, stored_at, decoded_at, with_standing, is_waiting, find_in}
-use Rattle.ledger_state.specs.BookLaws.{replaced-same, replaced-other}
+use Rattle.ledger_state.proofs.BookLaws.{replaced-same, replaced-other}
 use Rattle.ledger_judging.specs.Judge.{nothing_gathered, gather_at, gather, judge_decoded, judge_at}
 use Rattle.ledger_settling.specs.Settle.{follows, follows_at}
 use Rattle.ledger_settling.specs.Worklist.{Due, Successor}

@@ -6,20 +6,20 @@ use Rattle.bytes_order.specs.MemberLaws.{get_or-∈}
 use Rattle.update_format.specs.Update.{Update}
 use Rattle.update_format.specs.Decode.{slice}
 use Rattle.rules.specs.Standing.{Ancestor, Known, Held, Void}
-use Rattle.rules.specs.LeastSets.{SoundVerdicts, Stable, settled-waiting}
+use Rattle.rules.proofs.LeastSets.{SoundVerdicts, Stable, settled-waiting}
 use Rattle.bitset.specs.Bits.{has, within}
 use Rattle.bitset.specs.BitsLaws.{within_none}
 use Rattle.rules.specs.declared.Standing.{Standing}
 use Rattle.rules.specs.declared.Standing.TheVariants.{Held as IsHeld, Waiting as IsWaiting, Void as IsVoid}
 use Rattle.ledger_judging.specs.declared.Judgement.TheVariants.{Holds as Judged-holds, Fails, Waits}
 use Rattle.ledger_state.specs.State.{Place, Book, place_at, with_standing, start_of}
-use Rattle.ledger_state.specs.StandingLaws.{held≢void}
+use Rattle.ledger_state.proofs.StandingLaws.{held≢void}
 use Rattle.ledger_state.specs.Row1.{sound}
-use Rattle.ledger_state.specs.Row1Laws.{SoundPlace, sound→, sound←, holds-sound}
+use Rattle.ledger_state.proofs.Row1Laws.{SoundPlace, sound→, sound←, holds-sound}
 use Rattle.ledger_state.specs.Verdicts.{verdict, verdict-at, Placed, placed}
 use Rattle.ledger_judging.specs.Judge.{judge_at}
 use Rattle.ledger_state.specs.Stands.{ident, rules, no_update, update_at, Holds, Truthful, Settled, Stands}
-use Rattle.ledger_state.specs.BookLaws.{replaced-cases}
+use Rattle.ledger_state.proofs.BookLaws.{replaced-cases}
 use Rattle.ledger_judging.specs.JudgeWithin.{judge-within}
 use Rattle.ledger_judging.specs.JudgeLaws.{judged-held, judged-above, judged-above-all, judged-void, judged-no-void, judged-not-ready}
 use Rattle.ledger_settling.specs.Settle.{Settles, to_held, to_void, SettleSteps, start, held, void, OthersWait, SettledFrom}

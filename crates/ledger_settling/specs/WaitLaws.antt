@@ -25,10 +25,10 @@ use Rattle.ledger_judging.specs.Antichain.{antichain_at}
 use Rattle.ledger_judging.specs.Judge.{nothing_gathered, gather_by, gather_at, gather, valid, judge_ready, judge_gathered, judge_decoded, judge_at}
 use Rattle.ledger_settling.specs.Settle.{is_waits, OthersWait}
 use Rattle.ledger_state.specs.Stands.{Stands}
-use Rattle.ledger_state.specs.Row1Laws.{start-next, start-inside, holds-sound}
+use Rattle.ledger_state.proofs.Row1Laws.{start-next, start-inside, holds-sound}
 use Rattle.ledger_state.specs.FindLaws.{find-taken}
 use Rattle.ledger_judging.specs.JudgeLaws.{judged-held, judged-void}
-use Rattle.ledger_state.specs.TakeLaws.{taken-new, taken-old}
+use Rattle.ledger_state.proofs.TakeLaws.{taken-new, taken-old}
 
 waits-judged : (l : Book) (s : List ℕ) (us : List Update) → Stands l s us
     → (k : ℕ) → k < length us → (place_at l k).standing ≡ Waiting → judge_at l s k ≡ Waits

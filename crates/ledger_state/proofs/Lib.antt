@@ -1,2 +1,11 @@
 pub mod FindLaws
 pub mod Owning
+pub mod BookLaws
+pub mod ViewLaws
+pub mod NumberLaws
+pub mod StandingLaws
+pub mod Row1Laws
+pub mod RoomLaws
+pub mod TakeLaws
+pub mod CountLaws
+pub mod PlaceOrderLaws

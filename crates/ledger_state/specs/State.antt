@@ -18,7 +18,7 @@ unfoldable pub use Rattle.rules.specs.Settle.{is_held, is_waiting, is_void}
 unfoldable pub start_of : Terms → ℕ → ℕ
 start_of t k = max_length t.bounds * k
 
--- "the lent store, which has 34,112 bytes" (`store_Bytes`, `Row1Laws`)
+-- "the lent store, which has 34,112 bytes" (`store_bytes`, `Row1Laws`)
 abbrev pub store_length_of : Terms → ℕ
 store_length_of t = t.places * max_length t.bounds
 

@@ -5,7 +5,7 @@ use Rattle.rules.specs.declared.Form.{Form}
 use Rattle.ledger_state.specs.declared.Ledger.{Ledger}
 use Rattle.ledger_state.specs.State.{document_terms, store_length_of, Book}
 use Rattle.ledger_state.specs.View.{book_of}
-use Rattle.ledger_state.specs.Row1Laws.{sound→}
+use Rattle.ledger_state.proofs.Row1Laws.{sound→}
 use Rattle.ledger_refusals.specs.Numbers.{Output, put_bytes}
 use Rattle.ledger.specs.declared.Reported.TheVariants.{Written}
 use Rattle.ledger_offering.specs.Calls.{Offers}

@@ -10,8 +10,8 @@ use Rattle.rules.specs.declared.Form.{Form}
 use Rattle.rules.specs.declared.Form.TheVariants.{Full}
 use Rattle.rules.specs.Settle.{parts_of}
 use Rattle.rules.specs.Report.{report_of}
-use Rattle.rules.specs.PartsLaws.{read_right}
-use Rattle.rules.specs.ReportLaws.{same-report, report-shows-set}
+use Rattle.rules.proofs.PartsLaws.{read_right}
+use Rattle.rules.proofs.ReportLaws.{same-report, report-shows-set}
 use Rattle.ledger_state.specs.declared.Ledger.{Ledger}
 use Rattle.ledger_state.specs.State.{document_terms, store_length_of}
 use Rattle.ledger_state.specs.View.{book_of, fresh_ledger}
@@ -52,7 +52,7 @@ pub record SideBySide (xs ys : List (List ℕ)) (first second : List ℕ) : Type
   pub second_laid_out : LaidOut Full (updates_of document_bounds ys) second
 
 -- What both forms have in common. "Mills with equal sets have equal short reports too, but unequal sets are promised to show only in the full one." (Two unequal sets
--- with one short report: `unequal-sets`, `equal-short-reports`, `rules/specs/SmallLaws`.)
+-- with one short report: `unequal-sets`, `equal-short-reports`, `rules/proofs/SmallLaws`.)
 pub record SideBySideIn (form : Form) (xs ys : List (List ℕ)) (first second : List ℕ) : Type 0 where
   pub equal_sets_equal_reports : set_of document_bounds xs ≡ set_of document_bounds ys → first ≡ second
   pub first_right : first ≡ report_for form (set_of document_bounds xs)

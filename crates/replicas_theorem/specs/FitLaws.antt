@@ -7,7 +7,7 @@ use Rattle.rules.specs.declared.Form.{Form}
 use Rattle.rules.specs.Report.{report_size}
 use Rattle.ledger_state.specs.State.{Book}
 use Rattle.ledger_state.specs.Stands.{update_at, Stands}
-use Rattle.ledger_state.specs.TakeLaws.{stands-sound}
+use Rattle.ledger_state.proofs.TakeLaws.{stands-sound}
 use Rattle.ledger_refusals.specs.Numbers.{row11_number, Output, refused_by}
 use Rattle.ledger_state.specs.FindLaws.{ident-length}
 use Rattle.ledger.specs.Report.{ReportRow, unfit, short, written}

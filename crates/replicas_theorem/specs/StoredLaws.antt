@@ -13,7 +13,7 @@ use Rattle.update_format.specs.Update.{Update}
 use Rattle.update_format.specs.Decode.{Decoded, refused, update, decode, update_of}
 use Rattle.rules.specs.Terms.{Terms}
 use Rattle.rules.specs.Room.{has_room, RoomForAll}
-use Rattle.rules.specs.RoomLaws.{each_fits}
+use Rattle.rules.proofs.RoomLaws.{each_fits}
 use Rattle.ledger_state.specs.Stands.{ident}
 use Rattle.ledger.specs.Calls.{accept_decoded, stored_from, stored}
 use Rattle.replicas_theorem.specs.Sets.{set_of, updates_of, Fits}

@@ -19,7 +19,7 @@ use Rattle.bytes_order.specs.OrderLaws.{same→eq, eq→same, ne→same-false, b
 use Rattle.bytes_order.specs.MemberLaws.{∈-cases, keep-none, concat_map-append}
 use Rattle.update_format.specs.Update.{Id}
 use Rattle.rules.specs.Standing.{beginning}
-use Rattle.rules.specs.TableLaws.{not-true→}
+use Rattle.rules.proofs.TableLaws.{not-true→}
 use Rattle.ledger_relations.specs.PlaceTests.{id_at}
 use Rattle.report_parts.specs.PlaceParts.{after, put_by, put_entry, put_all}
 use Rattle.update_fields.specs.Fields.{anchor_in}

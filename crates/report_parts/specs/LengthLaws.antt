@@ -21,8 +21,8 @@ use Rattle.update_format.specs.Update.{Id, tag_length}
 use Rattle.rules.specs.Standing.{beginning}
 use Rattle.rules.specs.Settle.{is_insert}
 use Rattle.rules.specs.Mark.{Mark, mark_key, marks_by}
-use Rattle.rules.specs.ReportLengthLaws.{one-standing}
-use Rattle.rules.specs.MarkLaws.{marks-by-author, marks-by-few, marks-by-some}
+use Rattle.rules.proofs.ReportLengthLaws.{one-standing}
+use Rattle.rules.proofs.MarkLaws.{marks-by-author, marks-by-few, marks-by-some}
 use Rattle.bitset.specs.Below.{up_to}
 use Rattle.bitset.specs.BelowLaws.{any_below→, up_to-∈, ∈-up_to, up_to-length}
 use Rattle.update_fields.specs.Fields.{test_of, is_any_add, anchor_in}

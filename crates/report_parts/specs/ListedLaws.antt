@@ -23,11 +23,11 @@ use Rattle.update_format.specs.Update.{Id, Operation, Insert, Delete, Update}
 use Rattle.rules.specs.Standing.{beginning, Ancestor, Held, Valid, InsertAncestor}
 use Rattle.rules.specs.ReadOff.{Deleted, Rank, InsertAt, Sooner, Ordered, Siblings, AtBeginning, Under, Walk, Shown, Listed}
 use Rattle.rules.specs.Settle.{is_insert, deletes, values_of, list, settled_table}
-use Rattle.rules.specs.LeastSets.{ancestor-stored, ancestor-trans, held-stored, held-ancestors, held-acyclic}
-use Rattle.rules.specs.TableLaws.{deletes→, →deletes, held-fine, not-true→}
-use Rattle.rules.specs.SettlingTable.{is_insert→}
-use Rattle.rules.specs.Settling.{settled-decides}
-use Rattle.rules.specs.ReadOffLaws.{list_right, listed-unique}
+use Rattle.rules.proofs.LeastSets.{ancestor-stored, ancestor-trans, held-stored, held-ancestors, held-acyclic}
+use Rattle.rules.proofs.TableLaws.{deletes→, →deletes, held-fine, not-true→}
+use Rattle.rules.proofs.SettlingTable.{is_insert→}
+use Rattle.rules.proofs.Settling.{settled-decides}
+use Rattle.rules.proofs.ReadOffLaws.{list_right, listed-unique}
 use Rattle.bitset.specs.Below.{count_below, up_to}
 use Rattle.bitset.specs.BelowLaws.{up_to-∈, ∈-up_to, count_below-le, count_below-lt, count_below-length, any_below→, any_below←}
 use Rattle.bitset.specs.Bits.{has}

@@ -13,16 +13,16 @@ use Rattle.bytes_order.specs.Ascending.{Ascending}
 use Rattle.bytes_order.specs.SortLaws.{same-sort, sort-map, ascending-concat_map}
 use Rattle.update_format.specs.Update.{Id, Add, Update}
 use Rattle.rules.specs.SetEntry.{SetEntry, entry_key}
-use Rattle.rules.specs.SetEntryLaws.{entry-key-identifies}
+use Rattle.rules.proofs.SetEntryLaws.{entry-key-identifies}
 use Rattle.rules.specs.Mark.{Mark, mark_key, marks_by}
 use Rattle.rules.specs.ReadOff.{MarkedFor}
 use Rattle.rules.specs.Parts.{Exactly}
 use Rattle.rules.specs.Settle.{Row, Table, held_row, forked_row, fault_row, some_row_by, marks_in, names, removed, set_entries_from, set_entries, settled_table, parts_of}
-use Rattle.rules.specs.Decides.{Decides}
-use Rattle.rules.specs.Settling.{settled-decides}
-use Rattle.rules.specs.MarkLaws.{marked-stored, marks-by-author, marks-by-ascending, marks-in→, →marks-in}
-use Rattle.rules.specs.PartsLaws.{exactly-unique, read_right}
-use Rattle.rules.specs.TableLaws.{set_entries_from-∈, ∈-set_entries_from}
+use Rattle.rules.proofs.Decides.{Decides}
+use Rattle.rules.proofs.Settling.{settled-decides}
+use Rattle.rules.proofs.MarkLaws.{marked-stored, marks-by-author, marks-by-ascending, marks-in→, →marks-in}
+use Rattle.rules.proofs.PartsLaws.{exactly-unique, read_right}
+use Rattle.rules.proofs.TableLaws.{set_entries_from-∈, ∈-set_entries_from}
 use Rattle.bitset.specs.Below.{any_below, up_to}
 use Rattle.bitset.specs.BelowLaws.{up_to-∈, ∈-up_to, up_to-ascending}
 use Rattle.update_fields.specs.Fields.{test_of, is_any_add, tag_in}

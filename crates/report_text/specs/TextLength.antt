@@ -12,7 +12,7 @@ use Rattle.update_format.specs.Update.{id_length}
 use Rattle.rules.specs.declared.Form.{Form}
 use Rattle.rules.specs.declared.Form.TheVariants.{Full, Short}
 use Rattle.rules.specs.Report.{set_line, bytes_line, mark_line, author_digits, report_size}
-use Rattle.rules.specs.ReportLengthLaws.{mark-line-length, bytes-line-length, author-line-length, three-lines, two-lines}
+use Rattle.rules.proofs.ReportLengthLaws.{mark-line-length, bytes-line-length, author-line-length, three-lines, two-lines}
 use Rattle.ledger_state.specs.State.{Book, place_at}
 use Rattle.ledger_relations.specs.PlaceTests.{id_at, author_at, held_at, waiting_at, void_at, head_at, id_order}
 use Rattle.report_parts.specs.PlaceParts.{marks_of, set_entry_at, set_order, entries_of, value_at}

@@ -104,7 +104,7 @@ fn bytes_of(s: State) -> [u8; 32]
     d
 }
 
-// The SHA-256 of s. Below MESSAGE_LIMIT bytes this is FIPS 180-4's digest (`sha256-right`, `sha256_fips180/specs/StandardLaws`); from there on, where
+// The SHA-256 of s. Below MESSAGE_LIMIT bytes this is FIPS 180-4's digest (`sha256-right`, `sha256_fips180/proofs/StandardLaws`); from there on, where
 // the standard defines none, the padding's field keeps the bit length modulo 2^64, as the definition says.
 pub fn digest(s: &[u8]) -> [u8; 32]
     ensures { result ≡ SHA-256 s.now }

@@ -9,7 +9,7 @@ use Rattle.update_format.specs.Update.{tag_length, Operation, Add, Remove, Inser
 use Rattle.update_format.specs.Decode.{Decoded, refused, update, decode}
 use Rattle.update_format.specs.Laws.{decode-sound}
 use Rattle.rules.specs.Settle.{is_insert, tags_of, values_of}
-use Rattle.rules.specs.TableLaws.{add-sized}
+use Rattle.rules.proofs.TableLaws.{add-sized}
 use Rattle.update_fields.specs.Fields.{test_of, author_in, is_any_add, tag_in, value_in}
 
 pub →is_any_add : {o : Operation} {t : List ℕ} → o ≡ Add t → is_any_add o ≡ true

@@ -14,9 +14,9 @@ use Rattle.rules.specs.Writing.{writable_of}
 use Rattle.ledger_judging.specs.declared.Judgement.{Judgement}
 use Rattle.ledger_judging.specs.declared.Judgement.TheVariants.{Holds, Fails, Waits}
 use Rattle.ledger_judging.specs.Judge.{judge_decoded}
-use Rattle.rules.specs.TermsLaws.{some-predecessors}
+use Rattle.rules.proofs.TermsLaws.{some-predecessors}
 use Rattle.ledger_state.specs.State.{Book, place_at}
-use Rattle.ledger_state.specs.Row1Laws.{sound→}
+use Rattle.ledger_state.proofs.Row1Laws.{sound→}
 use Rattle.ledger_state.specs.Stands.{rules, Stands}
 use Rattle.bytes_print.specs.Page.{Prints}
 use Rattle.write_operations.specs.declared.Kind.{Kind}

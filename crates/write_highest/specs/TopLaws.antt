@@ -18,9 +18,9 @@ use Rattle.bytes_order.specs.DistinctLaws.{distinct-keep, distinct-keys, distinc
 use Rattle.bytes_order.specs.SortLaws.{sort-∈, ∈-sort, sort-ascending, greatest-first}
 use Rattle.update_format.specs.Update.{Update}
 use Rattle.rules.specs.Settle.{Row, Table, held_row, rank, settled_table, rank_key}
-use Rattle.rules.specs.Decides.{Decides}
-use Rattle.rules.specs.Settling.{settled-decides}
-use Rattle.rules.specs.TableLaws.{HeldRow, keep-held→, row-eq, above-row}
+use Rattle.rules.proofs.Decides.{Decides}
+use Rattle.rules.proofs.Settling.{settled-decides}
+use Rattle.rules.proofs.TableLaws.{HeldRow, keep-held→, row-eq, above-row}
 use Rattle.rules.specs.Writing.{held_by, ranked}
 use Rattle.bitset.specs.Below.{up_to}
 use Rattle.bitset.specs.BelowLaws.{up_to-∈, ∈-up_to, count_below-length}

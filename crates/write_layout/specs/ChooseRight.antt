@@ -5,7 +5,7 @@ use Rattle.std.proofs.Math.Path.{ap}
 use Rattle.update_format.specs.Update.{Operation, Update}
 use Rattle.update_format.specs.Decode.{update}
 use Rattle.rules.specs.Writing.{written_in, writable_in, written_of, writable_of}
-use Rattle.rules.specs.WritingLaws.{written-heads}
+use Rattle.rules.proofs.WritingLaws.{written-heads}
 use Rattle.ledger_judging.specs.declared.Judgement.TheVariants.{Holds, Fails}
 use Rattle.ledger_judging.specs.Judge.{judge_decoded}
 use Rattle.ledger_state.specs.Stands.{rules, Stands}

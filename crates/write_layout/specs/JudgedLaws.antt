@@ -15,9 +15,9 @@ use Rattle.update_format.specs.Decode.{update}
 use Rattle.rules.specs.Standing.{beginning, Held}
 use Rattle.rules.specs.ReadOff.{Head}
 use Rattle.rules.specs.Settle.{Row, Table, is_add, is_insert, add_in, insert_in, above_in, ancestors_of, valid_op, settled_table}
-use Rattle.rules.specs.LeastSets.{held-stored, held-not-void}
-use Rattle.rules.specs.TableLaws.{row-eq}
-use Rattle.rules.specs.ChoiceLaws.{row_id}
+use Rattle.rules.proofs.LeastSets.{held-stored, held-not-void}
+use Rattle.rules.proofs.TableLaws.{row-eq}
+use Rattle.rules.proofs.ChoiceLaws.{row_id}
 use Rattle.bitset.specs.Bits.{has, join}
 use Rattle.bitset.specs.BitsLaws.{has_join}
 use Rattle.rules.specs.declared.Standing.{Standing}

@@ -19,11 +19,11 @@ use Rattle.bytes_order.specs.SortLaws.{sort-∈, sort_sorted, sort-map, sort-con
 use Rattle.update_format.specs.Update.{Id, Update}
 use Rattle.rules.specs.CausalOrder.{same_or_before}
 use Rattle.rules.specs.Settle.{Row, Table, held_row, covered, heads, settled_table}
-use Rattle.rules.specs.ChoiceLaws.{row_id}
+use Rattle.rules.proofs.ChoiceLaws.{row_id}
 use Rattle.rules.specs.Writing.{held_by, ranked, at_or_above, first_heads, others, chosen_from, chosen}
 use Rattle.bitset.specs.Below.{first_below}
 use Rattle.bitset.specs.BelowLaws.{first_below-some→, first_below-none→}
-use Rattle.rules.specs.TermsLaws.{some-predecessors}
+use Rattle.rules.proofs.TermsLaws.{some-predecessors}
 use Rattle.ledger_state.specs.State.{Book}
 use Rattle.ledger_state.specs.PlaceOrder.{order_at}
 use Rattle.ledger_state.specs.Stands.{rules, Stands}

@@ -2,7 +2,7 @@
 -- is too short for the text, and the text is then printed where it fits.
 use Rattle.std.proofs.Common.{sym, arith}
 use Rattle.rules.specs.ReportLaws.{document-size}
-use Rattle.ledger_state.specs.Row1Laws.{sound→}
+use Rattle.ledger_state.proofs.Row1Laws.{sound→}
 use Rattle.ledger_state.specs.View.{book_of}
 use Rattle.ledger_state.proofs.Owning.{id-length}
 use Rattle.ledger.specs.Report.{unfit}

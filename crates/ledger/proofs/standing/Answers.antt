@@ -2,7 +2,7 @@
 use Rattle.std.proofs.Common.{sym, arith}
 use Rattle.ledger_state.specs.State.{find_in}
 use Rattle.ledger_state.specs.View.{book_of}
-use Rattle.ledger_state.specs.Row1Laws.{sound→}
+use Rattle.ledger_state.proofs.Row1Laws.{sound→}
 use Rattle.ledger_state.proofs.FindLaws.{found_at, found_nowhere, found_below}
 use Rattle.ledger.proofs.AskLaws.{asked-unfit, asked-at, asked-nowhere}
 use Rattle.ledger.proofs.standing.Goals as goal

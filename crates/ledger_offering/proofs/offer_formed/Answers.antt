@@ -3,8 +3,8 @@ use Rattle.std.proofs.Common.{sym, arith}
 use Rattle.std.proofs.Math.Nat.{le_of_eq}
 use Rattle.ledger_state.specs.State.{find_in}
 use Rattle.ledger_state.specs.View.{book_of}
-use Rattle.ledger_state.specs.RoomLaws.{→room, →no-room}
-use Rattle.ledger_state.specs.Row1Laws.{sound→}
+use Rattle.ledger_state.proofs.RoomLaws.{→room, →no-room}
+use Rattle.ledger_state.proofs.Row1Laws.{sound→}
 use Rattle.ledger_state.proofs.FindLaws.{found_at, found_nowhere, found_below}
 use Rattle.ledger_offering.proofs.OfferLaws.{offered-known, offered-full}
 use Rattle.ledger_offering.proofs.offer_formed.Goals as goal

@@ -3,8 +3,8 @@ use Rattle.std.proofs.Common.{length, arith}
 use Rattle.update_format.specs.Update.{document_bounds}
 use Rattle.update_format.specs.Laws.{accepted}
 use Rattle.ledger_state.specs.View.{book_of}
-use Rattle.ledger_state.specs.RoomLaws.{room→}
-use Rattle.ledger_state.specs.Row1Laws.{sound→}
+use Rattle.ledger_state.proofs.RoomLaws.{room→}
+use Rattle.ledger_state.proofs.Row1Laws.{sound→}
 use Rattle.ledger_offering.proofs.TakeLaws.{taken-newest, took-with}
 use Rattle.ledger_offering.proofs.OfferLaws.{offered-taken}
 use Rattle.ledger_offering.proofs.take.Goals as goal

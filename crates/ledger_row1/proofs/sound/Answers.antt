@@ -2,7 +2,7 @@ use Prim.Native.Nat.{◌-◌}
 use mathlib.Core.Path.{sym, ◌∙◌}
 use borrow.Author.Rules.{rules}
 use Rattle.bitset.specs.BelowLaws.{all_below-none, all_below-next, all_below-stop, all_below-end}
-use Rattle.rules.specs.TermsLaws.{document-allowed}
+use Rattle.rules.proofs.TermsLaws.{document-allowed}
 use Rattle.ledger_state.specs.View.{book_of}
 use Rattle.ledger_row1.proofs.Row1Laws.{sound_at, wrong-store, too_many, by-places}
 use Rattle.ledger_row1.proofs.sound.Goals as goal

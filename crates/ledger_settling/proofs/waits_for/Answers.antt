@@ -4,7 +4,7 @@ use mathlib.Core.Path.{sym, ◌∙◌, ap}
 use mathlib.Core.List.{List}
 use Rattle.update_format.specs.Update.{document_bounds}
 use Rattle.update_format.specs.Decode.{decode}
-use Rattle.ledger_state.specs.NumberLaws.{is-waiting}
+use Rattle.ledger_state.proofs.NumberLaws.{is-waiting}
 use Rattle.ledger_settling.specs.Settle.{follows}
 use Rattle.ledger_settling.proofs.Naming.{both, neither}
 use Rattle.ledger_settling.proofs.waits_for.Goals as goal

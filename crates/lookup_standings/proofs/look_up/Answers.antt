@@ -10,7 +10,7 @@ use Rattle.update_format.specs.Update.{id_length}
 use Rattle.update_format.specs.Decode.{whole_ids, id_count}
 use Rattle.update_format.specs.Slices.{ids-length}
 use Rattle.ledger_state.specs.View.{book_of}
-use Rattle.ledger_state.specs.Row1Laws.{sound→}
+use Rattle.ledger_state.proofs.Row1Laws.{sound→}
 use Rattle.lookup_standings.specs.Lookup.{uneven, unordered, short}
 use Rattle.lookup_standings.proofs.Rows.{answered-row}
 use Rattle.lookup_standings.proofs.look_up.Goals as goal

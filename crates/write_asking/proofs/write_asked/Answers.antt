@@ -1,6 +1,6 @@
 -- `write_asked` meets its contract, by the judgement.
 use Rattle.std.proofs.Common.{rules, arith}
-use Rattle.ledger_state.specs.Row1Laws.{sound→}
+use Rattle.ledger_state.proofs.Row1Laws.{sound→}
 use Rattle.ledger_state.specs.View.{book_of}
 use Rattle.ledger_state.proofs.Owning.{id-length}
 use Rattle.write_asking.proofs.WriteEnds.{Sized, Judged, cut-is, judged-by, ended-fails, ended-waits, ended-short, ended-written}

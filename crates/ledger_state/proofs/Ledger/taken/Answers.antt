@@ -2,7 +2,7 @@
 use Prim.Native.Nat.{◌+◌}
 use native.Mathlib.Omega.{arith}
 use Rattle.rules.specs.declared.Standing.TheVariants.{Waiting}
-use Rattle.ledger_state.specs.ViewLaws.{stored-view}
+use Rattle.ledger_state.proofs.ViewLaws.{stored-view}
 use Rattle.ledger_state.proofs.Owning.{places-length}
 use Rattle.ledger_state.proofs.Ledger.taken.Goals as goal
 

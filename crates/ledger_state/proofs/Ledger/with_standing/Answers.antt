@@ -2,7 +2,7 @@
 use native.Mathlib.Omega.{arith}
 use lib.ListN.{get_or}
 use Rattle.ledger_state.specs.View.{no_place}
-use Rattle.ledger_state.specs.ViewLaws.{stored-view}
+use Rattle.ledger_state.proofs.ViewLaws.{stored-view}
 use Rattle.ledger_state.proofs.Owning.{places-length}
 use Rattle.ledger_state.proofs.Ledger.with_standing.Goals as goal
 

@@ -3,7 +3,7 @@ use mathlib.Core.Path.{sym, ◌∙◌}
 use mathlib.Core.Bool.{true, false}
 use Rattle.rules.specs.CausalOrder.{order_by}
 use Rattle.ledger_state.specs.View.{place_of}
-use Rattle.ledger_state.specs.PlaceOrderLaws.{place_order-one, place_order-two}
+use Rattle.ledger_state.proofs.PlaceOrderLaws.{place_order-one, place_order-two}
 use Rattle.ledger_state.proofs.places.causal_order.Goals as goal
 
 pub returns-then-k-q : goal.returns-then-k-q

@@ -23,8 +23,8 @@ use Rattle.rules.specs.Standing.{Rules, beginning, Ancestor, InsertAncestor, Val
 use Rattle.rules.specs.CausalOrder.{OrderExactly, before_or_after}
 use Rattle.rules.specs.Settle.{Standing, held, waiting, void, Row, Table, is_held, is_waiting, is_void, is_add, is_insert, held_in, void_in}
 use Rattle.rules.specs.Settle.{add_in, insert_in, above_in, order_in, ancestors_of, antichain, valid_op, fine_by, ruled, judge_fine, judge_known, judge_by, judge_from, judge, round}
-use Rattle.rules.specs.LeastSets.{ancestor-stored, ancestor-cases, held-stored}
-use Rattle.rules.specs.CausalLaws.{before_or_after→, tells-exactly}
+use Rattle.rules.proofs.LeastSets.{ancestor-stored, ancestor-cases, held-stored}
+use Rattle.rules.proofs.CausalLaws.{before_or_after→, tells-exactly}
 
 module _ (rules : Rules) (S : List Update) where
   -- these are the ids of u's ancestors, each once

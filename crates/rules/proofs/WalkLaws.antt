@@ -19,9 +19,9 @@ use Rattle.bytes_order.specs.SortLaws.{sort-∈, ∈-sort, sort-distinct}
 use Rattle.update_format.specs.Update.{Id, Insert, Update}
 use Rattle.rules.specs.Standing.{Rules, beginning, InsertAncestor}
 use Rattle.rules.specs.Settle.{Row, Table, held_row, rank, anchored, siblings, under, walk, sibling_key}
-use Rattle.rules.specs.Decides.{Decides}
-use Rattle.rules.specs.LeastSets.{held-ancestors}
-use Rattle.rules.specs.TableLaws.{not-true→, not-true, anchored→, →anchored, insert-anchor, HeldRow, keep-held→, →keep-held, row-eq, row-held, row-id, held-row, rank_less, anchor-above}
+use Rattle.rules.proofs.Decides.{Decides}
+use Rattle.rules.proofs.LeastSets.{held-ancestors}
+use Rattle.rules.proofs.TableLaws.{not-true→, not-true, anchored→, →anchored, insert-anchor, HeldRow, keep-held→, →keep-held, row-eq, row-held, row-id, held-row, rank_less, anchor-above}
 
 -- a held Insert
 pub record Entry (T : Table) (r : Row) : Type 0 where

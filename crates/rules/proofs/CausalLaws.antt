@@ -16,7 +16,7 @@ use Rattle.rules.specs.Standing.{Rules, Ancestor, Antichain, Held, PredsHeld}
 use Rattle.rules.specs.ReadOff.{Head, Forked}
 use Rattle.rules.specs.CausalOrder.{Concurrent, Causal, OrderExactly, HeadByOrder, ForkedByOrder, AntichainByOrder, turned, order_by, is_before, is_apart, before_or_after, same_or_before}
 use Rattle.rules.specs.Settle.{Table, above_in, order_in}
-use Rattle.rules.specs.LeastSets.{ancestor-trans, held-stored, held-acyclic}
+use Rattle.rules.proofs.LeastSets.{ancestor-trans, held-stored, held-acyclic}
 
 -- the tests of an answer
 

@@ -31,9 +31,9 @@ use Rattle.rules.specs.Standing.{Rules, Ancestor}
 use Rattle.rules.specs.ReadOff.{Forked}
 use Rattle.rules.specs.CausalOrder.{is_before, same_or_before}
 use Rattle.rules.specs.Settle.{Row, Table, order_in, held_row, covered, heads, rank, rank_key}
-use Rattle.rules.specs.Decides.{Decides}
-use Rattle.rules.specs.CausalLaws.{is_before→, same_or_before→}
-use Rattle.rules.specs.TableLaws.{not-true→, HeldRow, any-held→, keep-held→, →keep-held, row-eq, row-held, row-id, ancestor→above, above→ancestor, row-order, above-trans, rank-bound, rank_less}
+use Rattle.rules.proofs.Decides.{Decides}
+use Rattle.rules.proofs.CausalLaws.{is_before→, same_or_before→}
+use Rattle.rules.proofs.TableLaws.{not-true→, HeldRow, any-held→, keep-held→, →keep-held, row-eq, row-held, row-id, ancestor→above, above→ancestor, row-order, above-trans, rank-bound, rank_less}
 use Rattle.rules.specs.Writing.{held_by, ranked, at_or_above, first_heads, others, chosen_from, chosen}
 
 abbrev pub row_id : Row → Id

@@ -9,7 +9,7 @@ use Rattle.bytes_order.specs.DistinctLaws.{distinct-eq}
 use Rattle.update_format.specs.Update.{Id, Operation, Add, Remove, Insert, Delete, Update}
 use Rattle.rules.specs.Standing.{Rules, Ancestor, AddAncestor, InsertAncestor, Valid, Known, Fine, Held, PredsHeld, Void, Waiting}
 use Rattle.rules.specs.ReadOff.{Rank, Forked, Fault, Faulty}
-use Rattle.rules.specs.LeastSets.{held-stored, void-stored}
+use Rattle.rules.proofs.LeastSets.{held-stored, void-stored}
 
 -- what is valid by the ancestors in S is valid by those in S', if S' has them
 module _ (rules : Rules) (S S' : List Update) (u : Update) (keeps : (x : Update) → Ancestor rules S x u → Ancestor rules S' x u) where

@@ -16,15 +16,15 @@ use Rattle.update_format.specs.Update.{Id, id_length, Operation, Add, Update, Bo
 use Rattle.rules.specs.Standing.{Rules, Ancestor, Known, Fine, Held, PredsHeld, Void}
 use Rattle.rules.specs.ReadOff.{Head, Forked, Fault}
 use Rattle.rules.specs.Settle.{held, Row, Table, settled_table, heads, valid_op}
-use Rattle.rules.specs.Decides.{Decides}
-use Rattle.rules.specs.LeastSets.{held-stored, held-not-void}
-use Rattle.rules.specs.Growth.{extended, added_more, Reached, grow-ancestor, grow-ready, grow-broken, held-cases, held_kept}
-use Rattle.rules.specs.SettlingTable.{PredecessorsHeld, preds-known, preds-held, valid→, →valid}
-use Rattle.rules.specs.Settling.{settled-ascending, settled-decides}
-use Rattle.rules.specs.TableLaws.{decides-sound, row-eq, row-id, held-row, above→ancestor}
-use Rattle.rules.specs.ReadOffLaws.{head-right, head-all}
-use Rattle.rules.specs.MarkLaws.{held-no-fault}
-use Rattle.rules.specs.ChoiceLaws.{row_id, chosen-all, chosen-few, chosen-ascending, chosen-head, chosen-some, head-row, some-head, named}
+use Rattle.rules.proofs.Decides.{Decides}
+use Rattle.rules.proofs.LeastSets.{held-stored, held-not-void}
+use Rattle.rules.proofs.Growth.{extended, added_more, Reached, grow-ancestor, grow-ready, grow-broken, held-cases, held_kept}
+use Rattle.rules.proofs.SettlingTable.{PredecessorsHeld, preds-known, preds-held, valid→, →valid}
+use Rattle.rules.proofs.Settling.{settled-ascending, settled-decides}
+use Rattle.rules.proofs.TableLaws.{decides-sound, row-eq, row-id, held-row, above→ancestor}
+use Rattle.rules.proofs.ReadOffLaws.{head-right, head-all}
+use Rattle.rules.proofs.MarkLaws.{held-no-fault}
+use Rattle.rules.proofs.ChoiceLaws.{row_id, chosen-all, chosen-few, chosen-ascending, chosen-head, chosen-some, head-row, some-head, named}
 use Rattle.rules.specs.Writing.{chosen, written_in, writable_in, written_of, writable_of}
 
 module _ (rules : Rules) (most : ℕ) (S : List Update) (distinct : Distinct rules.ident S) (a : ℕ) (o : Operation) where

@@ -10,9 +10,9 @@ use Rattle.bytes_order.specs.DistinctLaws.{distinct-keep, distinct-map, distinct
 use Rattle.update_format.specs.Update.{Update}
 use Rattle.rules.specs.Standing.{Held, Void, Waiting}
 use Rattle.rules.specs.Settle.{Row, Table, settled_table}
-use Rattle.rules.specs.Decides.{Decides}
-use Rattle.rules.specs.LeastSets.{held-not-void}
-use Rattle.rules.specs.Settling.{settled-decides}
+use Rattle.rules.proofs.Decides.{Decides}
+use Rattle.rules.proofs.LeastSets.{held-not-void}
+use Rattle.rules.proofs.Settling.{settled-decides}
 use Rattle.bitset.specs.Below.{count_below}
 use Rattle.bitset.specs.BelowLaws.{count_below-cong, count-keep}
 use Rattle.rules.specs.declared.Standing.{Standing}

@@ -20,9 +20,9 @@ use Rattle.rules.specs.SetEntry.{SetEntry}
 use Rattle.rules.specs.ReadOff.{Rank}
 use Rattle.rules.specs.CausalOrder.{OrderExactly}
 use Rattle.rules.specs.Settle.{Standing, held, waiting, void, Row, Table, is_held, order_in, held_row, rank, tags_of, set_entries_from, names, deletes, anchored, values_of}
-use Rattle.rules.specs.Decides.{Decides}
-use Rattle.rules.specs.LeastSets.{ancestor-stored, ancestor-trans, held-acyclic, held-ancestors, VerdictSays, says-stored, one-verdict}
-use Rattle.rules.specs.SettlingTable.{Right, SoundTable, HeldRowOf, held-row-of, order-exactly}
+use Rattle.rules.proofs.Decides.{Decides}
+use Rattle.rules.proofs.LeastSets.{ancestor-stored, ancestor-trans, held-acyclic, held-ancestors, VerdictSays, says-stored, one-verdict}
+use Rattle.rules.proofs.SettlingTable.{Right, SoundTable, HeldRowOf, held-row-of, order-exactly}
 
 -- a negated test
 

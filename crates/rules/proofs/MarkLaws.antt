@@ -26,13 +26,13 @@ use Rattle.rules.specs.Mark.{Mark, mark_key, kinds_by, marks_by}
 use Rattle.rules.specs.ReadOff.{Forked, Fault, Faulty, MarkedFor}
 use Rattle.rules.specs.CausalOrder.{Causal, is_apart}
 use Rattle.rules.specs.Settle.{Row, Table, void, is_held, is_void, held_in, order_in, held_row, forked_by, forked_row, fault_row, some_row_by, marks_in, marks}
-use Rattle.rules.specs.Decides.{Decides}
-use Rattle.rules.specs.LeastSets.{held-stored, void-stored, held-not-void}
-use Rattle.rules.specs.CausalLaws.{is_apart→, forked→order, order→forked}
-use Rattle.rules.specs.Growth.{grow-forked, grow-faulty}
-use Rattle.rules.specs.SettlingTable.{is_held→, is_void→, held_in_lem, all_held, preds-known, preds-held}
-use Rattle.rules.specs.Settling.{settled-decides}
-use Rattle.rules.specs.TableLaws.{HeldRow, any-held→, →any-held, decides-sound, row-held, says_row, held-row, row-order}
+use Rattle.rules.proofs.Decides.{Decides}
+use Rattle.rules.proofs.LeastSets.{held-stored, void-stored, held-not-void}
+use Rattle.rules.proofs.CausalLaws.{is_apart→, forked→order, order→forked}
+use Rattle.rules.proofs.Growth.{grow-forked, grow-faulty}
+use Rattle.rules.proofs.SettlingTable.{is_held→, is_void→, held_in_lem, all_held, preds-known, preds-held}
+use Rattle.rules.proofs.Settling.{settled-decides}
+use Rattle.rules.proofs.TableLaws.{HeldRow, any-held→, →any-held, decides-sound, row-held, says_row, held-row, row-order}
 
 module _ (rules : Rules) (S : List Update) where
   -- a fault is a void update by the second clause: "all are held and the antichain rule or the operation fails"

@@ -19,10 +19,10 @@ use Rattle.rules.specs.Terms.{places}
 use Rattle.rules.specs.Report.{report_text, report_of}
 use Rattle.rules.specs.Writing.{written_of}
 use Rattle.rules.specs.Small.{#a, Small, by, a, c, rules_of, small_set, small_ledgers, apart, one_add, two_adds, add_rules, SmallChoice, choice_rules, choice_set, small_choices, longest_short, by_bytes, booked_by, booked}
-use Rattle.rules.specs.Cases.{computed, ids-apart, forms-computed, choices-computed, choice-ids-apart, choices-some, longest-computed}
-use Rattle.rules.specs.TableLaws.{not-true→}
-use Rattle.rules.specs.PartsLaws.{read_right}
-use Rattle.rules.specs.ChosenLaws.{choice-right}
+use Rattle.rules.proofs.Cases.{computed, ids-apart, forms-computed, choices-computed, choice-ids-apart, choices-some, longest-computed}
+use Rattle.rules.proofs.TableLaws.{not-true→}
+use Rattle.rules.proofs.PartsLaws.{read_right}
+use Rattle.rules.proofs.ChosenLaws.{choice-right}
 
 -- the test of the ids
 apart_distinct : {A : Type 0} (key : A → List ℕ) (xs : List A) → apart (map key xs) ≡ true → Distinct key xs

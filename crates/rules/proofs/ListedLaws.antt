@@ -20,9 +20,9 @@ use Rattle.update_format.specs.Update.{Id, Delete, Update}
 use Rattle.rules.specs.Standing.{Rules, beginning}
 use Rattle.rules.specs.ReadOff.{Deleted, Rank, InsertAt, Sooner, Ordered, Siblings, AtBeginning, Under, Walk, Shown}
 use Rattle.rules.specs.Settle.{Row, Table, held_row, rank, anchored, siblings, under, walk, deletes, deleted, values_of, sibling_key, updates_in}
-use Rattle.rules.specs.Decides.{Decides}
-use Rattle.rules.specs.TableLaws.{deletes→, →deletes, insert-value, insert-values, HeldRow, any-held→, →any-held, keep-held→, row-held, row-id, row-rank, held-row, rank-bound}
-use Rattle.rules.specs.WalkLaws.{Entry, at_beginning, first_rows, siblings-∈, ∈-siblings, child-held, child-rank, under→, →under}
+use Rattle.rules.proofs.Decides.{Decides}
+use Rattle.rules.proofs.TableLaws.{deletes→, →deletes, insert-value, insert-values, HeldRow, any-held→, →any-held, keep-held→, row-held, row-id, row-rank, held-row, rank-bound}
+use Rattle.rules.proofs.WalkLaws.{Entry, at_beginning, first_rows, siblings-∈, ∈-siblings, child-held, child-rank, under→, →under}
 
 module _ {rules : Rules} {S : List Update} {T : Table} (distinct : Distinct rules.ident S) (decides : Decides rules S T) where
   -- siblings are in order

@@ -17,9 +17,9 @@ use Rattle.bytes_order.specs.SortLaws.{sort-∈, ∈-sort, sort-ascending, sort-
 use Rattle.update_format.specs.Update.{Id, Update}
 use Rattle.rules.specs.Standing.{Rules, Held, Void, Waiting}
 use Rattle.rules.specs.Settle.{Standing, held, waiting, void, Row, Table, is_waiting, held_in, void_in, ruled, judge, round, rounds, start, start_all, settled_table}
-use Rattle.rules.specs.Decides.{Decides}
-use Rattle.rules.specs.LeastSets.{SoundVerdicts, Stable, settled-waiting}
-use Rattle.rules.specs.SettlingTable.{SoundRow, SoundTable, Undecided, RowOutcome, stays, is_ruled, judge-outcome, judge-id, round-sound, held_in_lem, void-in, row_of, right-as}
+use Rattle.rules.proofs.Decides.{Decides}
+use Rattle.rules.proofs.LeastSets.{SoundVerdicts, Stable, settled-waiting}
+use Rattle.rules.proofs.SettlingTable.{SoundRow, SoundTable, Undecided, RowOutcome, stays, is_ruled, judge-outcome, judge-id, round-sound, held_in_lem, void-in, row_of, right-as}
 use Rattle.bytes_order.specs.CountLaws.{count_members, map-lowers}
 
 -- the verdict of the row with an id

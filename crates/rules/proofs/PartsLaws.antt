@@ -18,14 +18,14 @@ use Rattle.rules.specs.ReadOff.{Head, MarkedFor, Present}
 use Rattle.rules.specs.CausalOrder.{OrderExactly, turned}
 use Rattle.rules.specs.Parts.{Parts, Exactly, ReadFrom}
 use Rattle.rules.specs.Settle.{Standing, held, waiting, void, Row, Table, is_held, is_waiting, is_void, held_row, covered, heads, marks, set_entries, updates_in, parts_in, parts_of, settled_table, causal_order}
-use Rattle.rules.specs.Decides.{Decides}
-use Rattle.rules.specs.LeastSets.{VerdictSays}
-use Rattle.rules.specs.CausalLaws.{order-turned}
-use Rattle.rules.specs.SettlingTable.{is_held→, is_waiting→, is_void→}
-use Rattle.rules.specs.Settling.{settled-decides, settled-ascending}
-use Rattle.rules.specs.TableLaws.{row-says, says_row, held-order}
-use Rattle.rules.specs.MarkLaws.{mark-right, mark-all}
-use Rattle.rules.specs.ReadOffLaws.{head-right, head-all, set-entry-right, set-entry-all, list_right, listed-unique}
+use Rattle.rules.proofs.Decides.{Decides}
+use Rattle.rules.proofs.LeastSets.{VerdictSays}
+use Rattle.rules.proofs.CausalLaws.{order-turned}
+use Rattle.rules.proofs.SettlingTable.{is_held→, is_waiting→, is_void→}
+use Rattle.rules.proofs.Settling.{settled-decides, settled-ascending}
+use Rattle.rules.proofs.TableLaws.{row-says, says_row, held-order}
+use Rattle.rules.proofs.MarkLaws.{mark-right, mark-all}
+use Rattle.rules.proofs.ReadOffLaws.{head-right, head-all, set-entry-right, set-entry-all, list_right, listed-unique}
 
 -- a part has each of its elements once, and its definition determines it
 module _ {A : Type 0} {key : A → List ℕ} {P : A → Type 0} where

@@ -1,5 +1,5 @@
 -- How long a report is, in each form: the lines of each part are bounded, and each row of a table shows in few of them. In order: lines; parts; how often a row shows: by its
--- one verdict, as a head, as an Add or an Insert; a table of bounded updates (`SizedTable`). Main laws, at the end: `text-length` and `short-text-length`, by the number of rows.
+-- one verdict, as a head, as an Add or an Insert; a table of bounded updates (`SizedTable`). Main laws, at the end: `text_length` and `short-text-length`, by the number of rows.
 -- That no report of a set passes its bound is `report-length` of `ReportLaws`.
 use Rattle.std.specs.Prelude.{ℕ, zero, suc, ◌+◌, ◌-◌, ◌*◌, ◌≤◌, ◌<◌, min, ◌≡◌, Bool, true, cond}
 use Rattle.std.proofs.Common.{zero-le, not-suc-le-zero, le_of_suc-le-suc, le_refl, eq-or-lt_of_le, add-le-add, mul-add, mul-le-mul_left, mul-le-mul_right, sym, ◌∙◌, ap, ⊎_elim, length-append}
@@ -26,8 +26,8 @@ use Rattle.rules.specs.Mark.{Mark, mark_key}
 use Rattle.rules.specs.Settle.{Row, Table, Standing, held, waiting, void, is_held, is_waiting, is_void, is_insert, heads, marks_in, marks, tags_of, set_entries_from, set_entries, entries, values_of, list, updates_in, parts_in}
 use Rattle.bytes_ascii.specs.Ascii.{codes, ascii, hex, decimal}
 use Rattle.bytes_ascii.specs.AsciiLaws.{hex-length, decimal-longer}
-use Rattle.rules.specs.TableLaws.{add-sized, set_entries_from-∈}
-use Rattle.rules.specs.MarkLaws.{marks-by-author, marks-by-few}
+use Rattle.rules.proofs.TableLaws.{add-sized, set_entries_from-∈}
+use Rattle.rules.proofs.MarkLaws.{marks-by-author, marks-by-few}
 use Rattle.rules.specs.Report.{pair_line, author_line, update_line, set_line, bytes_line, id_line, mark_word, mark_line, part_text, read_offs_text, report_text, author_digits, report_size}
 use Rattle.bytes_order.specs.CountLaws.{one_if, keep-three-length, concat_map-length, keep-concat_map-length}
 

@@ -4,8 +4,8 @@ use Rattle.std.proofs.Common.{sym, ap, ap₂, subst, ◌∙◌, arith, drop_at}
 use Rattle.std.proofs.lemmas.List.{replicate-append-replicate}
 use Rattle.sha256_fips180.specs.Fips180.{zero_bytes, length_field, padding, pad, SHA-256}
 use Rattle.sha256_fips180.specs.Standard.{message_limit, AllBelow, binary, bits, number, Padded, Digest}
-use Rattle.sha256_fips180.specs.BinaryLaws.{below-append, below-replicate, below-big_endian, below-binary, length-binary}
-use Rattle.sha256_fips180.specs.BinaryLaws.{number-binary, number-below, number-unique, bits-append, length-bits, bits-zeros, bits-big_endian, bits-unique}
+use Rattle.sha256_fips180.proofs.BinaryLaws.{below-append, below-replicate, below-big_endian, below-binary, length-binary}
+use Rattle.sha256_fips180.proofs.BinaryLaws.{number-binary, number-below, number-unique, bits-append, length-bits, bits-zeros, bits-big_endian, bits-unique}
 
 padding-bytes : (n : ℕ) → AllBelow 256 (padding n)
 unfolding padding length_field

@@ -15,21 +15,21 @@ use Rattle.update_format.specs.Update.{Id, Update, Bounded, encode}
 use Rattle.update_format.specs.Decode.{slice}
 use Rattle.update_format.specs.Laws.{encode-within}
 use Rattle.rules.specs.Standing.{Ancestor, Held, Void}
-use Rattle.rules.specs.LeastSets.{ancestor-stored}
-use Rattle.rules.specs.Growth.{grow-ancestor, grow-held, grow-void, held-ancestors-stay, added_more, added-cases}
+use Rattle.rules.proofs.LeastSets.{ancestor-stored}
+use Rattle.rules.proofs.Growth.{grow-ancestor, grow-held, grow-void, held-ancestors-stay, added_more, added-cases}
 use Rattle.bitset.specs.Bits.{has, within}
 use Rattle.bitset.specs.BitsLaws.{within→, within_more, within_none}
 use Rattle.rules.specs.declared.Standing.TheVariants.{Held as IsHeld, Waiting as IsWaiting, Void as IsVoid}
 use Rattle.rules.specs.Terms.{allowed}
 use Rattle.rules.specs.Room.{has_room}
-use Rattle.rules.specs.RoomLaws.{none-fit, one-more-fits}
+use Rattle.rules.proofs.RoomLaws.{none-fit, one-more-fits}
 use Rattle.ledger_state.specs.State.{start_of, store_length_of, Place, Book, place_at, with_taken}
-use Rattle.ledger_state.specs.BookLaws.{replaced-same, replaced-other}
+use Rattle.ledger_state.proofs.BookLaws.{replaced-same, replaced-other}
 use Rattle.ledger_state.specs.Row1.{sound}
-use Rattle.ledger_state.specs.Row1Laws.{sound←, holds-sound, start-next, start-inside}
+use Rattle.ledger_state.proofs.Row1Laws.{sound←, holds-sound, start-next, start-inside}
 use Rattle.ledger_state.specs.Stands.{ident, rules, no_update, update_at, Holds, Truthful, Stands}
-use Rattle.ledger_state.specs.RoomLaws.{room→, room-stored}
-use Rattle.ledger_state.specs.StandingLaws.{held≢waiting, void≢waiting}
+use Rattle.ledger_state.proofs.RoomLaws.{room→, room-stored}
+use Rattle.ledger_state.proofs.StandingLaws.{held≢waiting, void≢waiting}
 
 -- a ledger that stands is never row 1
 pub stands-sound : (l : Book) (s : List ℕ) (us : List Update) → Stands l s us → sound l s ≡ true

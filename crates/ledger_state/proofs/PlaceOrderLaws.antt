@@ -9,7 +9,7 @@ use Rattle.bytes_order.specs.DistinctLaws.{distinct-index}
 use Rattle.update_format.specs.Update.{Update}
 use Rattle.rules.specs.declared.CausalOrder.TheVariants.{Same, Apart}
 use Rattle.rules.specs.CausalOrder.{OrderExactly, turned, order_by}
-use Rattle.rules.specs.CausalLaws.{order_by-turned, tells-exactly}
+use Rattle.rules.proofs.CausalLaws.{order_by-turned, tells-exactly}
 use Rattle.bitset.specs.Bits.{has}
 use Rattle.rules.specs.declared.Standing.TheVariants.{Held as IsHeld}
 use Rattle.ledger_state.specs.State.{Place, Book, place_at}

@@ -16,15 +16,15 @@ use Rattle.rules.specs.Standing.{Rules}
 use Rattle.rules.specs.ReadOff.{Head, Rank, Sooner}
 use Rattle.rules.specs.Choice.{Higher, by_rank, by-id, Highest, AtOrAbove, OwnHead, OwnThenLowest, Chosen}
 use Rattle.rules.specs.Settle.{Row, Table, settled_table, heads, rank, rank_key, updates_in, parts_in}
-use Rattle.rules.specs.Decides.{Decides}
-use Rattle.rules.specs.LeastSets.{held-stored}
-use Rattle.rules.specs.Settling.{settled-ascending, settled-decides}
-use Rattle.rules.specs.TableLaws.{HeldRow, row-eq, row-held, row-id, row-rank, held-row, ancestor→above, above→ancestor}
-use Rattle.rules.specs.ListedLaws.{sooner-asym}
-use Rattle.rules.specs.ReadOffLaws.{head-right, head-all}
-use Rattle.rules.specs.PartsLaws.{exactly-unique, parts-right}
-use Rattle.rules.specs.ChoiceLaws.{row_id, RowAtOrAbove, OwnRows, own_heads, chosen-ascending, chosen-head, chosen-number, chosen-lowest, head-row, own-rows, own-∈, chosen-own}
-use Rattle.rules.specs.WritingLaws.{written-heads, written-all-heads}
+use Rattle.rules.proofs.Decides.{Decides}
+use Rattle.rules.proofs.LeastSets.{held-stored}
+use Rattle.rules.proofs.Settling.{settled-ascending, settled-decides}
+use Rattle.rules.proofs.TableLaws.{HeldRow, row-eq, row-held, row-id, row-rank, held-row, ancestor→above, above→ancestor}
+use Rattle.rules.proofs.ListedLaws.{sooner-asym}
+use Rattle.rules.proofs.ReadOffLaws.{head-right, head-all}
+use Rattle.rules.proofs.PartsLaws.{exactly-unique, parts-right}
+use Rattle.rules.proofs.ChoiceLaws.{row_id, RowAtOrAbove, OwnRows, own_heads, chosen-ascending, chosen-head, chosen-number, chosen-lowest, head-row, own-rows, own-∈, chosen-own}
+use Rattle.rules.proofs.WritingLaws.{written-heads, written-all-heads}
 use Rattle.rules.specs.Writing.{chosen, written_in, written_of}
 
 -- a member, where it cannot be that it is none

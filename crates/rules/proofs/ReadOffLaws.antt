@@ -17,12 +17,12 @@ use Rattle.rules.specs.SetEntry.{SetEntry, entry_key}
 use Rattle.rules.specs.ReadOff.{Head, Removed, Present, Rank, InsertAt, Walk, Shown, Listed}
 use Rattle.rules.specs.CausalOrder.{is_before}
 use Rattle.rules.specs.Settle.{Row, Table, held, order_in, held_row, covered, heads, removed, names, set_entries_from, set_entries, list, entries, rank, updates_in}
-use Rattle.rules.specs.Decides.{Decides}
-use Rattle.rules.specs.CausalLaws.{is_before→}
-use Rattle.rules.specs.SetEntryLaws.{entry-key-identifies}
-use Rattle.rules.specs.TableLaws.{not-true→, not-true, set_entries_from-∈, ∈-set_entries_from, names→, →names, HeldRow, any-held→, →any-held, keep-held→, →keep-held, row-held, row-id, row-rank, held-row, row-order, rank-bound}
-use Rattle.rules.specs.WalkLaws.{Entry, at_beginning, first_rows, siblings-∈, walk-entry, walk-all, walk-distinct}
-use Rattle.rules.specs.ListedLaws.{first_right, walk-right, shown-right, siblings-unique, walk-unique, shown-unique}
+use Rattle.rules.proofs.Decides.{Decides}
+use Rattle.rules.proofs.CausalLaws.{is_before→}
+use Rattle.rules.proofs.SetEntryLaws.{entry-key-identifies}
+use Rattle.rules.proofs.TableLaws.{not-true→, not-true, set_entries_from-∈, ∈-set_entries_from, names→, →names, HeldRow, any-held→, →any-held, keep-held→, →keep-held, row-held, row-id, row-rank, held-row, row-order, rank-bound}
+use Rattle.rules.proofs.WalkLaws.{Entry, at_beginning, first_rows, siblings-∈, walk-entry, walk-all, walk-distinct}
+use Rattle.rules.proofs.ListedLaws.{first_right, walk-right, shown-right, siblings-unique, walk-unique, shown-unique}
 
 module _ (rules : Rules) (S : List Update) (T : Table) (distinct : Distinct rules.ident S) (decides : Decides rules S T) where
   -- heads

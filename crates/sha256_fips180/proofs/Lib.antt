@@ -1,0 +1,2 @@
+pub mod BinaryLaws
+pub mod StandardLaws
