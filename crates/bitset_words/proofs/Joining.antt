@@ -13,7 +13,7 @@ use Rattle.bytes_copy.specs.Overwritten.{overwritten}
 use Rattle.bytes_copy.specs.OverwrittenLaws.{overwritten-back}
 use Rattle.bitset.specs.Bits.{word_bits, join}
 use Rattle.bitset_words.specs.Run.{number, Words, join_words, Rows, JoinsRows}
-use Rattle.bitset_words.specs.RunLaws.{length-join_words, get_or-join_words, number-join}
+use Rattle.bitset_words.proofs.RunLaws.{length-join_words, get_or-join_words, number-join}
 
 -- the words b written over s from word at on, the first i of them
 module _ (s : List ℕ) (at : ℕ) (b : List ℕ) (fits : at + length b ≤ length s) where

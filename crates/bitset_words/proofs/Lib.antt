@@ -1,2 +1,4 @@
 pub mod Reading
 pub mod Joining
+pub mod RunLaws
+pub mod Examples

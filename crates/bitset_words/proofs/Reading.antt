@@ -10,7 +10,7 @@ use lib.Seq.{drop-cons}
 use lib.Count.{ones, ones_in, ones-le}
 use Rattle.bitset.specs.Bits.{word_bits, within, count}
 use Rattle.bitset_words.specs.Run.{number, Words}
-use Rattle.bitset_words.specs.RunLaws.{count_word, within_word}
+use Rattle.bitset_words.proofs.RunLaws.{count_word, within_word}
 
 module _ (ws : List ℕ) (h : Words ws) (i : ℕ) (l : i < length ws) where
   next_word : drop i ws ≡ get_or ws i 0 ∷ drop (i + 1) ws

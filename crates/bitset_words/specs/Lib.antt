@@ -1,3 +1,1 @@
 pub mod Run
-pub mod RunLaws
-pub mod Examples

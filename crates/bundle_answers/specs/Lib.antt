@@ -1,3 +1,2 @@
 pub mod AnswerBytes
-pub mod AnswerLaws
 pub mod Examples

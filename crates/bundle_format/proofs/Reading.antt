@@ -11,7 +11,7 @@ use borrow.Author.Tests.{leb-true}
 use Rattle.bytes_words.specs.Words.{big_of}
 use Rattle.bundle_format.specs.Bundle.{length_bytes, most_items, first_length, first_item, after_first, first_whole, with_first, items_within, items_of}
 use Rattle.bundle_format.specs.Counted.{length_of}
-use Rattle.bundle_format.specs.BundleLaws.{items-end, items-next, items-cut, items-many}
+use Rattle.bundle_format.proofs.BundleLaws.{items-end, items-next, items-cut, items-many}
 
 module _ (b : List ℕ) (at : ℕ) where
   -- two bytes, as a number

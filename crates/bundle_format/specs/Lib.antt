@@ -1,4 +1,3 @@
 pub mod Bundle
 pub mod Counted
-pub mod BundleLaws
 pub mod Examples

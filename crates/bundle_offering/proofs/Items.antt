@@ -10,7 +10,7 @@ use lib.Seq.{length-take-le, take_at, drop_at, drop-drop}
 use Rattle.bytes_order.specs.Member.{concat_map}
 use Rattle.bytes_copy.specs.Overwritten.{overwritten}
 use Rattle.bundle_format.specs.Bundle.{length_bytes, most_items, first_length, first_item, items_within, items_of}
-use Rattle.bundle_format.specs.BundleLaws.{some_one, First, items-first, items-end}
+use Rattle.bundle_format.proofs.BundleLaws.{some_one, First, items-first, items-end}
 use Rattle.ledger_state.specs.declared.Ledger.{Ledger}
 use Rattle.ledger_state.specs.View.{book_of}
 use Rattle.ledger_state.specs.Row1.{sound}
@@ -19,7 +19,7 @@ use Rattle.ledger_offering.specs.Offer.{OfferRow}
 use Rattle.ledger_offering.specs.Calls.{Calls, done}
 use Rattle.ledger_offering.specs.CallsLaws.{offer-sound, calls-then}
 use Rattle.bundle_answers.specs.AnswerBytes.{answer_length, answer_bytes, answers_bytes}
-use Rattle.bundle_answers.specs.AnswerLaws.{answer-length, calls-answers-length, answers-then}
+use Rattle.bundle_answers.proofs.AnswerLaws.{answer-length, calls-answers-length, answers-then}
 use Rattle.bundle_offering.specs.Bundle.{answers_length, Offerable, AllOffered}
 
 -- the items before byte `at` of the bundle were offered, and their answers end at byte `end`

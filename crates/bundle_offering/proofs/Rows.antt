@@ -7,7 +7,7 @@ use mathlib.Core.Option.{Option, none, some}
 use mathlib.Core.Bool.{true, false}
 use lib.ListN.{length}
 use Rattle.bundle_format.specs.Bundle.{most_items, items_of}
-use Rattle.bundle_format.specs.BundleLaws.{some_one, items-few}
+use Rattle.bundle_format.proofs.BundleLaws.{some_one, items-few}
 use Rattle.bundle_format.specs.declared.Counted.{Counted}
 use Rattle.bundle_format.specs.declared.Counted.TheVariants.{Items, NoBundle}
 use Rattle.bundle_format.specs.Counted.{count_of, length_of}

@@ -2,7 +2,7 @@
 use Rattle.std.specs.Prelude.{◌≡◌, ℕ}
 use Rattle.std.proofs.Common.{ap, arith}
 use Rattle.ledger_refusals.specs.Numbers.{refusal_number}
-use Rattle.ledger_refusals.specs.NumberLaws.{refusal-one}
+use Rattle.ledger_refusals.proofs.NumberLaws.{refusal-one}
 use Rattle.bundle_offering.specs.declared.Bundled.{Bundled}
 use Rattle.bundle_offering.specs.declared.Bundled.TheVariants.{Answered, Refused}
 use Rattle.bundle_offering.specs.Bundle.{bundle_values}

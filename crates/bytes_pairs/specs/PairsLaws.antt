@@ -5,7 +5,7 @@ use Rattle.std.proofs.Common.{sym, ap₂, ◌∙◌, length-drop, take-append-dr
 use Rattle.std.proofs.Math.Path.{ap}
 use mathlib.Core.List.{List, ◌∷◌, ◌++◌}
 use Rattle.bytes_words.specs.Words.{Bytes, bytes_in, big_of}
-use Rattle.bytes_words.specs.WordsLaws.{bytes_take, bytes_drop, bytes_in-big}
+use Rattle.bytes_words.proofs.WordsLaws.{bytes_take, bytes_drop, bytes_in-big}
 use Rattle.bytes_pairs.specs.Pairs.{pair_at}
 
 module _ (b : List ℕ) (at : ℕ) (within : at + 2 ≤ length b) where

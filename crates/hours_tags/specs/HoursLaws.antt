@@ -7,7 +7,7 @@ use Rattle.std.proofs.Common.{sym, ap, ap₂, ◌∙◌, get_or-take, drop-cons,
 use Rattle.bytes_order.specs.BoolLaws.{true-false, not-true→false, and-true→, and-true}
 use Rattle.bytes_words.specs.Words.{Bytes, bytes_in}
 use Rattle.bytes_pairs.specs.Pairs.{pair_at}
-use Rattle.bytes_words.specs.WordsLaws.{big-bytes_in}
+use Rattle.bytes_words.proofs.WordsLaws.{big-bytes_in}
 use Rattle.bytes_pairs.specs.PairsLaws.{pair-drop, pair-bytes, pair-laid}
 use Rattle.update_format.specs.Update.{tag_length}
 use Rattle.hours_tags.specs.declared.Limits.{Limits}

@@ -5,7 +5,7 @@ use Rattle.std.proofs.Math.Option.{Option, none, some}
 use Rattle.std.proofs.lemmas.Bool.{lt-leb}
 use Rattle.bytes_order.specs.Member.{◌∈◌, concat_map}
 use Rattle.bundle_format.specs.Bundle.{most_items, items_of, bundle_of}
-use Rattle.bundle_format.specs.BundleLaws.{ItemSized, items_back}
+use Rattle.bundle_format.proofs.BundleLaws.{ItemSized, items_back}
 use Rattle.ledger_state.specs.declared.Ledger.{Ledger}
 use Rattle.ledger_state.specs.State.{document_terms, store_length_of}
 use Rattle.ledger_state.specs.View.{fresh_ledger}

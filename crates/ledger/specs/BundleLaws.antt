@@ -14,7 +14,7 @@ use Rattle.ledger_offering.specs.Values.{OfferValues}
 use Rattle.ledger_offering.specs.Calls.{Calls, done, call}
 use Rattle.ledger_offering.specs.CallsLaws.{offer-terms}
 use Rattle.bundle_answers.specs.AnswerBytes.{answers_bytes}
-use Rattle.bundle_answers.specs.AnswerLaws.{calls-answers-length}
+use Rattle.bundle_answers.proofs.AnswerLaws.{calls-answers-length}
 use Rattle.bundle_offering.specs.Bundle.{answers_length, BundleRow, unfit, no_bundle, short, answered}
 use Rattle.ledger.specs.Calls.{accept_decoded, offer-stands}
 use Rattle.ledger.specs.Answers.{answer_for, answer-right}

@@ -19,8 +19,9 @@ use Rattle.rules.specs.Standing.{Held, Void, Waiting}
 use Rattle.rules.specs.Settle.{settled_table}
 use Rattle.standing_bytes.specs.StandingByte.{standing_byte, unknown_byte}
 use Rattle.lookup_merge.specs.Merge.{Stored, id_of, merge}
-use Rattle.lookup_merge.specs.ClosedForm.{closed_form, comparisons-closed}
-use Rattle.lookup_merge.specs.LookupLaws.{byte_for, byte_for-∈, byte_for-none, answers-length, merge-finds}
+use Rattle.lookup_merge.specs.ClosedForm.{closed_form}
+use Rattle.lookup_merge.proofs.ClosedForm.{comparisons-closed}
+use Rattle.lookup_merge.proofs.LookupLaws.{byte_for, byte_for-∈, byte_for-none, answers-length, merge-finds}
 use Rattle.ledger_state.specs.State.{Book, place_at, find_in}
 use Rattle.ledger_state.specs.Stands.{ident, rules, update_at, Stands}
 use Rattle.ledger_state.specs.FindLaws.{stored_at, place_of, find-right, find_none}

@@ -2,7 +2,7 @@
 use Rattle.std.specs.Prelude.{◌≡◌, refl, ℕ}
 use Rattle.std.proofs.Common.{ap, arith}
 use Rattle.ledger_refusals.specs.Numbers.{refusal_number}
-use Rattle.ledger_refusals.specs.NumberLaws.{refusal-one}
+use Rattle.ledger_refusals.proofs.NumberLaws.{refusal-one}
 use Rattle.ledger.specs.declared.Asked.{Asked}
 use Rattle.ledger.specs.declared.Asked.TheVariants.{Is, Unknown, Refused as NotAsked}
 use Rattle.ledger.specs.declared.Reported.{Reported}

@@ -2,7 +2,7 @@
 use Rattle.std.specs.Prelude.{◌≡◌, ℕ}
 use Rattle.std.proofs.Common.{ap, arith}
 use Rattle.ledger_refusals.specs.Numbers.{refusal_number}
-use Rattle.ledger_refusals.specs.NumberLaws.{refusal-one}
+use Rattle.ledger_refusals.proofs.NumberLaws.{refusal-one}
 use Rattle.ledger_offering.specs.declared.Answer.{Answer}
 use Rattle.ledger_offering.specs.declared.Answer.TheVariants.{Taken, Known, Refused}
 use Rattle.ledger_offering.specs.Values.{offer_values}

@@ -12,7 +12,7 @@ use Rattle.update_format.specs.Slices.{ids-length}
 use Rattle.standing_bytes.specs.StandingByte.{unknown_byte}
 use Rattle.lookup_merge.specs.Merge.{Stored, Merged, merge}
 use Rattle.lookup_merge.specs.Merging.{Walks, Merges}
-use Rattle.lookup_merge.specs.LookupLaws.{answers-length}
+use Rattle.lookup_merge.proofs.LookupLaws.{answers-length}
 
 map-constant : (b : ℕ) (is : List Id) → map (λ (i : Id). b) is ≡ replicate (length is) b
 map-constant b [] = refl

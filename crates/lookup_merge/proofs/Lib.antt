@@ -1,3 +1,7 @@
 pub mod Walking
 pub mod Filling
 pub mod Finishing
+pub mod LayoutLaws
+pub mod StepLaws
+pub mod LookupLaws
+pub mod ClosedForm

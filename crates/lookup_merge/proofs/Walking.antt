@@ -13,7 +13,7 @@ use Rattle.standing_bytes.specs.StandingByte.{unknown_byte}
 use Rattle.lookup_merge.specs.Merge.{merge}
 use Rattle.lookup_merge.specs.Layout.{stored_in}
 use Rattle.lookup_merge.specs.Merging.{Walks}
-use Rattle.lookup_merge.specs.StepLaws.{after, left, stored_at, asked_at, stored-passed, both-passed, asked-passed, stored-ended, asked-ended}
+use Rattle.lookup_merge.proofs.StepLaws.{after, left, stored_at, asked_at, stored-passed, both-passed, asked-passed, stored-ended, asked-ended}
 
 -- i stored ids and j asked ones are passed, by n comparisons, and the buffer o, now o', has the answers so far
 pub record Walking (ids bs a o : List ℕ) (i j n : ℕ) (o' : List ℕ) : Type 0 where

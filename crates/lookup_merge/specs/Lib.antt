@@ -2,8 +2,5 @@ pub mod Merge
 pub mod Layout
 pub mod Merging
 pub mod MergeLaws
-pub mod LayoutLaws
-pub mod StepLaws
-pub mod LookupLaws
 pub mod ClosedForm
 pub mod Examples

@@ -14,7 +14,7 @@ use Rattle.standing_bytes.specs.StandingByte.{standing_byte}
 use Rattle.lookup_merge.specs.Merge.{Stored, merge}
 use Rattle.lookup_merge.specs.Merging.{Merges}
 use Rattle.lookup_merge.specs.Layout.{stored_in}
-use Rattle.lookup_merge.specs.LayoutLaws.{stored-take, stored-then}
+use Rattle.lookup_merge.proofs.LayoutLaws.{stored-take, stored-then}
 use Rattle.ledger_state.specs.State.{Book, place_at}
 use Rattle.lookup_standings.specs.Lookup.{stored_id, look_up}
 use Rattle.lookup_standings.specs.Gathering.{PutAt}

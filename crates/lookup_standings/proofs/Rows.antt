@@ -9,7 +9,7 @@ use Rattle.bytes_order.specs.Order.{ascending}
 use Rattle.update_format.specs.Decode.{whole_ids, id_count, ids_in}
 use Rattle.update_format.specs.Slices.{ids-length}
 use Rattle.lookup_merge.specs.Merge.{Merged}
-use Rattle.lookup_merge.specs.LookupLaws.{answers-length}
+use Rattle.lookup_merge.proofs.LookupLaws.{answers-length}
 use Rattle.ledger_state.specs.State.{Book}
 use Rattle.ledger_state.specs.Row1.{sound}
 use Rattle.lookup_standings.specs.Lookup.{compared_ids, stored_id, look_up, LookupRow, answered}

@@ -14,7 +14,7 @@ use Rattle.bitset.specs.BelowLaws.{up_to-∈, ∈-up_to, up_to-length}
 use Rattle.update_format.specs.Update.{Id}
 use Rattle.update_format.specs.Decode.{ids_in}
 use Rattle.lookup_merge.specs.Merge.{id_of, merge}
-use Rattle.lookup_merge.specs.LookupLaws.{comparisons-bound, comparisons-best, none-stored, none-asked}
+use Rattle.lookup_merge.proofs.LookupLaws.{comparisons-bound, comparisons-best, none-stored, none-asked}
 use Rattle.ledger_state.specs.State.{Book}
 use Rattle.ledger_relations.specs.PlaceTests.{id_order}
 use Rattle.lookup_standings.specs.Lookup.{LookupValues, compared_ids, place_id, stored_id, IdOrder, look_up, LookupRow, unfit, uneven, unordered, short, answered}

@@ -2,7 +2,7 @@
 use Rattle.std.specs.Prelude.{◌≡◌, ℕ}
 use Rattle.std.proofs.Common.{ap, arith}
 use Rattle.ledger_refusals.specs.Numbers.{refusal_number}
-use Rattle.ledger_refusals.specs.NumberLaws.{refusal-one}
+use Rattle.ledger_refusals.proofs.NumberLaws.{refusal-one}
 use Rattle.lookup_standings.specs.declared.LookedUp.{LookedUp}
 use Rattle.lookup_standings.specs.declared.LookedUp.TheVariants.{Compared, Refused}
 use Rattle.lookup_standings.specs.Lookup.{looked_up}

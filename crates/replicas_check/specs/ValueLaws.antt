@@ -2,7 +2,7 @@
 use Rattle.std.specs.Prelude.{◌≡◌, ℕ}
 use Rattle.std.proofs.Common.{ap, ap₂, arith}
 use Rattle.ledger_refusals.specs.Numbers.{refusal_number}
-use Rattle.ledger_refusals.specs.NumberLaws.{refusal-one}
+use Rattle.ledger_refusals.proofs.NumberLaws.{refusal-one}
 use Rattle.replicas_check.specs.declared.Compared.{Compared}
 use Rattle.replicas_check.specs.declared.Compared.TheVariants.{Same, Different, FirstUnreported, SecondUnreported}
 use Rattle.replicas_check.specs.Check.{check_values}

@@ -1,2 +1,1 @@
 pub mod StandingByte
-pub mod StandingByteLaws

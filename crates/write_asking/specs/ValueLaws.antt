@@ -2,7 +2,7 @@
 use Rattle.std.specs.Prelude.{◌≡◌, ℕ}
 use Rattle.std.proofs.Common.{ap, arith}
 use Rattle.ledger_refusals.specs.Numbers.{refusal_number}
-use Rattle.ledger_refusals.specs.NumberLaws.{refusal-one}
+use Rattle.ledger_refusals.proofs.NumberLaws.{refusal-one}
 use Rattle.write_asking.specs.declared.Wrote.{Wrote}
 use Rattle.write_asking.specs.declared.Wrote.TheVariants.{Written, Refused}
 use Rattle.write_asking.specs.Write.{wrote_values}

@@ -3,7 +3,7 @@ use Rattle.std.proofs.Common.{ℕ, ◌%◌, rules, sym, ap, ◌∙◌}
 use Rattle.std.proofs.Math.ListN.{get_or-eq_default}
 use Rattle.bitset.specs.Bits.{word_bits, has}
 use Rattle.bitset.specs.BitsLaws.{has-none}
-use Rattle.bitset_words.specs.RunLaws.{has-number}
+use Rattle.bitset_words.proofs.RunLaws.{has-number}
 use Rattle.bitset_words.proofs.has.Goals as goal
 
 pub returns-then-i-s : goal.returns-then-i-s

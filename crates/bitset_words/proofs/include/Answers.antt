@@ -3,7 +3,7 @@ use Rattle.std.proofs.Common.{ℕ, ◌-◌, ◌/◌, ◌%◌, ◌<◌, get_or, s
 use Rattle.bitset.specs.Bits.{word_bits}
 use Rattle.bitset.specs.BitsLaws.{included, not-included}
 use Rattle.bitset_words.specs.Run.{number, room, include_word}
-use Rattle.bitset_words.specs.RunLaws.{number-include}
+use Rattle.bitset_words.proofs.RunLaws.{number-include}
 use Rattle.bitset_words.proofs.include.Goals as goal
 
 pub returns-then-at-s : goal.returns-then-at-s

@@ -1,6 +1,6 @@
 use Rattle.std.proofs.Common.{◌≡◌, length, arith, rules, ap, ◌∙◌}
 use Rattle.bitset_words.specs.Run.{number}
-use Rattle.bitset_words.specs.RunLaws.{number-join}
+use Rattle.bitset_words.proofs.RunLaws.{number-join}
 use Rattle.bitset_words.proofs.Joining.{joined_to, join-next, join-all}
 use Rattle.bitset_words.proofs.join.Goals as goal
 

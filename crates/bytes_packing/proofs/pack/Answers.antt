@@ -1,7 +1,7 @@
 -- `pack` meets its contract: the four words of an id are those from bytes 0, 8, 16 and 24 on.
 use Rattle.std.proofs.Common.{◌≡◌, [], ◌∷◌, ap, ◌∙◌}
 use Rattle.bytes_words.specs.Words.{packed, bytes_of}
-use Rattle.bytes_words.specs.WordsLaws.{bytes_of-packed}
+use Rattle.bytes_words.proofs.WordsLaws.{bytes_of-packed}
 use Rattle.bytes_packing.proofs.Together.{packed-four}
 use Rattle.bytes_packing.proofs.pack.Goals as goal
 

@@ -1,7 +1,7 @@
 use Rattle.std.proofs.Common.{add-one, arith, rules, sym, ap, ◌∙◌}
 use Rattle.bytes_order.proofs.Steps.{both, smaller, larger, next}
 use Rattle.bytes_words.specs.Words.{bytes_of}
-use Rattle.bytes_words.specs.WordsOrderLaws.{order-words, eq→Equal, Equal→eq}
+use Rattle.bytes_words.proofs.WordsOrderLaws.{order-words, eq→Equal, Equal→eq}
 use Rattle.bytes_words.proofs.compare.Goals as goal
 
 -- the bytes stand to each other as the words do

@@ -1,7 +1,7 @@
 use Rattle.std.proofs.Common.{arith, rules, sym, ap, ◌∙◌}
 use Rattle.bytes_order.specs.OrderLaws.{same→eq, eq→same}
 use Rattle.bytes_words.specs.Words.{bytes_of}
-use Rattle.bytes_words.specs.WordsOrderLaws.{same-words}
+use Rattle.bytes_words.proofs.WordsOrderLaws.{same-words}
 use Rattle.bytes_words.proofs.Steps.{both-ended, differ, agree}
 use Rattle.bytes_words.proofs.same.Goals as goal
 

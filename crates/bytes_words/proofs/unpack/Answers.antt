@@ -1,7 +1,7 @@
 use Rattle.std.proofs.Common.{ℕ, ◌≡◌, List, length, arith, rules, sym, ◌∙◌, length-set}
 use Rattle.std.proofs.Math.Seq.{take_all}
 use Rattle.bytes_words.specs.Words.{bytes_of}
-use Rattle.bytes_words.specs.WordsLaws.{length-bytes_of}
+use Rattle.bytes_words.proofs.WordsLaws.{length-bytes_of}
 use Rattle.bytes_words.proofs.Steps.{written}
 use Rattle.bytes_words.proofs.unpack.Goals as goal
 

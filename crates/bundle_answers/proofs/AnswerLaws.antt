@@ -4,11 +4,11 @@ use Rattle.std.proofs.Common.{arith, sym, ap, ◌∙◌, append-nil, length-appe
 use Rattle.bytes_order.specs.Member.{concat_map}
 use Rattle.bytes_order.specs.MemberLaws.{concat_map-append}
 use Rattle.bytes_words.specs.Words.{bytes_in, big_of}
-use Rattle.bytes_words.specs.WordsLaws.{length-bytes_in, big-bytes_in}
+use Rattle.bytes_words.proofs.WordsLaws.{length-bytes_in, big-bytes_in}
 use Rattle.bitset.specs.BelowLaws.{count_below-le}
 use Rattle.rules.proofs.TermsLaws.{allowed→, places-most}
 use Rattle.rules.specs.declared.Standing.{Standing}
-use Rattle.standing_bytes.specs.StandingByteLaws.{standing_of, standing-back}
+use Rattle.standing_bytes.proofs.StandingByteLaws.{standing_of, standing-back}
 use Rattle.ledger_state.specs.declared.Ledger.{Ledger}
 use Rattle.ledger_state.specs.State.{Book, place_at, is_held, is_void, standing_count}
 use Rattle.ledger_state.specs.View.{book_of}

@@ -19,9 +19,10 @@ use Rattle.ledger.specs.Calls.{stored, offers-stand}
 use Rattle.ledger.specs.Report.{ReportRow}
 use Rattle.ledger.specs.BufferLaws.{written-length}
 use Rattle.replicas_theorem.specs.Sets.{set_of, report_for, Fits, NoCollision}
-use Rattle.replicas_theorem.specs.Copies.{Copy, SideBySide, side_by_side}
+use Rattle.replicas_theorem.specs.Copies.{Copy, SideBySide}
+use Rattle.replicas_theorem.proofs.Copies.{side_by_side}
 use Rattle.replicas_check.specs.LengthLaws.{reported-store}
-use Rattle.replicas_theorem.specs.FitLaws.{report-answers}
+use Rattle.replicas_theorem.proofs.FitLaws.{report-answers}
 use Rattle.replicas_check.specs.Check.{CheckValues, same_of, different_of, first_refused, second_refused, compared_of, CheckRow, first_unreported, second_unreported, compared}
 
 -- the lengths of the two full reports, by the values of the answer

@@ -17,7 +17,7 @@ use Rattle.rules.proofs.RoomLaws.{each_fits}
 use Rattle.ledger_state.specs.Stands.{ident}
 use Rattle.ledger.specs.Calls.{accept_decoded, stored_from, stored}
 use Rattle.replicas_theorem.specs.Sets.{set_of, updates_of, Fits}
-use Rattle.replicas_theorem.specs.SetLaws.{well-formed→decode, set-∈, Apart, ∈-updates, updates-identified}
+use Rattle.replicas_theorem.proofs.SetLaws.{well-formed→decode, set-∈, Apart, ∈-updates, updates-identified}
 
 module _ (terms : Terms) where
   module _ (S : List Update) where

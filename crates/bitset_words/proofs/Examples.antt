@@ -4,7 +4,7 @@ use Rattle.std.proofs.Common.{arith, ◌∙◌, ap}
 use Rattle.std.specs.Int.Count.{ones, ones_in}
 use Rattle.bitset.specs.Bits.{has, including, join, within, count}
 use Rattle.bitset_words.specs.Run.{number, words_for, run_of, include_word, join_words}
-use Rattle.bitset_words.specs.RunLaws.{number-one, count_word}
+use Rattle.bitset_words.proofs.RunLaws.{number-one, count_word}
 
 -- the words 5 and 1 are the places 0, 2 and 64: 1 + 4 + 2 ^ 64
 pub five-one : number (5 ∷ 1 ∷ []) ≡ 18446744073709551621

@@ -12,7 +12,7 @@ use Rattle.bytes_order.specs.Member.{concat_map}
 use Rattle.bytes_order.specs.declared.Order.{Order}
 use Rattle.bytes_order.specs.declared.Order.TheVariants.{Less, Equal, Greater}
 use Rattle.bytes_words.specs.Words.{Bytes, Words, bytes_in, big_of, bytes_of, packed}
-use Rattle.bytes_words.specs.WordsLaws.{length-bytes_in, bytes-bytes_in, big_of-lt, big-bytes_in, bytes_of-injective, words-packed, bytes_of-packed}
+use Rattle.bytes_words.proofs.WordsLaws.{length-bytes_in, bytes-bytes_in, big_of-lt, big-bytes_in, bytes_of-injective, words-packed, bytes_of-packed}
 
 -- what each answer says
 pub before→Less : (a b : List ℕ) → before a b ≡ true → order_of a b ≡ Less

@@ -9,7 +9,7 @@ use Rattle.std.proofs.Math.ListN.{length, take, drop, length-append}
 use Rattle.std.proofs.Math.Seq.{drop_at, take-append_seam}
 use Rattle.bytes_order.specs.Member.{◌∈◌, concat_map}
 use Rattle.bytes_words.specs.Words.{Bytes, bytes_in, big_of}
-use Rattle.bytes_words.specs.WordsLaws.{length-bytes_in, bytes_take, bytes_drop, big_of-fits, big-bytes_in, bytes_in-big}
+use Rattle.bytes_words.proofs.WordsLaws.{length-bytes_in, bytes_take, bytes_drop, big_of-fits, big-bytes_in, bytes_in-big}
 use Rattle.bundle_format.specs.Bundle.{length_bytes, longest_item, first_length, first_item, after_first, first_whole, with_first, items_within, item_bytes, bundle_of}
 
 -- reading bytes from the front: the end; a first item; an item that is not whole; one too many

@@ -10,7 +10,7 @@ use Rattle.standing_bytes.specs.StandingByte.{unknown_byte}
 use Rattle.lookup_merge.specs.Merge.{Stored, Merged, merge}
 use Rattle.lookup_merge.specs.Layout.{stored_in}
 use Rattle.lookup_merge.specs.MergeLaws.{merge-asked-end, merge-stored-end, merge_less, merge_equal, merge_greater}
-use Rattle.lookup_merge.specs.LayoutLaws.{asked-from, stored-from, stored-length}
+use Rattle.lookup_merge.proofs.LayoutLaws.{asked-from, stored-from, stored-length}
 
 -- the bytes of the asked ids that are passed, and n comparisons, before a walk goes on
 abbrev pub after : List ℕ → ℕ → Merged → Merged
