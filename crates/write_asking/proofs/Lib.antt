@@ -1,1 +1,2 @@
 pub mod WriteEnds
+pub mod ValueLaws

@@ -1,3 +1,2 @@
 pub mod Write
-pub mod ValueLaws
 pub mod BoundLaws
