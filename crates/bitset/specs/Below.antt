@@ -1,6 +1,6 @@
 -- Tests and counts over the numbers below n, the newest outermost, as a loop that counts up meets them.
 use Rattle.std.specs.Prelude.{ℕ, zero, suc, ◌+◌, Bool, true, false, cond, ◌&&◌, ◌||◌, List, [], ◌∷◌, ◌++◌}
-use Rattle.std.proofs.Math.Option.{Option, none, some}
+use Rattle.std.specs.Prelude.{Option, None, Some}
 
 -- each number below n passes
 unfoldable pub all_below : ℕ → (ℕ → Bool) → Bool
@@ -24,9 +24,9 @@ up_to (suc n) = up_to n ++ (n ∷ [])
 
 -- the first number below n that passes
 unfoldable pub or_else : Option ℕ → Option ℕ → Option ℕ
-or_else none o = o
-or_else (some k) o = some k
+or_else None o = o
+or_else (Some k) o = Some k
 
 unfoldable pub first_below : ℕ → (ℕ → Bool) → Option ℕ
-first_below zero p = none
-first_below (suc n) p = or_else (first_below n p) (cond (p n) (some n) none)
+first_below zero p = None
+first_below (suc n) p = or_else (first_below n p) (cond (p n) (Some n) None)

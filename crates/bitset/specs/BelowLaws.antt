@@ -9,7 +9,7 @@ use mathlib.Core.List.Memᴰ
 use mathlib.Core.List.{[], ◌∷◌, List}
 use Rattle.std.proofs.Math.Bool.{true, false, cond}
 use Rattle.std.proofs.lemmas.Bool.{false≢true}
-use Rattle.std.proofs.Math.Option.{Option, none, some}
+use Rattle.std.specs.Prelude.{Option, None, Some}
 use Rattle.std.proofs.Math.ListN.{length}
 use Rattle.bytes_order.specs.BoolLaws.{true-false, not-true→false, or-true→, or_left, or_right, and-true→, and-true}
 use Rattle.bytes_order.specs.Member.{◌∈◌, keep}
@@ -36,7 +36,7 @@ pub count_below-more : (n : ℕ) (p : ℕ → Bool) → count_below (n + 1) p �
 unfolding count_below
 count_below-more n p = ap (λ (m : ℕ). count_below m p) (add-one n)
 
-pub first_below-more : (n : ℕ) (p : ℕ → Bool) → first_below (n + 1) p ≡ or_else (first_below n p) (cond (p n) (some n) none)
+pub first_below-more : (n : ℕ) (p : ℕ → Bool) → first_below (n + 1) p ≡ or_else (first_below n p) (cond (p n) (Some n) None)
 unfolding first_below
 first_below-more n p = ap (λ (m : ℕ). first_below m p) (add-one n)
 
@@ -235,42 +235,42 @@ count_below-length (suc n) p =
 
 -- what a search says
 Says : ℕ → (ℕ → Bool) → Option ℕ → Type 0
-Says n p none = (k : ℕ) → k < n → p k ≡ false
-Says n p (some k) = (k < n) × (p k ≡ true) × ((j : ℕ) → j < k → p j ≡ false)
+Says n p None = (k : ℕ) → k < n → p k ≡ false
+Says n p (Some k) = (k < n) × (p k ≡ true) × ((j : ℕ) → j < k → p j ≡ false)
 
 first_below-says : (n : ℕ) (p : ℕ → Bool) → Says n p (first_below n p)
 unfolding first_below or_else Says
 first_below-says zero p = λ k h. absurd (not-suc-le-zero h)
 first_below-says (suc n) p = step (first_below n p) (p n) refl (first_below-says n p)
   where
-    step : (o : Option ℕ) (b : Bool) → p n ≡ b → Says n p o → Says (suc n) p (or_else o (cond b (some n) none))
-    step none true e s = (omega arith, e, s)
-    step none false e s = λ k h. ⊎_elim (λ (q : k ≡ n). ap p q ∙ e) (λ (l : k < n). s k l) (below_suc h)
-    step (some k) b e s = (omega (arith, s.0), s.1, s.2)
+    step : (o : Option ℕ) (b : Bool) → p n ≡ b → Says n p o → Says (suc n) p (or_else o (cond b (Some n) None))
+    step None true e s = (omega arith, e, s)
+    step None false e s = λ k h. ⊎_elim (λ (q : k ≡ n). ap p q ∙ e) (λ (l : k < n). s k l) (below_suc h)
+    step (Some k) b e s = (omega (arith, s.0), s.1, s.2)
 
-pub first_below-some→ : (n : ℕ) (p : ℕ → Bool) {k : ℕ} → first_below n p ≡ some k → (k < n) × (p k ≡ true) × ((j : ℕ) → j < k → p j ≡ false)
+pub first_below-some→ : (n : ℕ) (p : ℕ → Bool) {k : ℕ} → first_below n p ≡ Some k → (k < n) × (p k ≡ true) × ((j : ℕ) → j < k → p j ≡ false)
 unfolding Says
 first_below-some→ n p e = subst (Says n p) e (first_below-says n p)
 
-pub first_below-none→ : (n : ℕ) (p : ℕ → Bool) → first_below n p ≡ none → (k : ℕ) → k < n → p k ≡ false
+pub first_below-none→ : (n : ℕ) (p : ℕ → Bool) → first_below n p ≡ None → (k : ℕ) → k < n → p k ≡ false
 unfolding Says
 first_below-none→ n p e = subst (Says n p) e (first_below-says n p)
 
-pub first_below-some← : (n : ℕ) (p : ℕ → Bool) (k : ℕ) → k < n → p k ≡ true → ((j : ℕ) → j < k → p j ≡ false) → first_below n p ≡ some k
+pub first_below-some← : (n : ℕ) (p : ℕ → Bool) (k : ℕ) → k < n → p k ≡ true → ((j : ℕ) → j < k → p j ≡ false) → first_below n p ≡ Some k
 unfolding Says
 first_below-some← n p k h e f = is (first_below n p) (first_below-says n p)
   where
-    is : (o : Option ℕ) → Says n p o → o ≡ some k
-    is none s = absurd (true-false e (s k h))
-    is (some m) s =
-        ap some
+    is : (o : Option ℕ) → Says n p o → o ≡ Some k
+    is None s = absurd (true-false e (s k h))
+    is (Some m) s =
+        ap Some
         (⊎_elim
         (λ (q : m ≡ k). q)
         (λ (l : m < k). absurd (true-false s.1 (f m l)))
         (below_suc (lt_of_not-le (λ (l : k < m). true-false e (s.2 k l)))))
 
 -- the one number below n that passes
-pub first_below-one : (n : ℕ) (p : ℕ → Bool) (k : ℕ) → k < n → p k ≡ true → ((j : ℕ) → j < n → p j ≡ true → j ≡ k) → first_below n p ≡ some k
+pub first_below-one : (n : ℕ) (p : ℕ → Bool) (k : ℕ) → k < n → p k ≡ true → ((j : ℕ) → j < n → p j ≡ true → j ≡ k) → first_below n p ≡ Some k
 first_below-one n p k h e f =
     first_below-some← n p k h e (λ j l. not-true→false (p j) (λ g. let q : j ≡ k = f j (omega arith) g in omega arith))
 

@@ -14,11 +14,7 @@ pub const WORD_BITS: usize = 64;
 pub fn has(w: Set, k: usize) -> bool
     ensures { result ≡ has w k }
 {
-    if k < WORD_BITS {
-        (w >> k) & 1 == 1
-    } else {
-        false
-    }
+    k < WORD_BITS && (w >> k) & 1 == 1
 }
 
 // The set with place k added; unchanged where a word has no room for it.
@@ -29,6 +25,7 @@ pub fn including(w: Set, k: usize) -> Set
 }
 
 // What is in either set.
+#[tactic(auto, unfolding(crate::specs::Bits::join))]
 pub fn join(v: Set, w: Set) -> Set
     ensures { result ≡ join v w }
 {
@@ -39,12 +36,13 @@ pub fn join(v: Set, w: Set) -> Set
 pub fn within(w: Set, n: usize) -> bool
     ensures { result ≡ within w n }
 {
-    if n < WORD_BITS { w >> n == 0 } else { true }
+    n >= WORD_BITS || w >> n == 0
 }
 
 // How many places are in the set.
+#[tactic(auto, unfolding(crate::specs::Bits::count))]
 pub fn count(w: Set) -> usize
     ensures { result ≡ count w }
 {
-    u64::count_ones(w) as usize
+    w.count_ones() as usize
 }

@@ -9,11 +9,9 @@ ghost use Rattle.bitset_words.specs.Run.{number, room, max_words, Rows, JoinsRow
 pub fn has(s: &[u64], k: usize) -> bool
     ensures { result ≡ has (number s.now) k }
 {
-    let i = k / bitset::WORD_BITS;
-    if i < s.len() {
-        bitset::has(s[i], k % bitset::WORD_BITS)
-    } else {
-        false
+    match s.get(k / bitset::WORD_BITS) {
+        Some(w) => bitset::has(*w, k % bitset::WORD_BITS),
+        None => false,
     }
 }
 
@@ -23,8 +21,7 @@ pub fn include(s: &mut [u64], k: usize)
 {
     let at = k / bitset::WORD_BITS;
     if at < s.len() {
-        let w = bitset::including(s[at], k % bitset::WORD_BITS);
-        s[at] = w;
+        s[at] = bitset::including(s[at], k % bitset::WORD_BITS);
     }
 }
 
@@ -33,11 +30,8 @@ pub fn join(s: &mut [u64], t: &[u64])
     requires { length t.now ≤ length s.old }
     ensures { number s.new ≡ join (number s.old) (number t.now) }
 {
-    let mut i: usize = 0;
-    while i < t.len() {
-        let w = bitset::join(s[i], t[i]);
-        s[i] = w;
-        i += 1;
+    for (i, w) in t.iter().enumerate() {
+        s[i] = bitset::join(s[i], *w);
     }
 }
 
@@ -46,11 +40,8 @@ pub fn join_rows(s: &mut [u64], to: usize, from: usize, n: usize)
     requires { Rows s.old to from n }
     ensures { JoinsRows s.old to from n s.new }
 {
-    let mut i: usize = 0;
-    while i < n {
-        let w = bitset::join(s[to + i], s[from + i]);
-        s[to + i] = w;
-        i += 1;
+    for i in 0..n {
+        s[to + i] = bitset::join(s[to + i], s[from + i]);
     }
 }
 
@@ -59,24 +50,7 @@ pub fn count(s: &[u64]) -> usize
     requires { length s.now ≤ max_words }
     ensures { result ≡ count (number s.now) }
 {
-    let mut n: usize = 0;
-    let mut i: usize = 0;
-    while i < s.len() {
-        n += bitset::count(s[i]);
-        i += 1;
-    }
-    n
-}
-
-// What is left of n places after those of a word.
-fn left_of(n: usize) -> usize
-    ensures { result ≡ n - word_bits }
-{
-    if n < bitset::WORD_BITS {
-        0
-    } else {
-        n - bitset::WORD_BITS
-    }
+    s.iter().map(|w| bitset::count(*w)).sum()
 }
 
 // Whether every place of the set is below n.
@@ -84,13 +58,11 @@ pub fn within(s: &[u64], n: usize) -> bool
     ensures { result ≡ within (number s.now) n }
 {
     let mut left = n;
-    let mut i: usize = 0;
-    while i < s.len() {
-        if !bitset::within(s[i], left) {
+    for w in s {
+        if !bitset::within(*w, left) {
             return false;
         }
-        left = left_of(left);
-        i += 1;
+        left = left.saturating_sub(bitset::WORD_BITS);
     }
     true
 }
@@ -99,9 +71,5 @@ pub fn within(s: &[u64], n: usize) -> bool
 pub fn clear(s: &mut [u64])
     ensures { number s.new ≡ 0 }
 {
-    let mut i: usize = 0;
-    while i < s.len() {
-        s[i] = 0;
-        i += 1;
-    }
+    s.fill(0);
 }

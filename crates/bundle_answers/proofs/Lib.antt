@@ -1,2 +1,1 @@
-pub mod AnswerKinds
 pub mod AnswerLaws

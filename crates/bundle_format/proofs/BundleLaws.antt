@@ -4,7 +4,7 @@ use Rattle.std.proofs.Common.{arith, sym, subst, ◌∙◌, ⊎_elim, length-dro
 use Rattle.std.proofs.Math.Path.{ap, ap₂}
 use mathlib.Core.List.Memᴰ
 use mathlib.Core.List.{List, [], ◌∷◌, ◌++◌, append_assoc}
-use Rattle.std.proofs.Math.Option.{Option, none, some}
+use Rattle.std.specs.Prelude.{Option, None, Some}
 use Rattle.std.proofs.Math.ListN.{length, take, drop, length-append}
 use Rattle.std.proofs.Math.Seq.{drop_at, take-append_seam}
 use Rattle.bytes_order.specs.Member.{◌∈◌, concat_map}
@@ -13,7 +13,7 @@ use Rattle.bytes_words.proofs.WordsLaws.{length-bytes_in, bytes_take, bytes_drop
 use Rattle.bundle_format.specs.Bundle.{length_bytes, longest_item, first_length, first_item, after_first, first_whole, with_first, items_within, item_bytes, bundle_of}
 
 -- reading bytes from the front: the end; a first item; an item that is not whole; one too many
-pub items-end : (n : ℕ) (b : List ℕ) → length b ≡ 0 → items_within n b ≡ some []
+pub items-end : (n : ℕ) (b : List ℕ) → length b ≡ 0 → items_within n b ≡ Some []
 unfolding items_within
 items-end zero [] e = refl
 items-end (suc n) [] e = refl
@@ -24,13 +24,13 @@ unfolding items_within
 items-next n [] h e = absurd (omega arith)
 items-next n (x ∷ b) h e = rw e
 
-pub items-cut : (n : ℕ) (b : List ℕ) → 0 < length b → first_whole b ≡ false → items_within n b ≡ none
+pub items-cut : (n : ℕ) (b : List ℕ) → 0 < length b → first_whole b ≡ false → items_within n b ≡ None
 unfolding items_within
 items-cut n [] h e = absurd (omega arith)
 items-cut zero (x ∷ b) h e = refl
 items-cut (suc n) (x ∷ b) h e = rw e
 
-pub items-many : (b : List ℕ) → 0 < length b → items_within 0 b ≡ none
+pub items-many : (b : List ℕ) → 0 < length b → items_within 0 b ≡ None
 unfolding items_within
 items-many [] h = absurd (omega arith)
 items-many (x ∷ b) h = refl
@@ -42,22 +42,22 @@ pub record First (n : ℕ) (b : List ℕ) (xs : List (List ℕ)) : Type 0 where
   pub fewer : n ≡ suc most
   pub whole : length_bytes + first_length b ≤ length b
   pub items : xs ≡ first_item b ∷ rest
-  pub reads : items_within most (after_first b) ≡ some rest
+  pub reads : items_within most (after_first b) ≡ Some rest
 
-none-some : {A C : Type 0} {x : A} → none ≡ some x → C
+none-some : {A C : Type 0} {x : A} → None ≡ Some x → C
 none-some e = let z : ◌≡◌ {A = ℕ} 0 1 = cc in absurd (omega arith)
 
-pub some_one : {A : Type 0} {x y : A} → some x ≡ some y → x ≡ y
+pub some_one : {A : Type 0} {x y : A} → Some x ≡ Some y → x ≡ y
 some_one e = cc
 
 module _ (n : ℕ) (b : List ℕ) (xs : List (List ℕ)) (whole : first_whole b ≡ true) where
   -- by what the rest reads to
-  first_of : (o : Option (List (List ℕ))) → items_within n (after_first b) ≡ o → with_first (first_item b) o ≡ some xs → First (suc n) b xs
-  first_of none r e = none-some e
-  first_of (some ys) r e =
+  first_of : (o : Option (List (List ℕ))) → items_within n (after_first b) ≡ o → with_first (first_item b) o ≡ Some xs → First (suc n) b xs
+  first_of None r e = none-some e
+  first_of (Some ys) r e =
       record { rest = ys; most = n; fewer = refl; whole = leb-true (length_bytes + first_length b) (length b) whole; items = sym (some_one e); reads = r }
 
-pub items-first : (n : ℕ) (b : List ℕ) (xs : List (List ℕ)) → 0 < length b → items_within n b ≡ some xs → First n b xs
+pub items-first : (n : ℕ) (b : List ℕ) (xs : List (List ℕ)) → 0 < length b → items_within n b ≡ Some xs → First n b xs
 items-first zero b xs h e = none-some (sym (items-many b h) ∙ e)
 items-first (suc n) b xs h e = by_whole (first_whole b) refl
   where
@@ -66,10 +66,10 @@ items-first (suc n) b xs h e = by_whole (first_whole b) refl
     by_whole false w = none-some (sym (items-cut (suc n) b h w) ∙ e)
 
 -- at most n items
-none-few : (n : ℕ) {xs : List (List ℕ)} → some [] ≡ some xs → length xs ≤ n
+none-few : (n : ℕ) {xs : List (List ℕ)} → Some [] ≡ Some xs → length xs ≤ n
 none-few n {xs} e = let q : [] ≡ xs = some_one e in rw (← q) (omega arith)
 
-pub items-few : (n : ℕ) (b : List ℕ) (xs : List (List ℕ)) → items_within n b ≡ some xs → length xs ≤ n
+pub items-few : (n : ℕ) (b : List ℕ) (xs : List (List ℕ)) → items_within n b ≡ Some xs → length xs ≤ n
 items-few zero [] xs e = none-few zero (sym (items-end zero [] refl) ∙ e)
 items-few zero (x ∷ b) xs e = none-some (sym (items-many (x ∷ b) (omega arith)) ∙ e)
 items-few (suc n) [] xs e = none-few (suc n) (sym (items-end (suc n) [] refl) ∙ e)
@@ -126,7 +126,7 @@ module _ (x : List ℕ) (sized : ItemSized x) (q : List ℕ) where
       ∙ ap₂ (λ (y b : List ℕ). with_first y (items_within n b)) laid-item laid-after
 
 -- the bytes of at most n items read back to them
-pub items_back : (n : ℕ) (xs : List (List ℕ)) → length xs ≤ n → ((x : List ℕ) → x ∈ xs → ItemSized x) → items_within n (bundle_of xs) ≡ some xs
+pub items_back : (n : ℕ) (xs : List (List ℕ)) → length xs ≤ n → ((x : List ℕ) → x ∈ xs → ItemSized x) → items_within n (bundle_of xs) ≡ Some xs
 unfolding concat_map
 items_back n [] few sized = items-end n [] refl
 items_back zero (x ∷ xs) few sized = absurd (omega arith)
@@ -166,7 +166,7 @@ module _ (b : List ℕ) (bytes : Bytes b) (whole : length_bytes + first_length b
       ∙ take-append-drop length_bytes b)
 
 -- none, where the bytes end
-bundle-end : (n : ℕ) {xs : List (List ℕ)} → items_within n [] ≡ some xs → IsBundle n [] xs
+bundle-end : (n : ℕ) {xs : List (List ℕ)} → items_within n [] ≡ Some xs → IsBundle n [] xs
 unfolding concat_map
 bundle-end n {xs} e =
     let q : [] ≡ xs = some_one (sym (items-end n [] refl) ∙ e) in
@@ -187,7 +187,7 @@ bundle-next n b bytes f i =
     })
 
 -- bytes that read to items are these items laid out, and no others
-pub items-only : (n : ℕ) (b : List ℕ) (xs : List (List ℕ)) → Bytes b → items_within n b ≡ some xs → IsBundle n b xs
+pub items-only : (n : ℕ) (b : List ℕ) (xs : List (List ℕ)) → Bytes b → items_within n b ≡ Some xs → IsBundle n b xs
 items-only zero [] xs bytes e = bundle-end zero e
 items-only zero (x ∷ b) xs bytes e = none-some (sym (items-many (x ∷ b) (omega arith)) ∙ e)
 items-only (suc n) [] xs bytes e = bundle-end (suc n) e

@@ -1,7 +1,7 @@
 -- Document 02, E1: the items of a bundle. "each item a two-byte big-endian length, then its bytes, at most 64 items"; and 13 "if a length runs past the end, an item is
 -- cut, or there are more than 64 items".
 use Rattle.std.specs.Prelude.{ℕ, zero, suc, ◌+◌, List, [], ◌∷◌, ◌++◌, Bool, cond, length, take, drop, leb}
-use Rattle.std.proofs.Math.Option.{Option, none, some}
+use Rattle.std.specs.Prelude.{Option, None, Some}
 use Rattle.bytes_order.specs.Member.{concat_map}
 use Rattle.bytes_words.specs.Words.{bytes_in, big_of}
 
@@ -32,15 +32,15 @@ abbrev pub first_whole : List ℕ → Bool
 first_whole b = leb (length_bytes + first_length b) (length b)
 
 abbrev pub with_first : List ℕ → Option (List (List ℕ)) → Option (List (List ℕ))
-with_first x none = none
-with_first x (some xs) = some (x ∷ xs)
+with_first x None = None
+with_first x (Some xs) = Some (x ∷ xs)
 
 -- the items that the bytes are, one after the other, read from the front; none where one is not whole, or where there are more than n
 unfoldable pub items_within : ℕ → List ℕ → Option (List (List ℕ))
-items_within zero [] = some []
-items_within zero (x ∷ b) = none
-items_within (suc n) [] = some []
-items_within (suc n) (x ∷ b) = cond (first_whole (x ∷ b)) (with_first (first_item (x ∷ b)) (items_within n (after_first (x ∷ b)))) none
+items_within zero [] = Some []
+items_within zero (x ∷ b) = None
+items_within (suc n) [] = Some []
+items_within (suc n) (x ∷ b) = cond (first_whole (x ∷ b)) (with_first (first_item (x ∷ b)) (items_within n (after_first (x ∷ b)))) None
 
 -- the items of a bundle; none where the bytes are no bundle
 abbrev pub items_of : List ℕ → Option (List (List ℕ))

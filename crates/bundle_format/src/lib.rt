@@ -3,8 +3,9 @@
 
 ghost use Rattle.std.specs.Prelude.{◌≡◌, ◌+◌, ◌≤◌, length, drop};
 ghost use Rattle.bundle_format.specs.Bundle.{length_bytes, first_length, first_item, first_whole, items_of};
-ghost use Rattle.bundle_format.specs.Counted.{count_of, length_of};
+ghost use Rattle.bundle_format.specs.Counted.{length_of};
 
+use bytes_pairs::pair_at;
 use update_format::slice_of;
 
 // How many items a bundle has at most.
@@ -13,21 +14,12 @@ pub const MOST_ITEMS: usize = 64;
 // How many bytes a length has.
 pub const LENGTH_BYTES: usize = 2;
 
-// What bytes are as a bundle: how many items it has.
-#[derive(Clone, Copy)]
-pub enum Counted {
-    Items(usize),
-    NoBundle,
-}
-
-// The length that the two bytes at `at` say.
+// The length of the item that begins at `at`.
 fn length_at(bundle: &[u8], at: usize) -> usize
     requires { at + length_bytes ≤ length bundle.now }
     ensures { result ≡ first_length (drop at bundle.now) }
 {
-    let high = bundle[at];
-    let low = bundle[at + 1];
-    256 * high as usize + low as usize
+    usize::from(pair_at(bundle, at))
 }
 
 // Whether the item that begins at `at` is whole: its length is there, and so many bytes after it.
@@ -36,10 +28,7 @@ fn whole(bundle: &[u8], at: usize) -> bool
     ensures { result ≡ first_whole (drop at bundle.now) }
 {
     let left = bundle.len() - at;
-    if left < LENGTH_BYTES {
-        return false;
-    }
-    length_at(bundle, at) <= left - LENGTH_BYTES
+    LENGTH_BYTES <= left && length_at(bundle, at) <= left - LENGTH_BYTES
 }
 
 // The bytes of the item that begins at `at`.
@@ -51,20 +40,18 @@ pub fn item(bundle: &[u8], at: usize) -> &[u8]
 }
 
 // How many items the bytes have, if they are a bundle.
-pub fn count(bundle: &[u8]) -> Counted
-    ensures { count_of result ≡ length_of (items_of bundle.now) }
+pub fn count(bundle: &[u8]) -> Option<usize>
+    ensures { result ≡ length_of (items_of bundle.now) }
 {
-    let mut at: usize = 0;
-    let mut n: usize = 0;
-    while at < bundle.len() {
-        if n == MOST_ITEMS {
-            return Counted::NoBundle;
+    let mut at = 0;
+    for n in 0..=MOST_ITEMS {
+        if at == bundle.len() {
+            return Some(n);
         }
         if !whole(bundle, at) {
-            return Counted::NoBundle;
+            return None;
         }
         at += LENGTH_BYTES + length_at(bundle, at);
-        n += 1;
     }
-    Counted::Items(n)
+    None
 }

@@ -4,62 +4,58 @@
 ghost use Rattle.std.specs.Prelude.{◌≡◌, true};
 ghost use Rattle.ledger_state.specs.Row1.{sound};
 ghost use Rattle.ledger_state.specs.View.{book_of};
-ghost use Rattle.bundle_offering.specs.Bundle.{refused_bundle, Bundling, Offerable, AllOffered};
+ghost use Rattle.bundle_offering.specs.Bundle.{bundle_values, BundleRow, Bundling, Offerable, AllOffered};
 
 use bundle_answers::{ANSWER_LENGTH, put_answer};
-use bundle_format::{Counted, LENGTH_BYTES, count, item};
+use bundle_format::{LENGTH_BYTES, count, item};
 use ledger_offering::offer_sound;
 use ledger_refusals::Refusal;
 use ledger_state::Ledger;
 
-// What a bundle answers: how many bytes of the answer buffer were written.
-#[derive(Clone, Copy)]
-pub enum Bundled {
-    Answered(usize),
-    Refused(Refusal),
-}
-
-// An answer beside the ledger that the next call is handed.
+// How many bytes of the answer buffer were written, or why the bundle is refused, beside the ledger that the next call is handed.
 #[derive(Clone, Copy)]
 pub struct BundleOffered {
-    pub answer: Bundled,
+    pub answer: Result<usize, Refusal>,
     pub ledger: Ledger,
 }
 
-// Offers the items of a bundle in order. One that is turned away does not stop those after it.
-fn offer_items(ledger: Ledger, store: &mut [u8], bundle: &[u8], answers: &mut [u8]) -> Ledger
-    requires { Offerable (book_of ledger) store.old bundle.now answers.old }
-    ensures { AllOffered ledger store.old bundle.now answers.old result store.new answers.new }
+// Offers the n items of a bundle in order. One that is turned away does not stop those after it.
+fn offer_items(ledger: &mut Ledger, store: &mut [u8], bundle: &[u8], n: usize, answers: &mut [u8])
+    requires { Offerable (book_of ledger.old) store.old bundle.now n answers.old }
+    ensures { AllOffered ledger.old store.old bundle.now answers.old ledger.new store.new answers.new }
 {
-    let mut l = ledger;
-    let mut at: usize = 0;
-    let mut end: usize = 0;
-    while at < bundle.len() {
+    let mut at = 0;
+    for k in 0..n {
         let x = item(bundle, at);
-        let o = offer_sound(l, store, x);
-        let a = o.answer;
-        put_answer(answers, end, a);
-        let next = o.ledger;
-        l = next;
+        let offered = offer_sound(*ledger, store, x);
+        *ledger = offered.ledger;
+        put_answer(answers, ANSWER_LENGTH * k, offered.answer);
         at += LENGTH_BYTES + x.len();
-        end += ANSWER_LENGTH;
     }
-    l
 }
 
-// A refusal, which leaves the ledger as it was.
-pub fn refused(ledger: Ledger, refusal: Refusal) -> BundleOffered
-    ensures { result ≡ refused_bundle ledger refusal }
+// The answer to any bytes.
+fn answer(
+    ledger: &mut Ledger,
+    store: &mut [u8],
+    bundle: &[u8],
+    answers: &mut [u8],
+) -> Result<usize, Refusal>
+    requires { sound (book_of ledger.old) store.old ≡ true }
+    ensures { BundleRow ledger.old store.old bundle.now answers.old (bundle_values result) ledger.new store.new answers.new }
 {
-    BundleOffered {
-        answer: Bundled::Refused(refusal),
-        ledger: ledger,
+    let n = count(bundle).ok_or(Refusal::Bundle)?;
+    let length = ANSWER_LENGTH * n;
+    if answers.len() < length {
+        return Err(Refusal::Short);
     }
+    offer_items(ledger, store, bundle, n, answers);
+    Ok(length)
 }
 
 // The offer of a bundle.
 pub fn offer_bundle_sound(
-    ledger: Ledger,
+    mut ledger: Ledger,
     store: &mut [u8],
     bundle: &[u8],
     answers: &mut [u8],
@@ -67,17 +63,6 @@ pub fn offer_bundle_sound(
     requires { sound (book_of ledger) store.old ≡ true }
     ensures { Bundling ledger store.old bundle.now answers.old result store.new answers.new }
 {
-    match count(bundle) {
-        Counted::NoBundle => refused(ledger, Refusal::Bundle),
-        Counted::Items(n) => {
-            if answers.len() < ANSWER_LENGTH * n {
-                return refused(ledger, Refusal::Short);
-            }
-            let next = offer_items(ledger, store, bundle, answers);
-            BundleOffered {
-                answer: Bundled::Answered(ANSWER_LENGTH * n),
-                ledger: next,
-            }
-        }
-    }
+    let answer = answer(&mut ledger, store, bundle, answers);
+    BundleOffered { answer, ledger }
 }

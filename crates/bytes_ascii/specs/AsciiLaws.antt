@@ -113,11 +113,11 @@ unfolding hex concat_map
 hex-end bs i h = sym (ap (concat_map hex_byte) (drop_of_length-le bs {i = i} h))
 
 -- decimal digits: one below ten; from ten on those of a tenth of the number, and one more
-decimal_in-one : (k n : ℕ) → n < 10 → decimal_in (suc k) n ≡ digit n ∷ []
+pub decimal_in-one : (k n : ℕ) → n < 10 → decimal_in (suc k) n ≡ digit n ∷ []
 unfolding decimal_in
 decimal_in-one k n h = ap (λ (t : Bool). cond t (digit n ∷ []) (decimal_in k (n / 10) ++ (digit (n % 10) ∷ []))) (lt-ltb n 10 h)
 
-decimal_in-more : (k n : ℕ) → 10 ≤ n → decimal_in (suc k) n ≡ decimal_in k (n / 10) ++ (digit (n % 10) ∷ [])
+pub decimal_in-more : (k n : ℕ) → 10 ≤ n → decimal_in (suc k) n ≡ decimal_in k (n / 10) ++ (digit (n % 10) ∷ [])
 unfolding decimal_in
 decimal_in-more k n h = ap (λ (t : Bool). cond t (digit n ∷ []) (decimal_in k (n / 10) ++ (digit (n % 10) ∷ []))) (le-ltb n 10 h)
 
@@ -129,7 +129,7 @@ two_digits (suc (suc k)) n h g = omega arith
 
 -- induction on the digits: what holds of a number below ten, and of one from ten on where it holds of its tenth, holds of every number below 10 ^ k
 module _ (P : ℕ → ℕ → Type 0) (one : (k n : ℕ) → n < 10 → P (suc k) n) (more : (k n : ℕ) → 10 ≤ n → P k (n / 10) → P (suc k) n) where
-  by_digits : (k n : ℕ) → 0 < k → n < 10 ^ k → P k n
+  pub by_digits : (k n : ℕ) → 0 < k → n < 10 ^ k → P k n
   by_digits zero n z h = absurd (omega arith)
   by_digits (suc k) n z h =
       ⊎_elim

@@ -8,9 +8,5 @@ pub fn copy(d: &mut [u8], s: &[u8])
     requires { length s.now ≤ length d.old }
     ensures { d.new ≡ s.now ++ drop (length s.now) d.old }
 {
-    let mut i: usize = 0;
-    while i < s.len() {
-        d[i] = s[i];
-        i += 1;
-    }
+    d[..s.len()].copy_from_slice(s);
 }

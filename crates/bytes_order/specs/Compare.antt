@@ -1,15 +1,14 @@
--- How one byte string stands to another, as the enum that the comparison answers.
+-- How one byte string stands to another, as std's `cmp` answers.
 use Rattle.std.specs.Prelude.{ℕ, List, cond}
+use Rattle.std.specs.declared.cmp.Ordering.{Ordering}
+use Rattle.std.specs.declared.cmp.Ordering.TheVariants.{Less, Equal, Greater}
+use Rattle.std.specs.Ordering.{ordering_then}
 use Rattle.bytes_order.specs.Order.{before, same}
-use Rattle.bytes_order.specs.declared.Order.{Order}
-use Rattle.bytes_order.specs.declared.Order.TheVariants.{Less, Equal, Greater}
 
 -- Less where a comes before b, Equal where they are the same bytes, Greater otherwise
-unfoldable pub order_of : List ℕ → List ℕ → Order
+unfoldable pub order_of : List ℕ → List ℕ → Ordering
 order_of a b = cond (before a b) Less (cond (same a b) Equal Greater)
 
 -- the first order where it tells two apart, else the second
-abbrev pub then_by : Order → Order → Order
-then_by Less o = Less
-then_by Equal o = o
-then_by Greater o = Greater
+abbrev pub then_by : Ordering → Ordering → Ordering
+then_by = ordering_then

@@ -5,44 +5,20 @@ ghost use Rattle.std.specs.Prelude.{◌≡◌};
 ghost use Rattle.bytes_order.specs.Compare.{order_of};
 ghost use Rattle.bytes_order.specs.Order.{same};
 
-#[derive(Clone, Copy)]
-pub enum Order {
-    Less,
-    Equal,
-    Greater,
-}
+use std::cmp::Ordering;
 
 // How a stands to b: by the first byte in which they differ, and where one begins the other, the shorter comes first.
-pub fn compare(a: &[u8], b: &[u8]) -> Order
+#[tactic(auto, using(crate::specs::CompareLaws::cmp_is_order))]
+pub fn compare(a: &[u8], b: &[u8]) -> Ordering
     ensures { result ≡ order_of a.now b.now }
 {
-    let mut i: usize = 0;
-    while i < a.len() {
-        if b.len() <= i {
-            return Order::Greater;
-        }
-        if a[i] < b[i] {
-            return Order::Less;
-        }
-        if b[i] < a[i] {
-            return Order::Greater;
-        }
-        i += 1;
-    }
-    if i < b.len() {
-        Order::Less
-    } else {
-        Order::Equal
-    }
+    a.cmp(b)
 }
 
 // Whether a and b are the same bytes.
+#[tactic(auto, using(crate::specs::CompareLaws::eq_is_same))]
 pub fn same(a: &[u8], b: &[u8]) -> bool
     ensures { result ≡ same a.now b.now }
 {
-    match compare(a, b) {
-        Order::Equal => true,
-        Order::Less => false,
-        Order::Greater => false,
-    }
+    a == b
 }

@@ -9,7 +9,5 @@ pub fn pair_at(b: &[u8], at: usize) -> u16
     requires { at + 2 ≤ length b.now }
     ensures { result ≡ pair_at b.now at }
 {
-    let high = b[at];
-    let low = b[at + 1];
-    256 * high as u16 + low as u16
+    u16::from_be_bytes([b[at], b[at + 1]])
 }

@@ -1,2 +1,3 @@
-pub mod DecimalLaws
+pub mod DigitsLaws
 pub mod Printing
+pub mod PrintedLaws

@@ -2,6 +2,7 @@
 use Rattle.std.specs.Prelude.{◌≡◌, ℕ, ◌+◌, ◌≤◌, ◌<◌, List, length}
 use Rattle.bytes_ascii.specs.Ascii.{decimal_limit}
 use Rattle.bytes_copy.specs.Overwritten.{overwritten}
+use Rattle.bytes_print.specs.declared.Page.{Page}
 
 -- no byte beyond this one is printed at, so that no sum wraps: the whole report is far shorter
 abbrev pub farthest : ℕ
@@ -12,6 +13,11 @@ farthest = 1000000
 pub record Prints (page : List ℕ) (at : ℕ) (text page' : List ℕ) (next : ℕ) : Type 0 where
   pub past : next ≡ at + length text
   pub fits : next ≤ length page → page' ≡ overwritten page at text
+
+-- the text is printed on a page from the byte that it was printed to so far; it is still the page that was lent
+pub record Printed (old : Page) (text : List ℕ) (new : Page) : Type 0 where
+  pub prints : Prints old.bytes.now old.at text new.bytes.now new.at
+  pub same_page : new.bytes.ghost_name ≡ old.bytes.ghost_name
 
 -- what is asked to print a number at byte `at`
 pub record DecimalAt (at n : ℕ) : Type 0 where

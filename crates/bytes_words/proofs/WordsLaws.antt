@@ -139,7 +139,8 @@ byte_of (w ∷ ws) (suc k) j h l =
     rw (e, get_or-append-add (bytes_in 8 w) (bytes_of ws) (8 * k + j) 0) (byte_of ws k j (omega arith) l)
 
 -- byte i of the bytes of words
+pub byte-of-word : (ws : List ℕ) (i : ℕ) → i < 8 * length ws → get_or (bytes_of ws) i 0 ≡ get_or (bytes_in 8 (get_or ws (i / 8) 0)) (i % 8) 0
+byte-of-word ws i h = ap (λ (k : ℕ). get_or (bytes_of ws) k 0) (sym (div-add-mod i 8)) ∙ byte_of ws (i / 8) (i % 8) (omega arith) (omega arith)
+
 pub byte-at : (ws : List ℕ) (i : ℕ) → i < 8 * length ws → get_or (bytes_of ws) i 0 ≡ get_or ws (i / 8) 0 / 2 ^ (8 * (7 - i % 8)) % 2 ^ 8
-byte-at ws i h =
-    let j : i % 8 < 8 = omega arith in
-    ap (λ (k : ℕ). get_or (bytes_of ws) k 0) (sym (div-add-mod i 8)) ∙ byte_of ws (i / 8) (i % 8) (omega arith) j ∙ byte-in 8 (get_or ws (i / 8) 0) (i % 8) j
+byte-at ws i h = byte-of-word ws i h ∙ byte-in 8 (get_or ws (i / 8) 0) (i % 8) (omega arith)

@@ -1,16 +1,18 @@
 -- Words stand to each other as their bytes do.
-use Rattle.std.specs.Prelude.{ℕ, suc, ◌+◌, ◌*◌, ◌^◌, ◌<◌, ◌≡◌, refl, List, [], ◌∷◌, Bool, true, false, cond, ◌&&◌, length, eqb, ltb}
-use Rattle.std.proofs.Common.{arith, sym, ◌∙◌, ap, ap₂, ⊎_elim, ltb-true, eqb-true}
+use Rattle.std.specs.Prelude.{ℕ, suc, ◌+◌, ◌*◌, ◌^◌, ◌<◌, ◌≡◌, refl, List, [], ◌∷◌, Bool, true, false, cond, ◌&&◌, length, get_or, eqb, ltb, nat_eq}
+use Rattle.std.specs.Cmp.Lexicographic.{slice_cmp, pointwise}
+use Rattle.std.specs.Ordering.{nat_cmp}
+use Rattle.std.proofs.Common.{Fits, w64, arith, sym, ◌∙◌, ap, ap₂, ⊎_elim, ltb-true, eqb-true}
 use Rattle.std.proofs.lemmas.Bool.{false≢true}
 use Rattle.std.proofs.Math.Arith.{digits_lt}
 use Rattle.bytes_order.specs.BoolLaws.{or-true→, and-true→, test-ext}
 use Rattle.bytes_order.specs.Order.{before, same}
 use Rattle.bytes_order.specs.OrderLaws.{same_refl, same→eq, eq→same, ne→same-false, before-less, before-irrefl, before-asym, before→ne, trichotomy}
 use Rattle.bytes_order.specs.Compare.{order_of, then_by}
-use Rattle.bytes_order.specs.CompareLaws.{order-append}
+use Rattle.bytes_order.specs.CompareLaws.{order-append, cmp_is_order, eq_is_same}
 use Rattle.bytes_order.specs.Member.{concat_map}
-use Rattle.bytes_order.specs.declared.Order.{Order}
-use Rattle.bytes_order.specs.declared.Order.TheVariants.{Less, Equal, Greater}
+use Rattle.std.specs.declared.cmp.Ordering.{Ordering}
+use Rattle.std.specs.declared.cmp.Ordering.TheVariants.{Less, Equal, Greater}
 use Rattle.bytes_words.specs.Words.{Bytes, Words, bytes_in, big_of, bytes_of, packed}
 use Rattle.bytes_words.proofs.WordsLaws.{length-bytes_in, bytes-bytes_in, big_of-lt, big-bytes_in, bytes_of-injective, words-packed, bytes_of-packed}
 
@@ -85,7 +87,7 @@ same-words us vs h g =
     (λ t. eq→same us vs (bytes_of-injective us vs h g (same→eq (bytes_of us) (bytes_of vs) t)))
     (λ t. eq→same (bytes_of us) (bytes_of vs) (ap bytes_of (same→eq us vs t)))
 
-is_less : Order → Bool
+is_less : Ordering → Bool
 is_less Less = true
 is_less Equal = false
 is_less Greater = false
@@ -113,3 +115,11 @@ module _ (n : ℕ) (a b : List ℕ) (h : Bytes a) (g : Bytes b) (l : length a �
   same-packed =
       sym (same-words (packed n a) (packed n b) (words-packed n a h) (words-packed n b g))
       ∙ ap₂ same (bytes_of-packed n a h l) (bytes_of-packed n b g m)
+
+-- what `cmp` and `==` of words are, of their bytes
+module _ (us vs : List ℕ) (h : (k : ℕ) → Fits w64 (get_or us k 0)) (g : (k : ℕ) → Fits w64 (get_or vs k 0)) where
+  pub cmp_is_order_of_bytes : slice_cmp nat_cmp us vs ≡ order_of (bytes_of us) (bytes_of vs)
+  cmp_is_order_of_bytes = cmp_is_order us vs ∙ sym (order-words us vs (λ k. (h k).fits) (λ k. (g k).fits))
+
+  pub eq_is_same_bytes : pointwise nat_eq us vs ≡ same (bytes_of us) (bytes_of vs)
+  eq_is_same_bytes = eq_is_same us vs ∙ sym (same-words us vs (λ k. (h k).fits) (λ k. (g k).fits))

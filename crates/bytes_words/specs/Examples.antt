@@ -3,7 +3,7 @@ use Rattle.std.specs.Prelude.{ℕ, ◌*◌, ◌^◌, ◌≡◌, refl, List, [], 
 use Rattle.bytes_order.specs.Order.{before, same}
 use Rattle.bytes_order.specs.Member.{concat_map}
 use Rattle.bytes_order.specs.Compare.{order_of}
-use Rattle.bytes_order.specs.declared.Order.TheVariants.{Less, Greater}
+use Rattle.std.specs.declared.cmp.Ordering.TheVariants.{Less, Greater}
 use Rattle.bytes_words.specs.Words.{bytes_in, big_of, bytes_of, word_from, packed}
 
 -- of eight bytes the first is the highest and the last the lowest

@@ -1,14 +1,12 @@
 -- What is printed for a line.
 use Rattle.std.specs.Prelude.{◌≡◌, ℕ, ◌^◌, ◌≤◌, ◌<◌, List, length, take}
-use Rattle.std.proofs.Math.Option.{none, some}
+use Rattle.std.specs.Prelude.{Option, None, Some, Result}
 use Rattle.bytes_ascii.specs.Ascii.{ascii}
-use Rattle.command_syntax.specs.declared.Line.{Line}
-use Rattle.command_syntax.specs.declared.Line.TheVariants.{Offered as Offers, Unread as NotRead}
 use Rattle.command_syntax.specs.Line.{line_in}
+use Rattle.ledger_refusals.specs.declared.Refusal.{Refusal}
+use Rattle.ledger_offering.specs.declared.Answer.{Answer}
 use Rattle.ledger_offering.specs.Values.{OfferValues, taken_as, known_as, refused_as, offer_values}
 use Rattle.ledger_offering.specs.Words.{answer_text}
-use Rattle.command_answers.specs.declared.Reply.{Reply}
-use Rattle.command_answers.specs.declared.Reply.TheVariants.{Unread, Offered}
 
 -- the longest answer, `(taken waiting 64 64)` and its newline
 abbrev pub max_answer : ℕ
@@ -25,16 +23,16 @@ Printable (known_as v) = Unit {0}
 Printable (refused_as n) = Unit {0}
 
 -- .. of what a line is answered
-abbrev pub ReplyPrintable : Reply → Type 0
-ReplyPrintable Unread = Unit {0}
-ReplyPrintable (Offered a) = Printable (offer_values a)
+abbrev pub ReplyPrintable : Option (Result Answer Refusal) → Type 0
+ReplyPrintable None = Unit {0}
+ReplyPrintable (Some a) = Printable (offer_values a)
 
 -- the text of a line's answer
-abbrev pub reply_text : Reply → List ℕ
-reply_text Unread = ascii "(unread)\n"
-reply_text (Offered a) = answer_text a
+abbrev pub reply_text : Option (Result Answer Refusal) → List ℕ
+reply_text None = ascii "(unread)\n"
+reply_text (Some a) = answer_text a
 
 -- how the line in the buffer reads; the bytes that it offers are at the start of the update buffer
-abbrev pub ReadsOffer : List ℕ → ℕ → Line → List ℕ → Type 0
-ReadsOffer buffer fill NotRead update = line_in buffer fill ≡ none
-ReadsOffer buffer fill (Offers n) update = (line_in buffer fill ≡ some (take n update)) × (n ≤ length update)
+abbrev pub ReadsOffer : List ℕ → ℕ → Option ℕ → List ℕ → Type 0
+ReadsOffer buffer fill None update = line_in buffer fill ≡ None
+ReadsOffer buffer fill (Some n) update = (line_in buffer fill ≡ Some (take n update)) × (n ≤ length update)

@@ -3,7 +3,7 @@ use mathlib.Core.Path.{◌≡◌, sym, subst}
 use Prim.Native.Nat.{ℕ, ◌≤◌}
 use native.Mathlib.Omega.{arith}
 use mathlib.Core.List.{List}
-use mathlib.Core.Option.{Option, none, some}
+use Rattle.std.specs.Prelude.{Option, None, Some}
 use mathlib.Core.Bool.{Bool}
 use lib.ListN.{length, take}
 use Rattle.bitset.specs.BelowLaws.{count_below-le}
@@ -17,10 +17,7 @@ use Rattle.ledger_offering.specs.declared.Offered.{Offered}
 use Rattle.ledger_offering.specs.Values.{OfferValues}
 use Rattle.ledger_offering.specs.Offer.{OfferRow, unfit, malformed, known, full, taken, Offering}
 use Rattle.ledger_offering.specs.Words.{answer_text}
-use Rattle.command_syntax.specs.declared.Line.{Line}
-use Rattle.command_syntax.specs.declared.Line.TheVariants.{Offered as Offers, Unread as NotRead}
 use Rattle.command_syntax.specs.Line.{line_in}
-use Rattle.command_answers.specs.declared.Reply.TheVariants.{Unread, Offered as Replied}
 use Rattle.command_answers.specs.Answers.{Printable, ReadsOffer}
 use Rattle.command_feeding.specs.Answering.{AnswersLine, unread, offered, Answers}
 
@@ -41,20 +38,20 @@ offering-printable {l} {s = s} (taken u r e d f n t) =
       void_two_digits = omega (arith, count-few is_void (book_of r), t.used_next, free);
     }
 
-module _ (buffer : List ℕ) (fill : ℕ) (update : List ℕ) {x : Line} (reads : ReadsOffer buffer fill x update) where
+module _ (buffer : List ℕ) (fill : ℕ) (update : List ℕ) {x : Option ℕ} (reads : ReadsOffer buffer fill x update) where
   -- the line is not read
-  pub answer-unread : {l : Ledger} {s : List ℕ} → x ≡ NotRead → Answers l s (line_in buffer fill) (record { ledger = l; reply = Unread }) s
+  pub answer-unread : {l : Ledger} {s : List ℕ} → x ≡ None → Answers l s (line_in buffer fill) (record { ledger = l; reply = None }) s
   answer-unread {l} {s} q =
-      let e : line_in buffer fill ≡ none = subst (λ (y : Line). ReadsOffer buffer fill y update) q reads in
+      let e : line_in buffer fill ≡ None = subst (λ (y : Option ℕ). ReadsOffer buffer fill y update) q reads in
       record { answers = subst (λ (o : Option (List ℕ)). AnswersLine l s o l s (ascii "(unread)\n")) (sym e) unread; printable = tt }
 
   -- its bytes are offered
-  module _ (n : ℕ) (q : x ≡ Offers n) where
-    read_some : (line_in buffer fill ≡ some (take n update)) × (n ≤ length update)
-    read_some = subst (λ (y : Line). ReadsOffer buffer fill y update) q reads
+  module _ (n : ℕ) (q : x ≡ Some n) where
+    read_some : (line_in buffer fill ≡ Some (take n update)) × (n ≤ length update)
+    read_some = subst (λ (y : Option ℕ). ReadsOffer buffer fill y update) q reads
 
     pub answer-offered : {l : Ledger} {s s' : List ℕ} {r : Offered} → Offering l s (take n update) r s'
-        → Answers l s (line_in buffer fill) (record { ledger = r.ledger; reply = Replied r.answer }) s'
+        → Answers l s (line_in buffer fill) (record { ledger = r.ledger; reply = Some r.answer }) s'
     answer-offered {l} {s} {s'} {r} o =
         record {
           answers = subst (λ (y : Option (List ℕ)). AnswersLine l s y r.ledger s' (answer_text r.answer)) (sym read_some.0) (offered o);

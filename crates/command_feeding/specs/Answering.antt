@@ -1,6 +1,6 @@
 -- Lines answered one after the other, for every ledger and store: each offer with what the entry `offer` ensures, row 1 included.
 use Rattle.std.specs.Prelude.{ℕ, List, [], ◌∷◌, ◌++◌, cond, eqb}
-use Rattle.std.proofs.Math.Option.{Option, none, some}
+use Rattle.std.specs.Prelude.{Option, None, Some}
 use Rattle.bytes_ascii.specs.Ascii.{ascii}
 use Rattle.ledger_state.specs.declared.Ledger.{Ledger}
 use Rattle.ledger_offering.specs.Values.{OfferValues}
@@ -12,8 +12,8 @@ use Rattle.command_feeding.specs.declared.Answered.{Answered}
 
 -- A line that reads so is answered: the ledger and the store after it, and the text of the answer.
 pub data AnswersLine (l : Ledger) (s : List ℕ) : Option (List ℕ) → Ledger → List ℕ → List ℕ → Type 0 where
-  unread : AnswersLine l s none l s (ascii "(unread)\n")
-  offered : {b : List ℕ} {v : OfferValues} {r : Ledger} {s' : List ℕ} → OfferRow l s b v r s' → AnswersLine l s (some b) r s' (values_text v)
+  unread : AnswersLine l s None l s (ascii "(unread)\n")
+  offered : {b : List ℕ} {v : OfferValues} {r : Ledger} {s' : List ℕ} → OfferRow l s b v r s' → AnswersLine l s (Some b) r s' (values_text v)
 
 -- What the function `answer_line` promises of a line that reads so: it is answered, and the text of its answer is that of the reply, which can be printed.
 pub record Answers (l : Ledger) (s : List ℕ) (o : Option (List ℕ)) (r : Answered) (s' : List ℕ) : Type 0 where

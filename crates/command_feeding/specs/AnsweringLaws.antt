@@ -1,7 +1,7 @@
 -- Laws of lines answered one after the other: rows of them put together; the offers among them are calls of `offer`; and the lines of a text.
 use Rattle.std.specs.Prelude.{◌≡◌, refl, ℕ, List, [], ◌∷◌, ◌++◌, Bool, true, false, cond, eqb}
 use Rattle.std.proofs.Common.{sym, ap, subst, ◌∙◌, append_assoc, append-nil}
-use Rattle.std.proofs.Math.Option.{Option, none, some}
+use Rattle.std.specs.Prelude.{Option, None, Some}
 use Rattle.bytes_order.specs.BoolLaws.{or-false→}
 use Rattle.bytes_order.specs.Member.{any}
 use Rattle.ledger_state.specs.declared.Ledger.{Ledger}
@@ -24,8 +24,8 @@ answers-then {l = l} {l' = l'} {s = s} {s' = s'} {ts' = ts'} {os' = os'} (next {
 -- the byte strings that are offered
 abbrev pub offers_of : List (Option (List ℕ)) → List (List ℕ)
 offers_of [] = []
-offers_of (none ∷ os) = offers_of os
-offers_of (some b ∷ os) = b ∷ offers_of os
+offers_of (None ∷ os) = offers_of os
+offers_of (Some b ∷ os) = b ∷ offers_of os
 
 -- what the ledger and the store come to is what the calls of `offer` come to
 pub answers-calls : {l l' : Ledger} {s s' ts : List ℕ} {os : List (Option (List ℕ))} → AnswersLines l s os l' s' ts → Offers l s (offers_of os) l' s'

@@ -1,22 +1,23 @@
 -- What a row of calls of `feed` does, and for every ledger: the ledger and the store that come back are those of calls of `offer`.
-use Rattle.std.specs.Prelude.{◌≡◌, ℕ, List, [], ◌++◌, length}
+use Rattle.std.specs.Prelude.{◌≡◌, refl, ℕ, List, [], ◌++◌, length, Result, Ok}
 use Rattle.std.proofs.Common.{sym, subst}
-use Rattle.std.proofs.Math.Option.{Option}
+use Rattle.std.specs.Prelude.{Option}
 use Rattle.ledger_state.specs.declared.Ledger.{Ledger}
 use Rattle.ledger_offering.specs.Calls.{Offers}
 use Rattle.command_syntax.specs.Syntax.{max_line}
 use Rattle.command_lines.specs.Lines.{Keeps}
 use Rattle.command_lines.specs.KeepLaws.{keeps-some}
 use Rattle.command_feeding.specs.declared.Fed.{Fed}
+use Rattle.command_feeding.specs.declared.UnfitLine.{UnfitLine}
 use Rattle.command_feeding.specs.Answering.{AnswersLines, done, lines_of, line_after}
 use Rattle.command_feeding.specs.AnsweringLaws.{answers-then, answers-calls, lines-append}
 use Rattle.command_feeding.specs.Feeding.{Moves, Feeds, Feeding, refused, fed}
 
 -- a line buffer of max_line bytes is not refused
-pub feeding-feeds : {l : Ledger} {s buffer input out s' buffer' out' : List ℕ} {fill : ℕ} {r : Fed} → Feeding l s buffer fill input out r s' buffer' out'
-    → length buffer ≡ max_line → Feeds l s buffer fill input out r s' buffer' out'
+pub feeding-feeds : {l : Ledger} {s buffer input out s' buffer' out' : List ℕ} {fill : ℕ} {a : Result Fed UnfitLine} → Feeding l s buffer fill input out a s' buffer' out'
+    → length buffer ≡ max_line → (r : Fed) × (a ≡ Ok r) × Feeds l s buffer fill input out r s' buffer' out'
 feeding-feeds (refused n) e = absurd (n e)
-feeding-feeds (fed r s' buffer' out' e f) _ = f
+feeding-feeds (fed r s' buffer' out' e f) _ = (r, refl, f)
 
 pub moves-none : {l : Ledger} {s buffer : List ℕ} {fill : ℕ} → Moves l s buffer fill [] [] l s buffer fill
 unfolding lines_of line_after

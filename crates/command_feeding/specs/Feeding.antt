@@ -1,11 +1,13 @@
 -- The command's work in pieces: what feeding a piece of the input promises, for every ledger, store, line buffer, piece and output buffer. Left free: how much of a
 -- piece is consumed once there is no room for another answer; and the bytes of the line buffer that are not of the line so far.
-use Rattle.std.specs.Prelude.{◌≡◌, ℕ, ◌+◌, ◌≤◌, ◌<◌, List, true, false, length, take, drop}
+use Rattle.std.specs.Prelude.{◌≡◌, ℕ, ◌+◌, ◌≤◌, ◌<◌, List, length, take, drop}
+use Rattle.std.specs.Prelude.{Result, Ok, Err}
 use Rattle.ledger_state.specs.declared.Ledger.{Ledger}
 use Rattle.command_syntax.specs.Syntax.{max_line}
 use Rattle.command_lines.specs.Lines.{Keeps}
 use Rattle.command_answers.specs.Answers.{max_answer}
 use Rattle.command_feeding.specs.declared.Fed.{Fed}
+use Rattle.command_feeding.specs.declared.UnfitLine.{UnfitLine}
 use Rattle.command_feeding.specs.Answering.{AnswersLines, lines_of, line_after}
 
 -- From a ledger, store, line buffer and length to others, by a text: whatever line the buffer keeps, the lines that end in the text are answered one after the
@@ -16,7 +18,6 @@ pub record Moves (l : Ledger) (s buffer : List ℕ) (fill : ℕ) (text put : Lis
 
 -- Feeding the piece `input`, with the output buffer `out`.
 pub record Feeds (l : Ledger) (s buffer : List ℕ) (fill : ℕ) (input out : List ℕ) (r : Fed) (s' buffer' out' : List ℕ) : Type 0 where
-  pub accepted : r.refused ≡ false
   pub within_input : r.consumed ≤ length input
   pub within_out : r.written ≤ length out
   -- all is consumed, unless there is no room for another answer; something is, where there was room for one
@@ -28,8 +29,8 @@ pub record Feeds (l : Ledger) (s buffer : List ℕ) (fill : ℕ) (input out : Li
   pub moves : Moves l s buffer fill (take r.consumed input) (take r.written out') r.ledger s' buffer' r.fill
 
 -- What the function `feed` promises: a line buffer that has not max_line bytes is refused, and nothing changes; with any other the piece is fed.
-pub data Feeding (l : Ledger) (s buffer : List ℕ) (fill : ℕ) (input out : List ℕ) : Fed → List ℕ → List ℕ → List ℕ → Type 0 where
+pub data Feeding (l : Ledger) (s buffer : List ℕ) (fill : ℕ) (input out : List ℕ) : Result Fed UnfitLine → List ℕ → List ℕ → List ℕ → Type 0 where
   refused : (length buffer ≡ max_line → ⊥)
-      → Feeding l s buffer fill input out (record { ledger = l; fill = fill; consumed = 0; written = 0; refused = true }) s buffer out
+      → Feeding l s buffer fill input out (Err (record {})) s buffer out
   fed : (r : Fed) (s' buffer' out' : List ℕ) → length buffer ≡ max_line → Feeds l s buffer fill input out r s' buffer' out'
-      → Feeding l s buffer fill input out r s' buffer' out'
+      → Feeding l s buffer fill input out (Ok r) s' buffer' out'

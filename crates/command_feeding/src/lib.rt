@@ -5,30 +5,33 @@ ghost use Rattle.command_syntax.specs.Line.{line_in};
 ghost use Rattle.command_feeding.specs.Answering.{Answers};
 ghost use Rattle.command_feeding.specs.Feeding.{Feeds, Feeding};
 
-use command_answers::{Reply, print_reply, read_offer};
+use command_answers::{print_reply, read_offer};
 use command_lines::take_line;
-use command_syntax::{Line, MAX_LINE, MAX_OFFERED};
-use ledger::Ledger;
+use command_syntax::{MAX_LINE, MAX_OFFERED};
+use ledger::{Answer, Ledger, Refusal};
 
 // The longest answer is `(taken waiting 64 64)` and its newline.
 pub const MAX_ANSWER: usize = 22;
 
-// What a piece of input comes to: the ledger; how long the line so far is, as `command_lines::take_line` counts; how many bytes of the piece were consumed; how many bytes of
-// output were put at the start of the output buffer; and whether the line buffer was refused.
+// What a piece of input comes to: the ledger; how long the line so far is, as `command_lines::take_line` counts; how many bytes of the piece were consumed; and how many
+// bytes of output were put at the start of the output buffer.
 #[derive(Clone, Copy)]
 pub struct Fed {
     pub ledger: Ledger,
     pub fill: usize,
     pub consumed: usize,
     pub written: usize,
-    pub refused: bool,
 }
 
-// A ledger, and what the line that led to it was answered.
+// The line buffer has not MAX_LINE bytes.
+#[derive(Clone, Copy, PartialEq, Eq)]
+pub struct UnfitLine;
+
+// A ledger, and what the line that led to it was answered: None where it is not read, or else what its offer was answered.
 #[derive(Clone, Copy)]
 struct Answered {
     ledger: Ledger,
-    reply: Reply,
+    reply: Option<Result<Answer, Refusal>>,
 }
 
 // Answers a line of so many bytes. The struct goes in whole and comes back, and so stays in its place: a ledger by itself would be copied into it at each line.
@@ -43,18 +46,15 @@ fn answer_line(
 {
     let ledger = state.ledger;
     match read_offer(line, fill, update) {
-        Line::Unread => Answered {
-            ledger: ledger,
-            reply: Reply::Unread,
+        None => Answered {
+            ledger,
+            reply: None,
         },
-        Line::Offered(n) => {
-            let bytes: &[u8] = update;
-            let o = ledger::offer(ledger, store, &bytes[..n]);
-            let next = o.ledger;
-            let answer = o.answer;
+        Some(n) => {
+            let o = ledger::offer(ledger, store, &update[..n]);
             Answered {
-                ledger: next,
-                reply: Reply::Offered(answer),
+                ledger: o.ledger,
+                reply: Some(o.answer),
             }
         }
     }
@@ -74,30 +74,28 @@ pub fn feed_lines(
     let mut update = [0u8; MAX_OFFERED];
     // before the first line: this reply is not printed
     let mut state = Answered {
-        ledger: ledger,
-        reply: Reply::Unread,
+        ledger,
+        reply: None,
     };
     let mut length = fill;
-    let mut consumed: usize = 0;
-    let mut written: usize = 0;
+    let mut consumed = 0;
+    let mut written = 0;
+    // each turn moves on by what it takes of the input and what it puts out
     while consumed < input.len() && MAX_ANSWER <= out.len() - written {
         let t = take_line(line, length, &input[consumed..]);
         consumed += t.consumed;
         length = t.fill;
         if t.ended {
             state = answer_line(state, store, line, length, &mut update);
-            let reply = state.reply;
-            written += print_reply(&mut out[written..], reply);
+            written += print_reply(&mut out[written..], state.reply);
             length = 0;
         }
     }
-    let last = state.ledger;
     Fed {
-        ledger: last,
+        ledger: state.ledger,
         fill: length,
-        consumed: consumed,
-        written: written,
-        refused: false,
+        consumed,
+        written,
     }
 }
 
@@ -109,17 +107,11 @@ pub fn feed(
     fill: usize,
     input: &[u8],
     out: &mut [u8],
-) -> Fed
+) -> Result<Fed, UnfitLine>
     ensures { Feeding ledger store.old line.old fill input.now out.old result store.new line.new out.new }
 {
     if line.len() != MAX_LINE {
-        return Fed {
-            ledger: ledger,
-            fill: fill,
-            consumed: 0,
-            written: 0,
-            refused: true,
-        };
+        return Err(UnfitLine);
     }
-    feed_lines(ledger, store, line, fill, input, out)
+    Ok(feed_lines(ledger, store, line, fill, input, out))
 }

@@ -1,7 +1,7 @@
 -- What a line buffer keeps: some line, whatever the length; and a line that is kept reads as the line.
 use Rattle.std.specs.Prelude.{ℕ, ◌+◌, ◌-◌, ◌≤◌, ◌<◌, ◌≡◌, refl, ◌⊎◌, List, [], ◌∷◌, ◌++◌, Bool, true, false, cond, ◌&&◌, length, take, drop, leb}
 use Rattle.std.proofs.Common.{arith, sym, ◌∙◌, ap, inl, inr, ⊎_elim, length-append, length-take-le, leb-true, leb-false, le-leb}
-use Rattle.std.proofs.Math.Option.{none}
+use Rattle.std.specs.Prelude.{None}
 use Rattle.std.proofs.lemmas.Bool.{lt-leb}
 use Rattle.command_syntax.specs.Syntax.{unhex, max_line, framed, read_line}
 use Rattle.command_syntax.specs.Line.{line_in}
@@ -51,12 +51,12 @@ unfolding line_in read_line
 keeps-read {buffer} {line} {fill} k = step (leb fill max_line) refl
   where
     step : (p : Bool) → leb fill max_line ≡ p
-        → cond (p && leb fill (length buffer)) (read_line (take fill buffer)) none
-        ≡ cond (leb (length line) max_line && framed line) (unhex (take (length line - 8) (drop 7 line))) none
+        → cond (p && leb fill (length buffer)) (read_line (take fill buffer)) None
+        ≡ cond (leb (length line) max_line && framed line) (unhex (take (length line - 8) (drop 7 line))) None
     step true p =
         let h = leb-true fill max_line p in
-        ap (λ (b : Bool). cond b (read_line (take fill buffer)) none) (le-leb fill (length buffer) (omega (arith, k.sized)))
+        ap (λ (b : Bool). cond b (read_line (take fill buffer)) None) (le-leb fill (length buffer) (omega (arith, k.sized)))
         ∙ ap read_line (k.kept h)
     step false p =
         let h = leb-false fill max_line p in
-        sym (ap (λ (b : Bool). cond (b && framed line) (unhex (take (length line - 8) (drop 7 line))) none) (lt-leb (length line) max_line (k.longer h)))
+        sym (ap (λ (b : Bool). cond (b && framed line) (unhex (take (length line - 8) (drop 7 line))) None) (lt-leb (length line) max_line (k.longer h)))

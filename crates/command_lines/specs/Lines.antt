@@ -38,9 +38,3 @@ pub record TakesLine (buffer : List ℕ) (fill : ℕ) (input : List ℕ) (r : As
   pub goes_on : r.ended ≡ false → r.consumed ≡ length input
   pub some_taken : 0 < length input → 0 < r.consumed
   pub keeps : (line : List ℕ) → Keeps buffer fill line → Keeps buffer' r.fill (line ++ text)
-
--- what is asked to go on from `from` by blocks: no newline is passed, and a block has bytes
-pub record BlocksFrom (xs : List ℕ) (from block : ℕ) : Type 0 where
-  pub from_within : from ≤ length xs
-  pub block_positive : 0 < block
-  pub none_passed : broken (take from xs) ≡ false

@@ -1,20 +1,16 @@
 // Input lines, assembled in a lent buffer from pieces of the input.
 #![tactic(auto)]
 
-ghost use Rattle.std.specs.Prelude.{◌≡◌, false, ◌≤◌, length, take};
-ghost use Rattle.command_lines.specs.Lines.{broken, FirstNewline, BlocksFrom, Appends, TakesLine};
+ghost use Rattle.command_lines.specs.Lines.{FirstNewline, Appends, TakesLine};
 
-use bytes_print::put;
+use bytes_copy::copy;
 use command_syntax::MAX_LINE;
+use memchr::memchr;
 
-const NEWLINE: u8 = 10;
+const NEWLINE: u8 = b'\n';
 
-// How many bytes are looked at in one go for a newline, at first and then.
-const LARGE_BLOCK: usize = 64;
-
-const SMALL_BLOCK: usize = 8;
-
-// What a piece adds to the line so far: the length so far, how many bytes of the piece were consumed, and whether the line has ended.
+// What a piece adds to the line so far: the length so far, how many bytes of the piece were consumed, and whether the line has ended. All three are there in both
+// cases: an enum of the two would have the same two fields in each.
 #[derive(Clone, Copy)]
 pub struct Assembled {
     pub fill: usize,
@@ -22,59 +18,24 @@ pub struct Assembled {
     pub ended: bool,
 }
 
-// Is there a newline?
-fn has_newline(s: &[u8]) -> bool
-    ensures { result ≡ broken s.now }
-{
-    let mut found: u8 = 0;
-    let mut i: usize = 0;
-    while i < s.len() {
-        if s[i] == NEWLINE {
-            found = 1;
-        }
-        i += 1;
-    }
-    found == 1
-}
-
-// Goes on from `from` by whole blocks without a newline.
-fn skip_blocks(s: &[u8], from: usize, block: usize) -> usize
-    requires { BlocksFrom s.now from block }
-    ensures { (result ≤ length s.now) × (broken (take result s.now) ≡ false) }
-{
-    let mut at = from;
-    while block <= s.len() - at && !has_newline(&s[at..at + block]) {
-        at += block;
-    }
-    at
-}
-
 // The index of the first newline; the length, where there is none.
+#[tactic(auto, using(crate::proofs::Searching::first))]
 fn find_newline(s: &[u8]) -> usize
     ensures { FirstNewline s.now result }
 {
-    let far = skip_blocks(s, 0, LARGE_BLOCK);
-    let mut at = skip_blocks(s, far, SMALL_BLOCK);
-    while at < s.len() && s[at] != NEWLINE {
-        at += 1;
-    }
-    at
+    memchr(NEWLINE, s).unwrap_or(s.len())
 }
 
 // Adds the text to a line of so many bytes, and gives its new length. A length over MAX_LINE stands for every length over it: no bytes are kept then.
+// The line and its length are the public interface's, of `command_session`.
 fn append(line: &mut [u8], fill: usize, text: &[u8]) -> usize
     ensures { Appends line.old fill text.now result line.new }
 {
-    if MAX_LINE < fill {
+    if MAX_LINE < fill || line.len() < fill || line.len() - fill < text.len() {
         return MAX_LINE + 1;
     }
-    if line.len() < fill {
-        return MAX_LINE + 1;
-    }
-    if line.len() - fill < text.len() {
-        return MAX_LINE + 1;
-    }
-    put(line, fill, text)
+    copy(&mut line[fill..], text);
+    fill + text.len()
 }
 
 // Takes the input up to its first newline, and the newline with it, or else all of it.
@@ -82,16 +43,16 @@ pub fn take_line(line: &mut [u8], fill: usize, input: &[u8]) -> Assembled
     ensures { TakesLine line.old fill input.now result line.new }
 {
     let at = find_newline(input);
-    let length = append(line, fill, &input[..at]);
+    let fill = append(line, fill, &input[..at]);
     if at == input.len() {
         return Assembled {
-            fill: length,
+            fill,
             consumed: at,
             ended: false,
         };
     }
     Assembled {
-        fill: length,
+        fill,
         consumed: at + 1,
         ended: true,
     }

@@ -7,27 +7,38 @@ use lib.ListN.{length, take, drop, length-drop}
 use lib.Seq.{take_all, take-add}
 use Rattle.ledger_state.specs.declared.Ledger.{Ledger}
 use Rattle.command_answers.specs.Answers.{max_answer}
+use Rattle.std.specs.Prelude.{Option, None, IsSome, Result, Ok}
 use Rattle.command_feeding.specs.declared.Fed.{Fed}
+use Rattle.command_feeding.specs.declared.UnfitLine.{UnfitLine}
+use Rattle.command_streams.specs.declared.errors.Errno.{Errno}
 use Rattle.command_syntax.specs.Syntax.{max_line}
 use Rattle.command_feeding.specs.Feeding.{Feeds, Feeding}
 use Rattle.command_feeding.specs.FeedLaws.{feeding-feeds}
 use Rattle.command_session.specs.InPieces.{done}
 use Rattle.command_session.specs.PieceLaws.{pieces_more}
-use Rattle.command_streams.specs.Streams.{passing, Writes}
+use Rattle.command_streams.specs.Streams.{Writes}
 use Rattle.command_loop.specs.declared.Handed.{Handed}
 use Rattle.command_loop.specs.Command.{HandsOn, Consumes, Passes}
+use Rattle.command_loop.specs.CommandLaws.{none-no-error}
 
 -- the chunk from `at` on, as the part that is lent
 pub rest-is : (at : ℕ) (chunk : List ℕ) → take (length chunk - at) (drop at chunk) ≡ drop at chunk
 rest-is at chunk = take_all (length chunk - at) (drop at chunk) (omega (arith, length-drop at chunk))
 
-pub feeds-rest : {l : Ledger} {s buffer out s' buffer' out' : List ℕ} {fill : ℕ} {r : Fed} (chunk : List ℕ) (at : ℕ) → length buffer ≡ max_line
-    → Feeding l s buffer fill (take (length chunk - at) (drop at chunk)) out r s' buffer' out'
+-- what was fed of it, with a line buffer of its length
+pub feeds-rest : {l : Ledger} {s buffer out s' buffer' out' : List ℕ} {fill : ℕ} {a : Result Fed UnfitLine} {r : Fed} (chunk : List ℕ) (at : ℕ)
+    → length buffer ≡ max_line
+    → Feeding l s buffer fill (take (length chunk - at) (drop at chunk)) out a s' buffer' out'
+    → a ≡ Ok r
     → Feeds l s buffer fill (drop at chunk) out r s' buffer' out'
-feeds-rest chunk at e f = rw (rest-is at chunk) at (feeding-feeds f e)
+feeds-rest {l} {s} {buffer} {out} {s'} {buffer'} {out'} {fill} {r = r} chunk at e f g =
+    let h = feeding-feeds f e in
+    let same : h.0 ≡ r = cc in
+    rw (rest-is at chunk) at
+    (subst (λ (x : Fed). Feeds l s buffer fill (take (length chunk - at) (drop at chunk)) out x s' buffer' out') same h.2)
 
 -- as many bytes as were put out are to be written
-pub writes-all : {n k taken error : ℕ} → n ≡ k → Writes k taken error → Writes n taken error
+pub writes-all : {n k taken : ℕ} {error : Option Errno} → n ≡ k → Writes k taken error → Writes n taken error
 writes-all {taken = taken} {error = error} e w = subst (λ (m : ℕ). Writes m taken error) (sym e) w
 
 pub consumes-none : {l : Ledger} {s buffer chunk : List ℕ} {fill : ℕ} → Consumes l s buffer fill chunk 0 l s buffer fill
@@ -50,9 +61,8 @@ module _ {l l₁ : Ledger} {s s₁ s' buffer buffer₁ buffer' chunk out out' : 
       omega (arith, h.feeds.within_input, length-drop at chunk)
 
 module _ {l l' : Ledger} {s s' buffer buffer' chunk : List ℕ} {fill fill' at : ℕ} (c : Consumes l s buffer fill chunk at l' s' buffer' fill') where
-  pub passes-all : length chunk ≤ at → Passes l s buffer fill chunk (record { ledger = l'; fill = fill'; error = 0 }) s' buffer'
-  unfolding passing
-  passes-all h = record { consumed = at; consumes = c; all = λ _. omega (arith, c.within); lasts = refl }
+  pub passes-all : length chunk ≤ at → Passes l s buffer fill chunk (record { ledger = l'; fill = fill'; error = None }) s' buffer'
+  passes-all h = record { consumed = at; consumes = c; all = λ _. omega (arith, c.within); lasts = tt }
 
-  pub passes-part : {n taken error : ℕ} → Writes n taken error → (error ≡ 0 → ⊥) → Passes l s buffer fill chunk (record { ledger = l'; fill = fill'; error = error }) s' buffer'
-  passes-part w h = record { consumed = at; consumes = c; all = λ e. absurd (h e); lasts = w.lasts }
+  pub passes-part : {n taken : ℕ} {error : Option Errno} → Writes n taken error → IsSome error → Passes l s buffer fill chunk (record { ledger = l'; fill = fill'; error = error }) s' buffer'
+  passes-part w h = record { consumed = at; consumes = c; all = λ e. absurd (none-no-error h e); lasts = w.lasts }

@@ -1,13 +1,15 @@
 -- Steps, one after the other, from the beginning to the end.
-use mathlib.Core.Path.{◌≡◌}
 use Prim.Native.Nat.{ℕ, ◌+◌, ◌≤◌, ◌<◌}
 use native.Mathlib.Omega.{arith}
 use mathlib.Core.List.{List}
-use mathlib.Core.Logic.{⊎_elim}
+use mathlib.Core.Path.{◌≡◌, refl}
+use mathlib.Core.Bool.{false}
 use lib.ListN.{length}
+use Rattle.std.specs.Prelude.{Option, None, Some, is_some}
+use Rattle.command_streams.specs.declared.errors.Errno.{Errno}
 use Rattle.command_loop.specs.declared.State.{State}
 use Rattle.command_loop.specs.Command.{BeginsRun, Steps, Ran, begun, stepped}
-use Rattle.command_loop.specs.CommandLaws.{zero-or-above, ran-counted}
+use Rattle.command_loop.specs.CommandLaws.{ran-counted}
 
 -- what holds before each step: it was come to by steps from the beginning
 pub record Running (s buffer : List ℕ) (t : State) (s' buffer' chunk : List ℕ) : Type 0 where
@@ -15,8 +17,9 @@ pub record Running (s buffer : List ℕ) (t : State) (s' buffer' chunk : List �
   pub put : List ℕ
   pub ran : Ran s buffer fed put t s' buffer' chunk
 
-pub above_zero : {n : ℕ} → (n ≡ 0 → ⊥) → 0 < n
-above_zero {n} h = ⊎_elim (λ z. absurd (h z)) (λ k. k) (zero-or-above n)
+pub no-error : {error : Option Errno} → is_some error ≡ false → error ≡ None
+no-error {error = None} h = refl
+no-error {error = Some e} h = cc
 
 pub running-begun : {s buffer chunk : List ℕ} {t : State} → BeginsRun t chunk → Running s buffer t s buffer chunk
 running-begun b = record { fed = _; put = _; ran = begun b }

@@ -1,13 +1,14 @@
 -- What the command put out, where no write failed, is the output of what it fed. The errors that it tells are none that pass.
-use Rattle.std.specs.Prelude.{◌≡◌, refl, ℕ, zero, suc, ◌+◌, ◌≤◌, ◌<◌, List, [], ◌++◌, false, ◌⊎◌, length, take}
+use Rattle.std.specs.Prelude.{◌≡◌, refl, ℕ, ◌+◌, ◌≤◌, ◌<◌, List, [], ◌++◌, ◌⊎◌, Option, None, Some, IsSome, length, take}
 use Rattle.std.proofs.Common.{sym, ap, subst, ◌∙◌, arith, inl, inr, ⊎_elim, length-append, take_all, length-take-le}
 use Rattle.ledger_state.specs.View.{fresh_ledger}
 use Rattle.command_session.specs.Finishing.{EndValues, with_report, put_out, FinishRow}
 use Rattle.command_session.specs.Session.{max_input, output_of}
 use Rattle.command_session.specs.InPieces.{Pieces, done, in_pieces, pieces-reported}
 use Rattle.command_session.specs.PieceLaws.{pieces_then}
+use Rattle.command_streams.specs.declared.errors.Errno.{Errno}
 use Rattle.command_streams.specs.declared.Input.{Input}
-use Rattle.command_streams.specs.Streams.{passing}
+use Rattle.command_streams.specs.Streams.{ErrorLasts}
 use Rattle.command_loop.specs.declared.State.{State}
 use Rattle.command_loop.specs.declared.Ended.{Ended}
 use Rattle.command_loop.specs.Command.{BeginsRun, Steps, Lent, Ran, begun, stepped, Runs, stopped, ended, Commands}
@@ -16,18 +17,18 @@ use Rattle.command_loop.specs.Command.{BeginsRun, Steps, Lent, Ran, begun, stepp
 -- where a write failed.
 pub record Counted (fed : List ℕ) (t : State) (chunk : List ℕ) : Type 0 where
   pub within : t.got ≤ length chunk
-  pub unfailed : 0 < t.got → t.writing ≡ 0
+  pub unfailed : 0 < t.got → t.writing ≡ None
   pub limit : length fed + (t.got + t.left) ≤ max_input
-  pub all : t.writing ≡ 0 → length fed + (t.got + t.left) ≡ max_input
-  pub reading_lasts : passing t.reading ≡ false
-  pub writing_lasts : passing t.writing ≡ false
+  pub all : t.writing ≡ None → length fed + (t.got + t.left) ≡ max_input
+  pub reading_lasts : ErrorLasts t.reading
+  pub writing_lasts : ErrorLasts t.writing
 
-pub zero-or-above : (n : ℕ) → (n ≡ 0) ⊎ (0 < n)
-zero-or-above zero = inl refl
-zero-or-above (suc n) = inr (omega arith)
+-- there was no error, or there was one
+pub no-error-or-one : (error : Option Errno) → (error ≡ None) ⊎ IsSome error
+no-error-or-one None = inl refl
+no-error-or-one (Some e) = inr refl
 
 begun-counted : {t : State} {chunk : List ℕ} → BeginsRun t chunk → Counted [] t chunk
-unfolding passing
 begun-counted b =
     rw b.begins
     record {
@@ -36,7 +37,7 @@ begun-counted b =
       limit = omega (arith, b.reads.falls);
       all = λ _. omega (arith, b.reads.falls);
       reading_lasts = b.reads.lasts;
-      writing_lasts = refl;
+      writing_lasts = tt;
     }
 
 module _ {fed s₁ buffer₁ chunk₁ s' buffer' chunk' : List ℕ} {t r : State} (u : Counted fed t chunk₁) (more : 0 < t.got)
@@ -53,7 +54,7 @@ module _ {fed s₁ buffer₁ chunk₁ s' buffer' chunk' : List ℕ} {t r : State
       rw p.steps
       record {
         within = p.reads.within;
-        unfailed = λ h. ⊎_elim (λ z. z) (λ k. absurd (omega (arith, ap (λ (i : Input). i.got) (p.stops k)))) (zero-or-above p.passed.error);
+        unfailed = λ h. ⊎_elim (λ z. z) (λ k. absurd (omega (arith, ap (λ (i : Input). i.got) (p.stops k)))) (no-error-or-one p.passed.error);
         limit = omega (arith, q.consumes.within, p.reads.falls);
         all = λ z. omega (arith, q.all z, p.reads.falls);
         reading_lasts = p.reads.lasts;
@@ -76,8 +77,13 @@ pub record RunOutputs (r : Ended) (out : List ℕ) : Type 0 where
   pub counted : length fed + r.left ≡ max_input
   pub output : put ++ take r.taken out ≡ output_of fed
 
-runs-output : {s buffer out s'' buffer'' out'' : List ℕ} {r : Ended} → Lent s buffer out → Runs s buffer r s'' buffer'' out'' → r.writing ≡ 0 → RunOutputs r out''
-runs-output lent (stopped fed put chunk t ran failed same) good = absurd (omega (arith, ap (λ (e : Ended). e.writing) same))
+-- no error is none that there is
+pub none-no-error : {error : Option Errno} → IsSome error → error ≡ None → ⊥
+none-no-error {error = None} h e = cc
+none-no-error {error = Some e'} h e = cc
+
+runs-output : {s buffer out s'' buffer'' out'' : List ℕ} {r : Ended} → Lent s buffer out → Runs s buffer r s'' buffer'' out'' → r.writing ≡ None → RunOutputs r out''
+runs-output lent (stopped fed put chunk t ran failed same) good = absurd (none-no-error failed (ap (λ (e : Ended). e.writing) (sym same) ∙ good))
 runs-output {s = s} {buffer = buffer} {s'' = s''} {buffer'' = buffer''} {out'' = out''} lent (ended fed put chunk t s' out m ran none good room ends same) written =
     let counted : length fed + (t.got + t.left) ≡ max_input = (ran-counted ran).all good in
     let whole : take max_input fed ≡ fed = take_all max_input fed (omega arith) in
@@ -86,7 +92,7 @@ runs-output {s = s} {buffer = buffer} {s'' = s''} {buffer'' = buffer''} {out'' =
     let report = pieces-reported fed lent.store_long lent.line_long (ran-pieces ran) room ends.finishes in
     let finishes : FinishRow t.ledger s' buffer'' t.fill out (with_report report.0) s'' out'' =
     subst (λ (v : EndValues). FinishRow t.ledger s' buffer'' t.fill out v s'' out'') report.1 ends.finishes in
-    let unfailed : m.error ≡ 0 = ap (λ (e : Ended). e.writing) (sym same) ∙ written in
+    let unfailed : m.error ≡ None = ap (λ (e : Ended). e.writing) (sym same) ∙ written in
     record {
       fed = fed;
       put = put;
@@ -97,13 +103,13 @@ runs-output {s = s} {buffer = buffer} {s'' = s''} {buffer'' = buffer''} {out'' =
     }
 
 -- where no write failed
-pub command-output : {r : Ended} (c : Commands r) → r.writing ≡ 0 → RunOutputs r c.last_out
+pub command-output : {r : Ended} (c : Commands r) → r.writing ≡ None → RunOutputs r c.last_out
 command-output c good = runs-output c.lent c.runs good
 
 -- The errors that are told are of calls that failed for good, never of one that was interrupted or would block.
 pub record Lasts (r : Ended) : Type 0 where
-  pub reading : passing r.reading ≡ false
-  pub writing : passing r.writing ≡ false
+  pub reading : ErrorLasts r.reading
+  pub writing : ErrorLasts r.writing
 
 runs-errors : {s buffer s'' buffer'' out'' : List ℕ} {r : Ended} → Runs s buffer r s'' buffer'' out'' → Lasts r
 runs-errors (stopped fed put chunk t ran failed same) = rw same record { reading = (ran-counted ran).reading_lasts; writing = (ran-counted ran).writing_lasts }

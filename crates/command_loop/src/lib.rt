@@ -2,47 +2,51 @@
 // made of the answers of these is `next_state` and `ended_by`, which make no call.
 #![tactic(auto)]
 
-ghost use Rattle.std.specs.Prelude.{◌≡◌};
-ghost use Rattle.command_session.specs.Session.{max_input};
-ghost use Rattle.command_loop.specs.Command.{next_state, ended_by, AtPiece, HandsOn, Room, Passes, BeginsRun, StepReady, Steps, Ends, Lent, Runs, Commands};
+ghost use Rattle.std.specs.Prelude.{◌≡◌, ◌≤◌, length};
+ghost use Rattle.command_loop.specs.Command.{next_state, ended_by, HandsOn, Passes, BeginsRun, Steps, Ends, Runs, Commands};
 
 use command_session::Fed;
-use command_streams::{Input, Moved};
+use command_streams::{Errno, Input, Moved};
 use command_syntax::MAX_LINE;
 use ledger::Ledger;
 use ledger_state::STORE_LENGTH;
 use std::io::Input as StandardInput;
 use std::rt::Clock;
 
-// How many bytes are read, and written, at a time.
+// How many bytes are read at a time, and written.
 const CHUNK: usize = 65536;
 
-// What a piece of a chunk comes to: what `feed` gives; how many bytes of the output `write` took; and the number of the error of a write that failed, 0 where none did.
+const OUT: usize = 65536;
+
+// Document 01: "The command reads at most 4,294,967,296 bytes".
+const MAX_INPUT: usize = 4294967296;
+
+// What a piece of a chunk comes to: what `feed` gives; how many bytes of the output `write` took; and the error of a write that failed.
 #[derive(Clone, Copy)]
 struct Handed {
     fed: Fed,
     taken: usize,
-    error: u64,
+    error: Option<Errno>,
 }
 
-// What a chunk of the input comes to: the ledger, the length of the line so far, and the error of a write as above.
+// What a chunk of the input comes to: the ledger, the length of the line so far, and the error of a write that failed.
 #[derive(Clone, Copy)]
 struct Passed {
     ledger: Ledger,
     fill: usize,
-    error: u64,
+    error: Option<Errno>,
 }
 
 // What the command's loop carries: the ledger; the length of the line so far; how many bytes of the chunk were read last, none at the end of the input; what is left of
-// the limit; and the numbers of the errors of a read and of a write, 0 where there was none.
+// the limit; and the errors of a read and of a write that failed.
 #[derive(Clone, Copy)]
 struct State {
     ledger: Ledger,
     fill: usize,
     got: usize,
     left: usize,
-    reading: u64,
-    writing: u64,
+    reading: Option<Errno>,
+    writing: Option<Errno>,
 }
 
 // What the command came to: how many bytes of the end of the output `write` took; what is left of the limit; and the two errors.
@@ -50,15 +54,8 @@ struct State {
 pub struct Ended {
     pub taken: usize,
     pub left: usize,
-    pub reading: u64,
-    pub writing: u64,
-}
-
-// Document 01: "The command reads at most 4,294,967,296 bytes".
-fn max_input() -> usize
-    ensures { result ≡ max_input }
-{
-    4294967296
+    pub reading: Option<Errno>,
+    pub writing: Option<Errno>,
 }
 
 // Feeds the chunk from byte `at` on, as far as there is room for answers, and writes what that puts out.
@@ -66,22 +63,21 @@ fn hand_on<R: Print + Clock>(
     rt: &R,
     ledger: Ledger,
     store: &mut [u8],
-    line: &mut [u8],
+    line: &mut [u8; MAX_LINE],
     fill: usize,
     chunk: &[u8],
     at: usize,
     out: &mut [u8],
 ) -> Handed
-    requires { AtPiece line.old chunk.now at }
+    requires { at ≤ length chunk.now }
     ensures { HandsOn ledger store.old line.old fill chunk.now at out.old result store.new line.new out.new }
 {
-    let f = command_session::feed(ledger, store, line, fill, &chunk[at..], out);
-    let written = f.written;
-    let m = command_streams::write_all(rt, &out[..written]);
+    let fed = command_session::feed(ledger, store, line, fill, &chunk[at..], out).unwrap();
+    let wrote = command_streams::write_all(rt, &out[..fed.written]);
     Handed {
-        fed: f,
-        taken: m.count,
-        error: m.error,
+        fed,
+        taken: wrote.count,
+        error: wrote.error,
     }
 }
 
@@ -90,36 +86,34 @@ fn pass_on<R: Print + Clock>(
     rt: &R,
     ledger: Ledger,
     store: &mut [u8],
-    line: &mut [u8],
+    line: &mut [u8; MAX_LINE],
     fill: usize,
     chunk: &[u8],
-    out: &mut [u8],
+    out: &mut [u8; OUT],
 ) -> Passed
-    requires { Room line.old out.old }
     ensures { Passes ledger store.old line.old fill chunk.now result store.new line.new }
 {
     let mut current = ledger;
     let mut length = fill;
-    let mut at: usize = 0;
+    let mut at = 0;
+    // a `while`: a piece says how far it goes on
     while at < chunk.len() {
         let h = hand_on(rt, current, store, line, length, chunk, at, out);
-        let f = h.fed;
-        let next = f.ledger;
-        current = next;
-        length = f.fill;
-        if h.error != 0 {
+        current = h.fed.ledger;
+        length = h.fed.fill;
+        if h.error.is_some() {
             return Passed {
                 ledger: current,
                 fill: length,
                 error: h.error,
             };
         }
-        at += f.consumed;
+        at += h.fed.consumed;
     }
     Passed {
         ledger: current,
         fill: length,
-        error: 0,
+        error: None,
     }
 }
 
@@ -127,9 +121,8 @@ fn pass_on<R: Print + Clock>(
 fn next_state(p: Passed, i: Input) -> State
     ensures { result ≡ next_state p i }
 {
-    let ledger = p.ledger;
     State {
-        ledger: ledger,
+        ledger: p.ledger,
         fill: p.fill,
         got: i.got,
         left: i.left,
@@ -142,12 +135,11 @@ fn next_state(p: Passed, i: Input) -> State
 fn begin<R: StandardInput + Clock>(rt: &R, chunk: &mut [u8]) -> State
     ensures { BeginsRun result chunk.new }
 {
-    let i = command_streams::read_some(rt, max_input(), chunk);
-    let ledger = ledger::fresh();
+    let i = command_streams::read_some(rt, MAX_INPUT, chunk);
     let p = Passed {
-        ledger: ledger,
+        ledger: ledger::fresh(),
         fill: 0,
-        error: 0,
+        error: None,
     };
     next_state(p, i)
 }
@@ -157,21 +149,27 @@ fn step<R: StandardInput + Print + Clock>(
     rt: &R,
     state: State,
     store: &mut [u8],
-    line: &mut [u8],
+    line: &mut [u8; MAX_LINE],
     chunk: &mut [u8],
-    out: &mut [u8],
+    out: &mut [u8; OUT],
 ) -> State
-    requires { StepReady state line.old chunk.old out.old }
+    requires { state.got ≤ length chunk.old }
     ensures { Steps state store.old line.old chunk.old result store.new line.new chunk.new }
 {
-    let ledger = state.ledger;
-    let got = state.got;
-    let p = pass_on(rt, ledger, store, line, state.fill, &chunk[..got], out);
-    if p.error != 0 {
+    let p = pass_on(
+        rt,
+        state.ledger,
+        store,
+        line,
+        state.fill,
+        &chunk[..state.got],
+        out,
+    );
+    if p.error.is_some() {
         let none = Input {
             got: 0,
             left: state.left,
-            error: 0,
+            error: None,
         };
         return next_state(p, none);
     }
@@ -191,7 +189,7 @@ fn end<R: Print + Clock>(
     ensures { Ends ledger store.old line.now fill out.old result store.new out.new }
 {
     let finished = command_session::finish(ledger, store, line, fill, out);
-    let n = finished.written();
+    let n = command_session::written(finished);
     command_streams::write_all(rt, &out[..n])
 }
 
@@ -211,26 +209,25 @@ fn ended_by(state: State, m: Moved) -> Ended
 fn run_on<R: StandardInput + Print + Clock>(
     rt: &R,
     store: &mut [u8],
-    line: &mut [u8],
+    line: &mut [u8; MAX_LINE],
     chunk: &mut [u8],
-    out: &mut [u8],
+    out: &mut [u8; OUT],
 ) -> Ended
-    requires { Lent store.old line.old out.old }
     ensures { Runs store.old line.old result store.new line.new out.new }
 {
     let mut state = begin(rt, chunk);
+    // a `while`: a read says whether there is something to feed
     while 0 < state.got {
         state = step(rt, state, store, line, chunk, out);
     }
-    if state.writing != 0 {
+    if state.writing.is_some() {
         let none = Moved {
             count: 0,
             error: state.writing,
         };
         return ended_by(state, none);
     }
-    let ledger = state.ledger;
-    let m = end(rt, ledger, store, line, state.fill, out);
+    let m = end(rt, state.ledger, store, line, state.fill, out);
     ended_by(state, m)
 }
 
@@ -241,6 +238,6 @@ pub fn run<R: StandardInput + Print + Clock>(rt: &R) -> Ended
     let mut store = [0u8; STORE_LENGTH];
     let mut line = [0u8; MAX_LINE];
     let mut chunk = [0u8; CHUNK];
-    let mut out = [0u8; CHUNK];
+    let mut out = [0u8; OUT];
     run_on(rt, &mut store, &mut line, &mut chunk, &mut out)
 }

@@ -3,7 +3,7 @@ use mathlib.Core.Path.{◌≡◌, refl, sym, ap, ap₂, subst, subst₂, ◌∙�
 use Prim.Native.Nat.{ℕ, ◌≤◌}
 use native.Mathlib.Omega.{arith}
 use mathlib.Core.List.{List, [], ◌∷◌, ◌++◌, append-nil, append_assoc}
-use mathlib.Core.Option.{Option}
+use Rattle.std.specs.Prelude.{Option}
 use lib.ListN.{length, take, drop, take-append-drop, drop_of_length-le}
 use lib.Seq.{length-take-le, drop-append-le}
 use Rattle.ledger_state.specs.declared.Ledger.{Ledger}
@@ -28,10 +28,6 @@ some-last : (line : List ℕ) → (length line ≡ 0 → ⊥) → lines_of line 
 unfolding last_of lines_of
 some-last [] n = absurd (n refl)
 some-last (c ∷ cs) n = refl
-
--- the copy of a line buffer, in a buffer as long
-pub copied : (line zeros : List ℕ) {copy : List ℕ} → length line ≡ length zeros → copy ≡ line ++ drop (length line) zeros → copy ≡ line
-copied line zeros e c = c ∙ ap (λ (x : List ℕ). line ++ x) (drop_of_length-le zeros {i = length line} (omega arith)) ∙ append-nil line
 
 module _ {l : Ledger} {s buffer : List ℕ} {fill : ℕ} (out : List ℕ) (sized : length buffer ≡ max_line) (room : max_end ≤ length out) where
   -- no line is begun

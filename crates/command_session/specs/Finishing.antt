@@ -1,6 +1,6 @@
 -- The end of the input: what it promises, for every ledger, store, line buffer and output buffer.
 use Rattle.std.specs.Prelude.{◌≡◌, ℕ, ◌+◌, ◌≤◌, ◌<◌, List, [], ◌∷◌, ◌++◌, length, take, drop}
-use Rattle.std.proofs.Math.Option.{Option}
+use Rattle.std.specs.Prelude.{Option, Result, Ok, Err}
 use Rattle.rules.specs.declared.Form.TheVariants.{Full}
 use Rattle.rules.specs.Report.{max_report}
 use Rattle.ledger_state.specs.declared.Ledger.{Ledger}
@@ -12,8 +12,8 @@ use Rattle.command_syntax.specs.Syntax.{max_line, read_line}
 use Rattle.command_lines.specs.Lines.{Keeps}
 use Rattle.command_answers.specs.Answers.{max_answer}
 use Rattle.command_feeding.specs.Answering.{AnswersLines}
-use Rattle.command_session.specs.declared.Finished.{Finished}
-use Rattle.command_session.specs.declared.Finished.TheVariants.{Written, Unreported, Short, UnfitLine}
+use Rattle.command_session.specs.declared.Unfinished.{Unfinished}
+use Rattle.command_session.specs.declared.Unfinished.TheVariants.{Unreported, Short, UnfitLine}
 
 -- the longest end of an output: an answer and a report
 abbrev pub max_end : ℕ
@@ -27,11 +27,11 @@ pub data EndValues : Type 0 where
   short_output : EndValues
   unfit_line : EndValues
 
-abbrev pub end_values : Finished → EndValues
-end_values (Written n) = with_report n
-end_values (Unreported n r) = without_report n (refusal_number r)
-end_values Short = short_output
-end_values UnfitLine = unfit_line
+abbrev pub end_values : Result ℕ Unfinished → EndValues
+end_values (Ok n) = with_report n
+end_values (Err (Unreported n r)) = without_report n (refusal_number r)
+end_values (Err Short) = short_output
+end_values (Err UnfitLine) = unfit_line
 
 -- how many bytes of output that is
 abbrev pub put_out : EndValues → ℕ
@@ -66,5 +66,5 @@ pub data FinishRow (l : Ledger) (s buffer : List ℕ) (fill : ℕ) (out : List �
       → FinishRow l s buffer fill out v s' out'
 
 -- the promise of `finish`
-abbrev pub Finishes : Ledger → List ℕ → List ℕ → ℕ → List ℕ → Finished → List ℕ → List ℕ → Type 0
+abbrev pub Finishes : Ledger → List ℕ → List ℕ → ℕ → List ℕ → Result ℕ Unfinished → List ℕ → List ℕ → Type 0
 Finishes l s buffer fill out r s' out' = FinishRow l s buffer fill out (end_values r) s' out'

@@ -1,7 +1,7 @@
 -- Where a ledger, its store and a line buffer are where a machine is: what answering lines, and a call, or a row of calls, of `feed` does to them.
 use Rattle.std.specs.Prelude.{◌≡◌, refl, ℕ, List, [], ◌∷◌, ◌++◌, Bool, true, false, cond, eqb}
 use Rattle.std.proofs.Common.{sym, ap, subst, ◌∙◌, append_assoc, append-nil}
-use Rattle.std.proofs.Math.Option.{Option, none, some}
+use Rattle.std.specs.Prelude.{Option, None, Some}
 use Rattle.ledger_state.specs.declared.Ledger.{Ledger}
 use Rattle.ledger_state.specs.View.{book_of}
 use Rattle.ledger_state.specs.Stands.{Stands}
@@ -31,8 +31,8 @@ answers-machine {l} {s = s} m h (offered {b = b} o) =
 -- no line is begun then
 answer-begins : (m : Machine) (o : Option (List ℕ)) → (answer_line m o).line ≡ []
 unfolding answer_line
-answer-begins m none = refl
-answer-begins m (some b) = refl
+answer-begins m None = refl
+answer-begins m (Some b) = refl
 
 -- the line goes on with a byte
 abbrev begins_with : Machine → ℕ → Machine

@@ -1,6 +1,6 @@
 -- Document 01, "Command and report": the whole output as a function of the whole input.
 use Rattle.std.specs.Prelude.{ℕ, ◌^◌, List, [], ◌∷◌, ◌++◌, cond, take, eqb}
-use Rattle.std.proofs.Math.Option.{Option, none, some}
+use Rattle.std.specs.Prelude.{Option, None, Some}
 use Rattle.update_format.specs.Update.{document_bounds, Update}
 use Rattle.update_format.specs.Decode.{decode}
 use Rattle.bytes_ascii.specs.Ascii.{ascii}
@@ -22,8 +22,8 @@ abbrev pub begin : Machine
 begin = record { stored = []; line = []; out = [] }
 
 unfoldable pub answer_line : Machine → Option (List ℕ) → Machine
-answer_line m none = record { stored = m.stored; line = []; out = m.out ++ ascii "(unread)\n" }
-answer_line m (some b) =
+answer_line m None = record { stored = m.stored; line = []; out = m.out ++ ascii "(unread)\n" }
+answer_line m (Some b) =
     record { stored = accept_decoded document_terms m.stored (decode document_bounds b); line = []; out = m.out ++ offer_text document_terms m.stored (decode document_bounds b) }
 
 unfoldable pub end_line : Machine → Machine

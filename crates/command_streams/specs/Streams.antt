@@ -1,74 +1,74 @@
 -- What reading and writing promise of the numbers of bytes and of errors. What a call of C read or wrote is not said, nor that one was made: no contract can. What is
 -- made of its answer is.
-use Rattle.std.specs.Prelude.{◌≡◌, ℕ, zero, suc, ◌+◌, ◌-◌, ◌≤◌, ◌<◌, min, Bool, false, cond, ◌||◌, eqb, ℤ, pos, negsuc}
-use Rattle.command_streams.specs.declared.Moved.{Moved}
+use Rattle.std.specs.Prelude.{◌≡◌, ℕ, zero, suc, ◌+◌, ◌-◌, ◌≤◌, ◌<◌, min, Bool, false, cond, ◌||◌, eqb, Option, None, Some, Result, Ok, Err, IfOk, IfErr, IfSome, IsSome}
+use Rattle.command_streams.specs.declared.errors.Errno.{Errno}
 use Rattle.command_streams.specs.declared.Input.{Input}
+use Rattle.std.proofs.Common.{lit<}
 
 -- whether a call with this error is made again: it was interrupted (EINTR), or would block (EAGAIN)
-unfoldable pub passing : ℕ → Bool
-passing error = eqb error 4 || eqb error 11
+abbrev pub passing : Errno → Bool
+passing error = eqb error.number 4 || eqb error.number 11
 
--- the number of an error, of C's errno: EIO where that is no number above 0
-unfoldable pub error_of : ℤ → ℕ
-error_of (pos zero) = 5
-error_of (pos (suc n)) = suc n
-error_of (negsuc n) = 5
+-- EIO
+abbrev pub eio : Errno
+eio = record { number = 5; failed = lit< tt }
 
--- what a call that was handed n bytes came to, of its answer and C's errno
-unfoldable pub came_to : ℕ → ℤ → ℤ → Moved
-came_to n (pos k) errno = record { count = min k n; error = 0 }
-came_to n (negsuc k) errno = record { count = 0; error = error_of errno }
-
--- nothing was moved, with EIO
-abbrev pub unmoved : Moved
-unmoved = record { count = 0; error = 5 }
+-- what a call that was handed n bytes came to, of its answer
+abbrev pub came_to : ℕ → Result ℕ Errno → Result ℕ Errno
+came_to n (Ok k) = Ok (min k n)
+came_to n (Err e) = Err e
 
 -- what a write came to: one that took nothing has failed
-unfoldable pub took_some : Moved → Moved
-took_some m = cond (eqb m.error 0) (cond (eqb m.count 0) unmoved m) m
+abbrev pub took_some : Result ℕ Errno → Result ℕ Errno
+took_some (Ok zero) = Err eio
+took_some (Ok (suc k)) = Ok (suc k)
+took_some (Err e) = Err e
 
 -- what a call came to that is not made again, though its error may pass
-unfoldable pub lasting : Moved → Moved
-lasting m = cond (passing m.error) unmoved m
+abbrev pub lasting : Result ℕ Errno → Result ℕ Errno
+lasting (Ok k) = Ok k
+lasting (Err e) = cond (passing e) (Err eio) (Err e)
 
 -- what a read came to, of which the limit left `left` bytes
-abbrev pub taken_from : ℕ → Moved → Input
-taken_from left m = record { got = m.count; left = left - m.count; error = m.error }
+abbrev pub taken_from : ℕ → Result ℕ Errno → Input
+taken_from left (Ok k) = record { got = k; left = left - k; error = None }
+taken_from left (Err e) = record { got = 0; left = left; error = Some e }
 
--- what writing came to, where `at` bytes were taken before and the next write came to m
-abbrev pub taken_after : ℕ → Moved → Moved
-taken_after at m = record { count = at + m.count; error = m.error }
-
--- a call that may move n bytes: none, where it failed
-pub record MovesAtMost (n : ℕ) (r : Moved) : Type 0 where
-  pub within : r.count ≤ n
-  pub none : 0 < r.error → r.count ≡ 0
+-- a call that may move n bytes: no more, and none where it failed
+abbrev pub MovesAtMost : ℕ → Result ℕ Errno → Type 0
+MovesAtMost n r = IfOk r (λ k. k ≤ n)
 
 -- a call that is to take n bytes: at least one, unless it failed, and then none
-pub record TakesSome (n : ℕ) (r : Moved) : Type 0 where
-  pub within : r.count ≤ n
-  pub none : 0 < r.error → r.count ≡ 0
-  pub some : r.error ≡ 0 → 0 < r.count
+abbrev pub TakesSome : ℕ → Result ℕ Errno → Type 0
+TakesSome n r = IfOk r (λ k. (0 < k) × (k ≤ n))
 
--- a read, and a write, made again while its error passes
-pub record ReadsAgain (n : ℕ) (r : Moved) : Type 0 where
+-- a call made again while its error passes
+abbrev pub Lasts : Result ℕ Errno → Type 0
+Lasts r = IfErr r (λ e. passing e ≡ false)
+
+-- .. a read, and a write
+pub record ReadsAgain (n : ℕ) (r : Result ℕ Errno) : Type 0 where
   pub moves : MovesAtMost n r
-  pub lasts : passing r.error ≡ false
+  pub lasts : Lasts r
 
-pub record WritesAgain (n : ℕ) (r : Moved) : Type 0 where
+pub record WritesAgain (n : ℕ) (r : Result ℕ Errno) : Type 0 where
   pub takes : TakesSome n r
-  pub lasts : passing r.error ≡ false
+  pub lasts : Lasts r
+
+-- an error that is none that passes
+abbrev pub ErrorLasts : Option Errno → Type 0
+ErrorLasts error = IfSome error (λ e. passing e ≡ false)
 
 -- reading into a buffer of n bytes, where `limit` bytes may be read: what is left of the limit falls by what was got
 pub record Reads (limit n : ℕ) (r : Input) : Type 0 where
   pub within : r.got ≤ n
   pub falls : r.got + r.left ≡ limit
-  pub none : 0 < r.error → r.got ≡ 0
-  pub lasts : passing r.error ≡ false
+  pub none : IsSome r.error → r.got ≡ 0
+  pub lasts : ErrorLasts r.error
 
 -- writing n bytes: all of them are taken, unless a write failed, and then fewer
-pub record Writes (n taken error : ℕ) : Type 0 where
+pub record Writes (n taken : ℕ) (error : Option Errno) : Type 0 where
   pub within : taken ≤ n
-  pub all : error ≡ 0 → taken ≡ n
-  pub fewer : 0 < error → taken < n
-  pub lasts : passing error ≡ false
+  pub all : error ≡ None → taken ≡ n
+  pub fewer : IsSome error → taken < n
+  pub lasts : ErrorLasts error

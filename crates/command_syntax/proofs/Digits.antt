@@ -1,20 +1,36 @@
 -- The digits of a line: their values, the test that all are digits, and the bytes spelled so far.
-use Prim.Native.Nat.{ℕ, suc, ◌+◌, ◌*◌, ◌<◌, max}
+use Prim.Native.Nat.{ℕ, suc, ◌+◌, ◌-◌, ◌*◌, ◌<◌}
 use native.Mathlib.Omega.{arith}
 use native.Mathlib.Numerals.{add-one}
 use mathlib.Core.Path.{◌≡◌, refl, sym, ◌∙◌, ap, ap₂}
 use mathlib.Core.List.{List, [], ◌∷◌, ◌++◌}
-use mathlib.Core.Option.{some, some-injective}
-use mathlib.Core.Bool.{Bool, true, false, ◌&&◌}
+use Rattle.std.specs.Prelude.{Option, None, Some, is_some, unwrap_or}
+use mathlib.Core.Bool.{Bool, true, false, cond, ◌&&◌}
 use lib.ListN.{length, get_or, set, take, drop, length-drop}
 use lib.Seq.{take-suc, take-suc-set, take-add, drop-cons, drop-drop, get_or-take, get_or-drop, length-take-le}
-use lib.Dec.{ltb}
-use borrow.Author.Tests.{ltb-true, ltb-false, lt-ltb, le-ltb}
+use lib.Dec.{leb}
+use borrow.Author.Tests.{leb-true}
+use Rattle.bytes_order.specs.BoolLaws.{and-true→}
 use Rattle.bytes_order.specs.Member.{all}
 use Rattle.bytes_order.specs.MemberLaws.{all→∈, get_or-∈}
-use Rattle.command_syntax.specs.Syntax.{unhex}
-use Rattle.command_syntax.specs.Line.{digit_value, Spells}
-use Rattle.command_syntax.specs.LineLaws.{is_digit, none≢some, unhex-more, unhex-begins, unhex-digits}
+use Rattle.command_syntax.specs.Syntax.{digit_of, unhex}
+use Rattle.command_syntax.specs.Line.{is_digit, digit_value, Spells}
+use Rattle.command_syntax.specs.LineLaws.{None≢Some, same-some, unhex-more, unhex-begins, unhex-digits}
+
+-- the value of a digit
+pub digit-small : (c : ℕ) → digit_value c < 16
+unfolding digit_of
+digit-small c = step (leb 48 c && leb c 57) (leb 97 c && leb c 102) refl refl
+  where
+    step : (p q : Bool) → (leb 48 c && leb c 57) ≡ p → (leb 97 c && leb c 102) ≡ q
+        → unwrap_or (cond p (Some (c - 48)) (cond q (Some (c - 87)) None)) 0 < 16
+    step true q e f = let h = leb-true c 57 (and-true→ (leb 48 c) (leb c 57) e).1 in omega arith
+    step false true e f = let h = leb-true c 102 (and-true→ (leb 97 c) (leb c 102) f).1 in omega arith
+    step false false e f = omega arith
+
+-- .. as it is asked for
+pub value : (c v : ℕ) {o : Option ℕ} → o ≡ digit_of c → v ≡ unwrap_or o 0 → v ≡ digit_value c
+value c v e f = f ∙ ap (λ (o : Option ℕ). unwrap_or o 0) e
 
 all_append : {A : Type 0} (p : A → Bool) (xs ys : List A) → all p (xs ++ ys) ≡ (all p xs && all p ys)
 unfolding all
@@ -30,41 +46,30 @@ and_last true true = refl
 and_last true false = refl
 and_last false b = refl
 
--- both are below a bound where the larger is
-max-below : (a b n : ℕ) → ltb (max a b) n ≡ (ltb a n && ltb b n)
-max-below a b n = step (ltb a n) (ltb b n) refl refl
-  where
-    step : (p q : Bool) → ltb a n ≡ p → ltb b n ≡ q → ltb (max a b) n ≡ (p && q)
-    step true true p q = lt-ltb (max a b) n (omega (arith, ltb-true a n p, ltb-true b n q))
-    step true false p q = le-ltb (max a b) n (omega (arith, ltb-false b n q))
-    step false q p f = le-ltb (max a b) n (omega (arith, ltb-false a n p))
-
 -- one byte more is tested
-pub digits-next : (xs : List ℕ) (i m : ℕ) {v r : ℕ} → i < length xs → v ≡ digit_value (get_or xs i 0) → r ≡ max m v
-    → ltb m 16 ≡ all is_digit (take i xs) → ltb r 16 ≡ all is_digit (take (i + 1) xs)
+pub digits-next : (xs : List ℕ) (i : ℕ) {d : Bool} → i < length xs → d ≡ all is_digit (take i xs)
+    → (d && is_digit (get_or xs i 0)) ≡ all is_digit (take (i + 1) xs)
 unfolding all
-digits-next xs i m {v} {r} h e f g =
-    ap (λ (x : ℕ). ltb x 16) f
-    ∙ max-below m v 16
-    ∙ ap₂ (λ (a b : Bool). a && b) g (ap (λ (x : ℕ). ltb x 16) e)
+digits-next xs i {d} h e =
+    ap (λ (b : Bool). b && is_digit (get_or xs i 0)) e
     ∙ sym (and_last (all is_digit (take i xs)) (is_digit (get_or xs i 0)))
     ∙ sym (all_append is_digit (take i xs) (get_or xs i 0 ∷ []))
     ∙ ap (all is_digit) (sym (take-suc xs i 0 h))
     ∙ ap (λ (n : ℕ). all is_digit (take n xs)) (sym (add-one i))
 
 -- two digits more spell a byte more
-unhex-last : (xs : List ℕ) {bs : List ℕ} (x y : ℕ) → is_digit x ≡ true → is_digit y ≡ true → unhex xs ≡ some bs
-    → unhex (xs ++ (x ∷ y ∷ [])) ≡ some (bs ++ ((16 * digit_value x + digit_value y) ∷ []))
+unhex-last : (xs : List ℕ) {bs : List ℕ} (x y : ℕ) → is_digit x ≡ true → is_digit y ≡ true → unhex xs ≡ Some bs
+    → unhex (xs ++ (x ∷ y ∷ [])) ≡ Some (bs ++ ((16 * digit_value x + digit_value y) ∷ []))
 unfolding unhex
 unhex-last [] x y p q e =
     unhex-more x y [] p q refl
-    ∙ ap (λ (bs : List ℕ). some (bs ++ ((16 * digit_value x + digit_value y) ∷ []))) (some-injective _ _ e)
-unhex-last (a ∷ []) x y p q e = absurd (none≢some e)
+    ∙ ap (λ (bs : List ℕ). Some (bs ++ ((16 * digit_value x + digit_value y) ∷ []))) (same-some e)
+unhex-last (a ∷ []) x y p q e = absurd (None≢Some e)
 unhex-last (a ∷ b ∷ zs) x y p q e =
     let f = unhex-begins a b zs e in
     let last = (16 * digit_value x + digit_value y) ∷ [] in
     unhex-more a b (zs ++ (x ∷ y ∷ [])) f.high f.low (unhex-last zs x y p q f.follows)
-    ∙ ap (λ (bs : List ℕ). some (bs ++ last)) (sym f.whole)
+    ∙ ap (λ (bs : List ℕ). Some (bs ++ last)) (sym f.whole)
 
 -- the digits of a line that spells n bytes: the two of byte i, and the bytes that are spelled with them
 module _ (line : List ℕ) (n : ℕ) (s : Spells line n) (i : ℕ) (h : i < n) where
@@ -83,12 +88,6 @@ module _ (line : List ℕ) (n : ℕ) (s : Spells line n) (i : ℕ) (h : i < n) w
       let e : 8 + 2 * i ≡ 7 + (2 * i + 1) = omega arith in
       ap (λ (k : ℕ). is_digit (get_or line k 0)) e ∙ spelled-digit (2 * i + 1) (omega arith)
 
-  pub high_small : {v : ℕ} → v ≡ digit_value (get_or line (7 + 2 * i) 0) → v < 16
-  high_small e = omega (arith, ltb-true (digit_value (get_or line (7 + 2 * i) 0)) 16 high_digit)
-
-  pub low_small : {w : ℕ} → w ≡ digit_value (get_or line (8 + 2 * i) 0) → w < 16
-  low_small e = omega (arith, ltb-true (digit_value (get_or line (8 + 2 * i) 0)) 16 low_digit)
-
   -- the two digits, as they stand in the line
   two-more : take (2 * (i + 1)) (drop 7 line) ≡ take (2 * i) (drop 7 line) ++ (get_or line (7 + 2 * i) 0 ∷ get_or line (8 + 2 * i) 0 ∷ [])
   two-more =
@@ -105,10 +104,10 @@ module _ (line : List ℕ) (n : ℕ) (s : Spells line n) (i : ℕ) (h : i < n) w
 
   pub spelled-next : (update : List ℕ) {v w : ℕ} → i < length update
       → v ≡ digit_value (get_or line (7 + 2 * i) 0) → w ≡ digit_value (get_or line (8 + 2 * i) 0)
-      → unhex (take (2 * i) (drop 7 line)) ≡ some (take i update)
-      → unhex (take (2 * (i + 1)) (drop 7 line)) ≡ some (take (i + 1) (set update i (16 * v + w)))
+      → unhex (take (2 * i) (drop 7 line)) ≡ Some (take i update)
+      → unhex (take (2 * (i + 1)) (drop 7 line)) ≡ Some (take (i + 1) (set update i (16 * v + w)))
   spelled-next update {v} {w} g e f u =
       ap unhex two-more
       ∙ unhex-last (take (2 * i) (drop 7 line)) (get_or line (7 + 2 * i) 0) (get_or line (8 + 2 * i) 0) high_digit low_digit u
-      ∙ ap₂ (λ (a b : ℕ). some (take i update ++ ((16 * a + b) ∷ []))) (sym e) (sym f)
-      ∙ ap some (sym (take-suc-set update i (16 * v + w) g) ∙ ap (λ (j : ℕ). take j (set update i (16 * v + w))) (sym (add-one i)))
+      ∙ ap₂ (λ (a b : ℕ). Some (take i update ++ ((16 * a + b) ∷ []))) (sym e) (sym f)
+      ∙ ap Some (sym (take-suc-set update i (16 * v + w) g) ∙ ap (λ (j : ℕ). take j (set update i (16 * v + w))) (sym (add-one i)))

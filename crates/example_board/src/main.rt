@@ -1,7 +1,7 @@
 // A board to copy: it books hours in a fresh ledger, and writes the short report to standard output.
 #![tactic(auto)]
 
-use ledger::{Refusal, Reported};
+use ledger::Refusal;
 use ledger_state::STORE_LENGTH;
 
 // The descriptor of standard output.
@@ -21,15 +21,15 @@ fn main() {
     // Every short report fits this page. The first n bytes are the report.
     let mut page = [0u8; ledger::MAX_SHORT_REPORT];
     match ledger::report(ledger, &store, &mut page) {
-        Reported::Written(n) => {
+        Ok(n) => {
             io::write_all(STDOUT_FILENO, &page[..n]);
         }
-        Reported::Refused(r) => complain(r),
+        Err(refusal) => complain(refusal),
     }
 }
 
 // Writes a refusal's number in a line.
-fn complain(r: Refusal) {
-    io::print_decimal(STDOUT_FILENO, r.number() as u64);
+fn complain(refusal: Refusal) {
+    io::print_decimal(STDOUT_FILENO, u64::from(refusal.number()));
     io::write_all(STDOUT_FILENO, b"\n");
 }

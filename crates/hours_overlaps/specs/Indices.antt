@@ -1,15 +1,13 @@
 -- The byte of each entry by its index: what tags are read as, in a run of numbers with five for each; and what the functions on such runs ask and promise.
-use Rattle.std.specs.Prelude.{ℕ, ◌+◌, ◌*◌, ◌≤◌, ◌<◌, ◌≡◌, List, ◌++◌, map, Bool, cond, not, ◌&&◌, length, get_or, drop, eqb}
+use Rattle.std.specs.Prelude.{Option, None, Some, ℕ, ◌+◌, ◌*◌, ◌≤◌, ◌<◌, ◌≡◌, List, ◌++◌, map, Bool, cond, not, ◌&&◌, length, get_or, drop, eqb}
 use Rattle.bitset.specs.Below.{any_below, up_to}
 use Rattle.hours_tags.specs.declared.Limits.{Limits}
-use Rattle.hours_tags.specs.declared.Reading.{Reading}
-use Rattle.hours_tags.specs.declared.Reading.TheVariants.{Hours, Plain}
 use Rattle.hours_tags.specs.Hours.{Bounded}
 use Rattle.hours_runs.specs.Runs.{surely, may}
 use Rattle.hours_overlaps.specs.Overlaps.{meets, reading_byte}
 
 -- readings by their index
-module _ (at : ℕ → Reading) where
+module _ (at : ℕ → Option Limits) where
   -- the reading at j is another than that at i, and hours that g meets
   abbrev pub other_at : ℕ → (Limits → Limits → Bool) → Limits → ℕ → Bool
   other_at i r g j = not (eqb i j) && meets r g (at j)
@@ -40,21 +38,21 @@ limits_at ws i =
       longest = get_or ws (width * i + 4) 0;
     }
 
-unfoldable pub reading_in : List ℕ → ℕ → Reading
-reading_in ws i = cond (eqb (get_or ws (width * i + 4) 0) 0) Plain (Hours (limits_at ws i))
+unfoldable pub reading_in : List ℕ → ℕ → Option Limits
+reading_in ws i = cond (eqb (get_or ws (width * i + 4) 0) 0) None (Some (limits_at ws i))
 
 -- hours have a longest run of a minute or more
-unfoldable pub Kept : Reading → Type 0
-Kept Plain = Unit {0}
-Kept (Hours h) = 1 ≤ h.longest
+unfoldable pub Kept : Option Limits → Type 0
+Kept None = Unit {0}
+Kept (Some h) = 1 ≤ h.longest
 
 -- there is room for a reading at index i
-pub record PutReading (ws : List ℕ) (i : ℕ) (x : Reading) : Type 0 where
+pub record PutReading (ws : List ℕ) (i : ℕ) (x : Option Limits) : Type 0 where
   pub room : width * i + width ≤ length ws
   pub kept : Kept x
 
 -- the reading stands at index i, and the others are as they were
-pub record Put (ws : List ℕ) (i : ℕ) (x : Reading) (ws' : List ℕ) : Type 0 where
+pub record Put (ws : List ℕ) (i : ℕ) (x : Option Limits) (ws' : List ℕ) : Type 0 where
   pub size : length ws' ≡ length ws
   pub there : reading_in ws' i ≡ x
   pub others : (j : ℕ) → (j ≡ i → ⊥) → reading_in ws' j ≡ reading_in ws j

@@ -1,12 +1,10 @@
 -- Document 02, E12: the byte of each set entry, which tells whether it overlaps another on its pond. "For each set entry we want one byte: 3 if there is at least one other
 -- hours entry on its pond that it surely overlaps, else 2 if there is at least one that it may, 1 if none, 0 if plain; the bytes stand in set order."
-use Rattle.std.specs.Prelude.{ℕ, ◌≡◌, List, map, Bool, true, false, not, ◌&&◌, eqb}
+use Rattle.std.specs.Prelude.{Option, None, Some, ℕ, ◌≡◌, List, map, Bool, true, false, not, ◌&&◌, eqb}
 use Rattle.bytes_order.specs.Order.{same}
 use Rattle.bytes_order.specs.Member.{◌∈◌, any}
 use Rattle.rules.specs.SetEntry.{SetEntry, entry_key}
 use Rattle.hours_tags.specs.declared.Limits.{Limits}
-use Rattle.hours_tags.specs.declared.Reading.{Reading}
-use Rattle.hours_tags.specs.declared.Reading.TheVariants.{Hours, Plain}
 use Rattle.hours_tags.specs.Hours.{HoursTag, read_tag}
 use Rattle.hours_runs.specs.Runs.{Surely, May, surely, may}
 
@@ -43,9 +41,9 @@ module _ (es : List SetEntry) (e : SetEntry) where
     byte-plain : ((h : Limits) → HoursTag e.tag h → ⊥) → OverlapByte plain_byte
 
 -- The same, computed: what is read is hours on the pond of g, to which g stands in the relation that r tests.
-unfoldable pub meets : (Limits → Limits → Bool) → Limits → Reading → Bool
-meets r g Plain = false
-meets r g (Hours h) = eqb g.pond h.pond && r g h
+unfoldable pub meets : (Limits → Limits → Bool) → Limits → Option Limits → Bool
+meets r g None = false
+meets r g (Some h) = eqb g.pond h.pond && r g h
 
 -- the byte of hours, by whether there is one that they surely overlap, and one that they may
 unfoldable pub byte_by : Bool → Bool → ℕ
@@ -54,11 +52,11 @@ byte_by false true = may_byte
 byte_by false false = none_byte
 
 -- the byte of a reading, by two tests of limits
-unfoldable pub reading_byte : (Limits → Bool) → (Limits → Bool) → Reading → ℕ
-reading_byte always ever Plain = plain_byte
-reading_byte always ever (Hours g) = byte_by (always g) (ever g)
+unfoldable pub reading_byte : (Limits → Bool) → (Limits → Bool) → Option Limits → ℕ
+reading_byte always ever None = plain_byte
+reading_byte always ever (Some g) = byte_by (always g) (ever g)
 
-abbrev pub reading_of : SetEntry → Reading
+abbrev pub reading_of : SetEntry → Option Limits
 reading_of e = read_tag e.tag
 
 module _ (es : List SetEntry) where

@@ -1,5 +1,5 @@
 -- The byte of a set entry: the computed one is that of the definition, and there is no other; a further entry lowers no byte.
-use Rattle.std.specs.Prelude.{ℕ, ◌≤◌, ◌≡◌, List, map, Bool, ◌&&◌, eqb}
+use Rattle.std.specs.Prelude.{Option, None, Some, ℕ, ◌≤◌, ◌≡◌, List, map, Bool, ◌&&◌, eqb}
 use Rattle.std.proofs.Common.{arith, sym, ◌∙◌, eqb-true, eq-eqb}
 use Rattle.std.proofs.Math.Path.{refl, ap}
 use Rattle.std.proofs.Math.Bool.{true, false, not}
@@ -12,8 +12,6 @@ use Rattle.bytes_order.specs.MemberLaws.{any→∈, ∈→any}
 use Rattle.rules.specs.SetEntry.{SetEntry, entry_key}
 use Rattle.rules.proofs.SetEntryLaws.{entry-key-injective}
 use Rattle.hours_tags.specs.declared.Limits.{Limits}
-use Rattle.hours_tags.specs.declared.Reading.{Reading}
-use Rattle.hours_tags.specs.declared.Reading.TheVariants.{Hours, Plain}
 use Rattle.hours_tags.specs.Hours.{Bounded, HoursTag, read_tag}
 use Rattle.hours_tags.specs.HoursLaws.{hours→, →hours, plain→}
 use Rattle.hours_runs.specs.Runs.{Surely, May, surely, may}
@@ -32,12 +30,12 @@ pub may-decides : DecidesLimits May may
 may-decides = record { forth = may→; back = →may }
 
 -- what is read meets limits
-meets→ : (r : Limits → Limits → Bool) (g : Limits) (x : Reading) → meets r g x ≡ true → (h : Limits) × (x ≡ Hours h) × (g.pond ≡ h.pond) × (r g h ≡ true)
+meets→ : (r : Limits → Limits → Bool) (g : Limits) (x : Option Limits) → meets r g x ≡ true → (h : Limits) × (x ≡ Some h) × (g.pond ≡ h.pond) × (r g h ≡ true)
 unfolding meets
-meets→ r g Plain e = absurd (true-false e refl)
-meets→ r g (Hours h) e = let t = and-true→ (eqb g.pond h.pond) (r g h) e in (h, refl, eqb-true g.pond h.pond t.0, t.1)
+meets→ r g None e = absurd (true-false e refl)
+meets→ r g (Some h) e = let t = and-true→ (eqb g.pond h.pond) (r g h) e in (h, refl, eqb-true g.pond h.pond t.0, t.1)
 
-→meets : (r : Limits → Limits → Bool) (g h : Limits) {x : Reading} → x ≡ Hours h → g.pond ≡ h.pond → r g h ≡ true → meets r g x ≡ true
+→meets : (r : Limits → Limits → Bool) (g h : Limits) {x : Option Limits} → x ≡ Some h → g.pond ≡ h.pond → r g h ≡ true → meets r g x ≡ true
 unfolding meets
 →meets r g h e p q = rw e (and-true (eqb g.pond h.pond) (r g h) (eq-eqb g.pond h.pond p) q)
 
@@ -86,10 +84,10 @@ module _ (es : List SetEntry) (e : SetEntry) where
   by_tests own false true p q = byte-may (other_none surely-decides own p) (other→ may-decides own q)
   by_tests {g} own false false p q = byte-none g own (other_none surely-decides own p) (other_none may-decides own q)
 
-  by-reading : (x : Reading) → reading_of e ≡ x → OverlapByte es e (reading_byte (some_other es e surely) (some_other es e may) x)
+  by-reading : (x : Option Limits) → reading_of e ≡ x → OverlapByte es e (reading_byte (some_other es e surely) (some_other es e may) x)
   unfolding reading_byte
-  by-reading Plain p = byte-plain (plain→ e.tag p)
-  by-reading (Hours g) p = by_tests (hours→ e.tag p) (some_other es e surely g) (some_other es e may g) refl refl
+  by-reading None p = byte-plain (plain→ e.tag p)
+  by-reading (Some g) p = by_tests (hours→ e.tag p) (some_other es e surely g) (some_other es e may g) refl refl
 
   pub byte-right : OverlapByte es e (overlap_byte es e)
   unfolding overlap_byte

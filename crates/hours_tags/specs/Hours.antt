@@ -1,13 +1,11 @@
 -- Document 02, E12: hours tags. "A tag is an hours tag if byte 0 is 72, byte 1 is the pond, and four 16-bit big-endian numbers follow: earliest and latest start, shortest and
 -- longest run, in minutes of the week. Starts go up to 10,079, runs from 1 to 1,440, the first of each pair not above the second; the last six bytes are free. Any other tag is
 -- plain."
-use Rattle.std.specs.Prelude.{ℕ, ◌≤◌, ◌≡◌, List, ◌∷◌, ◌++◌, Bool, cond, ◌&&◌, length, get_or, eqb, leb}
+use Rattle.std.specs.Prelude.{Option, None, Some, ℕ, ◌≤◌, ◌≡◌, List, ◌∷◌, ◌++◌, Bool, cond, ◌&&◌, length, get_or, eqb, leb}
 use Rattle.bytes_words.specs.Words.{bytes_in}
 use Rattle.bytes_pairs.specs.Pairs.{pair_at}
 use Rattle.update_format.specs.Update.{tag_length}
 use Rattle.hours_tags.specs.declared.Limits.{Limits}
-use Rattle.hours_tags.specs.declared.Reading.{Reading}
-use Rattle.hours_tags.specs.declared.Reading.TheVariants.{Hours, Plain}
 
 -- "byte 0 is 72"
 abbrev pub hours_mark : ℕ
@@ -51,8 +49,8 @@ bounded h =
     leb h.earliest h.latest
     && (leb h.latest last_start && (leb shortest_run h.shortest && (leb h.shortest h.longest && leb h.longest longest_run)))
 
-unfoldable pub read_tag : List ℕ → Reading
-read_tag t = cond (eqb (length t) tag_length && (eqb (get_or t 0 0) hours_mark && bounded (limits_in t))) (Hours (limits_in t)) Plain
+unfoldable pub read_tag : List ℕ → Option Limits
+read_tag t = cond (eqb (length t) tag_length && (eqb (get_or t 0 0) hours_mark && bounded (limits_in t))) (Some (limits_in t)) None
 
 -- the hours tag that says limits, with its last six bytes: the layout once more, from the limits to the bytes
 abbrev pub tag_of : Limits → List ℕ → List ℕ

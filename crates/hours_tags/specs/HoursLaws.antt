@@ -1,6 +1,6 @@
 -- Hours tags: a tag is read as hours exactly where it is an hours tag, and as plain exactly where it is none; the limits that a tag says and its last six bytes are all
 -- that it has, and the six bytes do not count.
-use Rattle.std.specs.Prelude.{ℕ, zero, suc, ◌+◌, ◌*◌, ◌/◌, ◌%◌, ◌≤◌, ◌<◌, ◌≡◌, List, [], ◌∷◌, ◌++◌, Bool, true, false, cond, ◌&&◌, length, get_or, take, drop, eqb, leb}
+use Rattle.std.specs.Prelude.{Option, None, Some, ℕ, zero, suc, ◌+◌, ◌*◌, ◌/◌, ◌%◌, ◌≤◌, ◌<◌, ◌≡◌, List, [], ◌∷◌, ◌++◌, Bool, true, false, cond, ◌&&◌, length, get_or, take, drop, eqb, leb}
 use native.Mathlib.Omega.{arith}
 use Rattle.std.proofs.Math.Path.{refl}
 use Rattle.std.proofs.Common.{sym, ap, ap₂, ◌∙◌, get_or-take, drop-cons, leb-true, le-leb, eqb-true, eq-eqb}
@@ -11,8 +11,6 @@ use Rattle.bytes_words.proofs.WordsLaws.{big-bytes_in}
 use Rattle.bytes_pairs.specs.PairsLaws.{pair-drop, pair-bytes, pair-laid}
 use Rattle.update_format.specs.Update.{tag_length}
 use Rattle.hours_tags.specs.declared.Limits.{Limits}
-use Rattle.hours_tags.specs.declared.Reading.{Reading}
-use Rattle.hours_tags.specs.declared.Reading.TheVariants.{Hours, Plain}
 use Rattle.hours_tags.specs.Hours.{hours_mark, last_start, shortest_run, longest_run, limits_in, Bounded, HoursTag, bounded, read_tag, tag_of}
 
 -- the bounds as a test
@@ -65,17 +63,17 @@ hours-tag t e =
     let b = and-true→ (eqb (get_or t 0 0) hours_mark) _ a.1 in
     record { sized = eqb-true (length t) tag_length a.0; marked = eqb-true (get_or t 0 0) hours_mark b.0; says = refl; in_bounds = bounded→ (limits_in t) b.1 }
 
-read_by : (t : List ℕ) (b : Bool) → is_hours t ≡ b → read_tag t ≡ cond b (Hours (limits_in t)) Plain
+read_by : (t : List ℕ) (b : Bool) → is_hours t ≡ b → read_tag t ≡ cond b (Some (limits_in t)) None
 unfolding is_hours read_tag
-read_by t b e = ap (λ (c : Bool). cond c (Hours (limits_in t)) Plain) e
+read_by t b e = ap (λ (c : Bool). cond c (Some (limits_in t)) None) e
 
 -- read as hours exactly where it is an hours tag
-pub →hours : {t : List ℕ} {h : Limits} → HoursTag t h → read_tag t ≡ Hours h
+pub →hours : {t : List ℕ} {h : Limits} → HoursTag t h → read_tag t ≡ Some h
 →hours {t} {h} g =
     let e = g.says in
-    read_by t true (is-hours t g.sized g.marked (rw e g.in_bounds)) ∙ ap Hours e
+    read_by t true (is-hours t g.sized g.marked (rw e g.in_bounds)) ∙ ap Some e
 
-pub hours→ : (t : List ℕ) {h : Limits} → read_tag t ≡ Hours h → HoursTag t h
+pub hours→ : (t : List ℕ) {h : Limits} → read_tag t ≡ Some h → HoursTag t h
 hours→ t {h} e = by-test (is_hours t) refl
   where
     by-test : (b : Bool) → is_hours t ≡ b → HoursTag t h
@@ -83,17 +81,17 @@ hours→ t {h} e = by-test (is_hours t) refl
     by-test false q = let z : ◌≡◌ {A = ℕ} 0 1 = let r = read_by t false q in cc in absurd (omega arith)
 
 -- and as plain exactly where it is none
-pub →plain : {t : List ℕ} → ((h : Limits) → HoursTag t h → ⊥) → read_tag t ≡ Plain
+pub →plain : {t : List ℕ} → ((h : Limits) → HoursTag t h → ⊥) → read_tag t ≡ None
 →plain {t} n = read_by t false (not-true→false (is_hours t) (λ e. n (limits_in t) (hours-tag t e)))
 
-pub plain→ : (t : List ℕ) → read_tag t ≡ Plain → (h : Limits) → HoursTag t h → ⊥
+pub plain→ : (t : List ℕ) → read_tag t ≡ None → (h : Limits) → HoursTag t h → ⊥
 plain→ t e h g = let r = →hours g in let z : ◌≡◌ {A = ℕ} 0 1 = cc in omega arith
 
 -- read by its parts
-pub hours-read : (t : List ℕ) → length t ≡ tag_length → get_or t 0 0 ≡ hours_mark → bounded (limits_in t) ≡ true → read_tag t ≡ Hours (limits_in t)
+pub hours-read : (t : List ℕ) → length t ≡ tag_length → get_or t 0 0 ≡ hours_mark → bounded (limits_in t) ≡ true → read_tag t ≡ Some (limits_in t)
 hours-read t s m b = →hours (record { sized = s; marked = m; says = refl; in_bounds = bounded→ (limits_in t) b })
 
-pub plain-unbounded : (t : List ℕ) → bounded (limits_in t) ≡ false → read_tag t ≡ Plain
+pub plain-unbounded : (t : List ℕ) → bounded (limits_in t) ≡ false → read_tag t ≡ None
 plain-unbounded t e = →plain (λ h g. true-false (let p = g.says in →bounded (limits_in t) (rw p g.in_bounds)) e)
 
 -- the tag that is laid out from limits within the bounds says them, whatever its last six bytes
@@ -111,11 +109,11 @@ module _ (h : Limits) (b : Bounded h) (free : List ℕ) where
   unfolding bytes_in
   laid-length e = omega arith
 
-  pub tag_back : length free ≡ 6 → read_tag (tag_of h free) ≡ Hours h
+  pub tag_back : length free ≡ 6 → read_tag (tag_of h free) ≡ Some h
   tag_back e = →hours (record { sized = laid-length e; marked = refl; says = laid-limits; in_bounds = b })
 
 -- and no other tag does
-pub tag-only : (t : List ℕ) {h : Limits} → Bytes t → read_tag t ≡ Hours h → t ≡ tag_of h (drop 10 t)
+pub tag-only : (t : List ℕ) {h : Limits} → Bytes t → read_tag t ≡ Some h → t ≡ tag_of h (drop 10 t)
 tag-only t {h} bytes e =
     let g = hours→ t e in
     let w : length t ≡ 16 = g.sized in

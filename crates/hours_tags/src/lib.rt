@@ -29,39 +29,14 @@ pub struct Limits {
     pub longest: u16,
 }
 
-// What a tag is read as.
-#[derive(Clone, Copy)]
-pub enum Reading {
-    Hours(Limits),
-    Plain,
-}
-
-fn wide(x: u8) -> u16
-    ensures { result ≡ x }
-{
-    x as u16
-}
-
 // Whether the numbers are those of an hours tag.
+#[tactic(auto, unfolding(crate::specs::Hours::bounded))]
 fn bounded(h: Limits) -> bool
     ensures { result ≡ bounded h }
 {
-    if h.latest < h.earliest {
-        return false;
-    }
-    if LAST_START < h.latest {
-        return false;
-    }
-    if h.shortest < SHORTEST_RUN {
-        return false;
-    }
-    if h.longest < h.shortest {
-        return false;
-    }
-    if LONGEST_RUN < h.longest {
-        return false;
-    }
-    true
+    (h.earliest..=LAST_START).contains(&h.latest)
+        && (SHORTEST_RUN..=h.longest).contains(&h.shortest)
+        && h.longest <= LONGEST_RUN
 }
 
 // The numbers of a tag's bytes, whatever they are.
@@ -70,7 +45,7 @@ fn limits_in(tag: &[u8]) -> Limits
     ensures { result ≡ limits_in tag.now }
 {
     Limits {
-        pond: wide(tag[1]),
+        pond: u16::from(tag[1]),
         earliest: pair_at(tag, 2),
         latest: pair_at(tag, 4),
         shortest: pair_at(tag, 6),
@@ -78,20 +53,14 @@ fn limits_in(tag: &[u8]) -> Limits
     }
 }
 
-// Reads a tag.
-pub fn read(tag: &[u8]) -> Reading
+// What a tag says, if it is an hours tag; any other tag is plain.
+#[tactic(auto, unfolding(crate::specs::Hours::read_tag))]
+pub fn read(tag: &[u8]) -> Option<Limits>
     ensures { result ≡ read_tag tag.now }
 {
-    if tag.len() != TAG_LENGTH {
-        return Reading::Plain;
-    }
-    if tag[0] != HOURS_MARK {
-        return Reading::Plain;
+    if tag.len() != TAG_LENGTH || tag[0] != HOURS_MARK {
+        return None;
     }
     let h = limits_in(tag);
-    if bounded(h) {
-        Reading::Hours(h)
-    } else {
-        Reading::Plain
-    }
+    bounded(h).then_some(h)
 }

@@ -1,2 +1,1 @@
-pub mod AskLaws
 pub mod ReportLaws

@@ -1,5 +1,5 @@
 -- Demand 2, its first half: after any offers to a fresh ledger the entries say what the rules give for the updates stored.
-use Rattle.std.specs.Prelude.{◌≡◌, refl, ℕ, List, length, take, drop}
+use Rattle.std.specs.Prelude.{◌≡◌, refl, ℕ, List, length, take, drop, Ok}
 use Rattle.std.proofs.Common.{◌∙◌, arith}
 use Rattle.std.proofs.Math.Seq.{take-append_seam}
 use Rattle.update_format.specs.Update.{Update}
@@ -16,7 +16,6 @@ use Rattle.ledger_state.specs.Stands.{rules, Stands}
 use Rattle.ledger_refusals.specs.Numbers.{Output, put_bytes}
 use Rattle.ledger_offering.specs.Values.{OfferValues}
 use Rattle.ledger_offering.specs.Offer.{OfferRow}
-use Rattle.ledger.specs.declared.Reported.TheVariants.{Written}
 use Rattle.ledger.specs.Report.{ReportRow, unfit, short, written, Reporting}
 use Rattle.ledger_offering.specs.Calls.{Offers}
 use Rattle.ledger.specs.Calls.{stored, offers-stand, AnswersFor, stands-answers}
@@ -35,7 +34,7 @@ pub record LaidOut (form : Form) (us : List Update) (text : List ℕ) : Type 0 w
 pub record AsRuled (us : List Update) (l : Ledger) (s : List ℕ) : Type 0 where
   pub standing : AnswersFor (book_of l) s us
   pub looked-up : {a o o' : List ℕ} {n : ℕ} → LookupRow (book_of l) s a o (compared_ids n) o' → LookupRuled us a o n o'
-  pub reported : (form : Form) {o o' : List ℕ} {n : ℕ} → Reporting form (book_of l) s o (Written n) o' → LaidOut form us (take n o')
+  pub reported : (form : Form) {o o' : List ℕ} {n : ℕ} → Reporting form (book_of l) s o (Ok n) o' → LaidOut form us (take n o')
   pub answered : (b : List ℕ) {v : OfferValues} {r : Ledger} {s' : List ℕ} → OfferRow l s b v r s' → v ≡ answer_for (book_of l).terms us (decode (book_of l).terms.bounds b)
 
 -- the bytes reported of a ledger that stands

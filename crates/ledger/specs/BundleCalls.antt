@@ -1,7 +1,7 @@
 -- Calls of both kinds, single offers and bundles, in any mixture: what they offer, and that they leave ledger and store as single offers of that do.
 use Rattle.std.specs.Prelude.{◌≡◌, refl, ℕ, ◌≤◌, ◌<◌, List, [], ◌∷◌, ◌++◌, cond, length, leb}
 use Rattle.std.proofs.Common.{ap, ap₂, le-leb}
-use Rattle.std.proofs.Math.Option.{Option, none, some}
+use Rattle.std.specs.Prelude.{Option, None, Some}
 use Rattle.std.proofs.lemmas.Bool.{lt-leb}
 use Rattle.bytes_order.specs.Member.{◌∈◌, concat_map}
 use Rattle.bundle_format.specs.Bundle.{most_items, items_of, bundle_of}
@@ -25,8 +25,8 @@ pub data Call : Type 0 where
 
 -- what a bundle with these items offers, with an answer buffer of n bytes: a bundle that is refused offers nothing
 abbrev pub offered_items : Option (List (List ℕ)) → ℕ → List (List ℕ)
-offered_items none n = []
-offered_items (some xs) n = cond (leb (answers_length xs) n) xs []
+offered_items None n = []
+offered_items (Some xs) n = cond (leb (answers_length xs) n) xs []
 
 abbrev pub offered_by : Call → List (List ℕ)
 offered_by (single b) = b ∷ []
@@ -86,8 +86,8 @@ cut-offers (cut_bundle xs o few sized fits c) = ap₂ ◌++◌ (bundle-offered x
 cut-offers (cut_nothing b o e c) = ap₂ ◌++◌ e (cut-offers c)
 
 -- bytes that are no bundle, which 13 refuses, offer nothing, nor does a bundle whose answers do not fit, which 11 refuses
-pub none-offered : (b o : List ℕ) → items_of b ≡ none → offered_by (bundle b o) ≡ []
+pub none-offered : (b o : List ℕ) → items_of b ≡ None → offered_by (bundle b o) ≡ []
 none-offered b o e = rw e
 
-pub short-offered : (b o : List ℕ) {xs : List (List ℕ)} → items_of b ≡ some xs → length o < answers_length xs → offered_by (bundle b o) ≡ []
+pub short-offered : (b o : List ℕ) {xs : List (List ℕ)} → items_of b ≡ Some xs → length o < answers_length xs → offered_by (bundle b o) ≡ []
 short-offered b o {xs} e h = rw (e, lt-leb (answers_length xs) (length o) h)

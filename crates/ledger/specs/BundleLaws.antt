@@ -1,7 +1,7 @@
 -- The answers of a bundle, from the rules alone; and what a bundle does to the answer buffer.
 use Rattle.std.specs.Prelude.{◌≡◌, refl, ℕ, List, [], ◌∷◌, length, take, drop}
 use Rattle.std.proofs.Common.{sym, ap, ◌∙◌, arith, length-append, length-drop, take_at}
-use Rattle.std.proofs.Math.Option.{some}
+use Rattle.std.specs.Prelude.{Some}
 use Rattle.update_format.specs.Update.{Update}
 use Rattle.update_format.specs.Decode.{decode}
 use Rattle.rules.specs.Terms.{Terms}
@@ -38,7 +38,7 @@ calls-answered us h (call {l = l} {s = s} {b = b} {bs = bs} {vs = vs} o c) =
 -- a bundle that is answered has items, and the bytes written are their answers, six for each
 pub record AnsweredAs (us : List Update) (t : Terms) (b o' : List ℕ) (n : ℕ) : Type 0 where
   pub items : List (List ℕ)
-  pub read : items_of b ≡ some items
+  pub read : items_of b ≡ Some items
   pub written : n ≡ answers_length items
   pub answers : take n o' ≡ answers_bytes (answers_for t us items)
 

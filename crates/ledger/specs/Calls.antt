@@ -2,7 +2,7 @@
 use Rattle.std.specs.Prelude.{◌≡◌, refl, ℕ, ◌<◌, List, [], ◌∷◌, ◌++◌, map, true, false, cond, length}
 use Rattle.std.proofs.Math.Path.{sym, ap}
 use Rattle.std.proofs.Common.{subst, ◌∙◌}
-use Rattle.std.proofs.Math.Option.{Option, none, some}
+use Rattle.std.specs.Prelude.{Option, None, Some}
 use Rattle.bytes_order.specs.Member.{◌∈◌, member}
 use Rattle.bytes_order.specs.BoolLaws.{true-false}
 use Rattle.bytes_order.specs.MemberLaws.{∈-cast, ∈-map, map-∈, ∈→member, member-false}
@@ -74,12 +74,12 @@ module _ (l : Ledger) (s : List ℕ) (us : List Update) (stands : Stands (book_o
   decoded-id {u} d = ap SHA-256 (decode-sound terms.bounds b u d).1
 
   -- an id that is found is known, one that is not is new
-  pub found-known : {u : Update} {k : ℕ} → decode terms.bounds b ≡ update u → find_in (book_of l) (SHA-256 b) ≡ some k → member (ident u) (map ident us) ≡ true
+  pub found-known : {u : Update} {k : ℕ} → decode terms.bounds b ≡ update u → find_in (book_of l) (SHA-256 b) ≡ Some k → member (ident u) (map ident us) ≡ true
   found-known {u} {k} d f =
       let r = find-right (book_of l) s us stands.holds (SHA-256 b) k f in
       ∈→member (∈-cast (decoded-id d ∙ sym r.1) (∈-map ident (stored_at us k r.0)))
 
-  pub none-new : {u : Update} → decode terms.bounds b ≡ update u → find_in (book_of l) (SHA-256 b) ≡ none → member (ident u) (map ident us) ≡ false
+  pub none-new : {u : Update} → decode terms.bounds b ≡ update u → find_in (book_of l) (SHA-256 b) ≡ None → member (ident u) (map ident us) ≡ false
   none-new {u} d f =
       member-false (ident u) (map ident us)
       (λ m. let r = map-∈ ident us m in find_none (book_of l) s us stands.holds (SHA-256 b) f r.0 r.1 (r.2 ∙ decoded-id d))
@@ -142,8 +142,8 @@ module _ (l : Book) (s : List ℕ) (us : List Update) (stands : Stands l s us) w
   asked-says u m =
       let r = place_of us m in
       let v = (place_at l r.0).standing in
-      let f : find_in l (ident u) ≡ some r.0 = ap (λ (w : Update). find_in l (ident w)) (sym r.2) ∙ find-all l s us stands.holds r.0 r.1 in
-      (v, subst (StandingSays us v) r.2 (says v r.0 r.1 refl), asked-found (ident u) (some r.0) f)
+      let f : find_in l (ident u) ≡ Some r.0 = ap (λ (w : Update). find_in l (ident w)) (sym r.2) ∙ find-all l s us stands.holds r.0 r.1 in
+      (v, subst (StandingSays us v) r.2 (says v r.0 r.1 refl), asked-found (ident u) (Some r.0) f)
 
   pub stands-answers : AnswersFor l s us
   stands-answers =
@@ -151,11 +151,11 @@ module _ (l : Book) (s : List ℕ) (us : List Update) (stands : Stands l s us) w
         held_asked = λ u h. let r = asked-says u (held-stored rules us h) in r.2 ∙ ap stands_as (only-held us r.0 u r.1 h);
         waiting_asked = λ u h. let r = asked-says u h.stored in r.2 ∙ ap stands_as (only-waiting us r.0 u r.1 h);
         void_asked = λ u h. let r = asked-says u (void-stored rules us h) in r.2 ∙ ap stands_as (only-void us r.0 u r.1 h);
-        unknown_asked = λ i new. asked-found i none (unfound i new (find_in l i) refl);
+        unknown_asked = λ i new. asked-found i None (unfound i new (find_in l i) refl);
       }
     where
-      unfound : (i : Id) → ((u : Update) → u ∈ us → ident u ≡ i → ⊥) → (o : Option ℕ) → find_in l i ≡ o → find_in l i ≡ none
-      unfound i new none e = e
-      unfound i new (some k) e =
+      unfound : (i : Id) → ((u : Update) → u ∈ us → ident u ≡ i → ⊥) → (o : Option ℕ) → find_in l i ≡ o → find_in l i ≡ None
+      unfound i new None e = e
+      unfound i new (Some k) e =
           let r = find-right l s us stands.holds i k e in
           absurd (new (update_at us k) (stored_at us k r.0) r.1)

@@ -3,7 +3,7 @@
 use Rattle.std.specs.Prelude.{◌≡◌, refl, ℕ, zero, suc, ◌<◌, List, [], ◌∷◌, ◌++◌, map, true, length, get_or, drop}
 use Rattle.std.proofs.Common.{sym, ap, ◌∙◌, arith, map-id}
 use Rattle.std.proofs.lemmas.Simd.{map-map}
-use Rattle.std.proofs.Math.Option.{Option, none, some}
+use Rattle.std.specs.Prelude.{Option, None, Some}
 use Rattle.std.proofs.Math.ListN.{get_or-append}
 use Rattle.bytes_order.specs.Order.{ascending}
 use Rattle.bytes_order.specs.Member.{◌∈◌}
@@ -78,16 +78,16 @@ module _ {l : Book} {s : List ℕ} {us : List Update} (stands : Stands l s us) {
 
   -- the byte that is found, by where the id is found
   abbrev byte_at : Option ℕ → ℕ
-  byte_at none = unknown_byte
-  byte_at (some k) = standing_byte (place_at l k).standing
+  byte_at None = unknown_byte
+  byte_at (Some k) = standing_byte (place_at l k).standing
 
   byte-at : (i : Id) (f : Option ℕ) → find_in l i ≡ f → byte_for listed i ≡ byte_at f
-  byte-at i none e =
+  byte-at i None e =
       byte_for-none listed i
       (λ x m d.
       let q = map-∈ (stored_id l) ks m in
       find_none l s us stands.holds i e (update_at us q.0) (stored_at us q.0 (place-below q.1)) (sym (listed-id q.1) ∙ ap id_of q.2 ∙ d))
-  byte-at i (some k) e =
+  byte-at i (Some k) e =
       let r = find-right l s us stands.holds i k e in
       let q = o.every k (omega (arith, r.0, stands.holds.number)) in
       let d : place_id l q.0 ≡ i = q.2 ∙ stands.holds.ids k r.0 ∙ r.1 in
@@ -98,8 +98,8 @@ module _ {l : Book} {s : List ℕ} {us : List Update} (stands : Stands l s us) {
       byte_for-∈ listed i (listed-ascend l o) (∈-map (stored_id l) q.1) d ∙ ap standing_byte t
 
   told_at : (i : Id) (f : Option ℕ) → find_in l i ≡ f → Told (asked_of l s i) (byte_for listed i)
-  told_at i none e = rw (asked-found l s us stands i none e, byte-at i none e) told_unknown
-  told_at i (some k) e = rw (asked-found l s us stands i (some k) e, byte-at i (some k) e) (told_standing (place_at l k).standing)
+  told_at i None e = rw (asked-found l s us stands i None e, byte-at i None e) told_unknown
+  told_at i (Some k) e = rw (asked-found l s us stands i (Some k) e, byte-at i (Some k) e) (told_standing (place_at l k).standing)
 
   ruled-says : (i : Id) (k : ℕ) (v : Standing) → ident (update_at us k) ≡ i → StandingSays us v (update_at us k) → RuledByte us i (standing_byte v)
   ruled-says i k IsHeld e h = byte_held (update_at us k) e h
@@ -107,10 +107,10 @@ module _ {l : Book} {s : List ℕ} {us : List Update} (stands : Stands l s us) {
   ruled-says i k IsVoid e h = byte_void (update_at us k) e h
 
   ruled-at : (i : Id) (f : Option ℕ) → find_in l i ≡ f → RuledByte us i (byte_for listed i)
-  ruled-at i none e = rw (byte-at i none e) (byte_unknown (find_none l s us stands.holds i e))
-  ruled-at i (some k) e =
+  ruled-at i None e = rw (byte-at i None e) (byte_unknown (find_none l s us stands.holds i e))
+  ruled-at i (Some k) e =
       let r = find-right l s us stands.holds i k e in
-      rw (byte-at i (some k) e) (ruled-says i k (place_at l k).standing r.1 (says l s us stands (place_at l k).standing k r.0 refl))
+      rw (byte-at i (Some k) e) (ruled-says i k (place_at l k).standing r.1 (says l s us stands (place_at l k).standing k r.0 refl))
 
   -- the listed ids are those of the updates
   ids-listed : map (place_id l) ks ≡ sort (λ (i : Id). i) (map ident us)

@@ -14,40 +14,34 @@ ghost use Rattle.write_asking.specs.Write.{wrote_values, Writing};
 
 pub use bundle_answers::ANSWER_LENGTH;
 pub use bundle_format::MOST_ITEMS;
-pub use bundle_offering::{BundleOffered, Bundled};
-use bundle_offering::{offer_bundle_sound, refused};
+pub use bundle_offering::BundleOffered;
+use bundle_offering::offer_bundle_sound;
+use ledger_offering::offer_sound;
 pub use ledger_offering::{Answer, Offered};
-use ledger_offering::{left, offer_sound};
 pub use ledger_refusals::Refusal;
-use ledger_row1::sound;
-use ledger_state::Found;
-use ledger_state::find::find;
+use ledger_row1::checked;
 pub use ledger_state::{Ledger, Standing, fresh};
-pub use lookup_standings::LookedUp;
 use lookup_standings::look_up;
+use report_text::print;
 pub use report_text::{MAX_REPORT, MAX_SHORT_REPORT};
 pub use rules::Form;
 use update_format::numbers::MAX_AUTHOR;
 use update_format::{Id, Malformed, Tag};
-pub use write_asking::Wrote;
 use write_asking::write_asked;
 pub use write_operations::Kind;
-
-// How an id stands.
-#[derive(Clone, Copy)]
-pub enum Asked {
-    Is(Standing),
-    Unknown,
-    Refused(Refusal),
-}
+use write_operations::{Draft, bad_named, unordered_named};
 
 // Offers bytes of any length. A well-formed update with a new id takes the next place, and all stored updates are settled. Every other offer leaves the
 // ledger and the store as they were.
+#[tactic(auto, using(ledger_offering::specs::Offer::unfit))]
 pub fn offer(ledger: Ledger, store: &mut [u8], update: &[u8]) -> Offered
     ensures { Offering ledger store.old update.now result store.new }
 {
-    if !sound(ledger, store) {
-        return left(ledger, Answer::Refused(Refusal::Unfit));
+    if let Err(refusal) = checked(&ledger, store) {
+        return Offered {
+            answer: Err(refusal),
+            ledger,
+        };
     }
     offer_sound(ledger, store, update)
 }
@@ -55,6 +49,7 @@ pub fn offer(ledger: Ledger, store: &mut [u8], update: &[u8]) -> Offered
 // Offers the items of a bundle in order: MOST_ITEMS of them or fewer, each a two-byte big-endian length, then its bytes. Their answers, ANSWER_LENGTH bytes each, are put
 // at the start of the answer buffer; the bytes after them keep their values. Answers, ledger and store are those of single offers in the same order. A refusal leaves
 // ledger, store and buffer as they were.
+#[tactic(auto, using(bundle_offering::specs::Bundle::unfit))]
 pub fn offer_bundle(
     ledger: Ledger,
     store: &mut [u8],
@@ -63,45 +58,36 @@ pub fn offer_bundle(
 ) -> BundleOffered
     ensures { Bundling ledger store.old bundle.now answers.old result store.new answers.new }
 {
-    if !sound(ledger, store) {
-        return refused(ledger, Refusal::Unfit);
+    if let Err(refusal) = checked(&ledger, store) {
+        return BundleOffered {
+            answer: Err(refusal),
+            ledger,
+        };
     }
     offer_bundle_sound(ledger, store, bundle, answers)
 }
 
-// The standing of an id.
-pub fn standing(ledger: Ledger, store: &[u8], id: Id) -> Asked
+// The standing of an id, and None where no stored update has it.
+#[tactic(auto, using(ledger_state::proofs::FindLaws::found_below), unfolding(crate::specs::Ask::asked_of))]
+pub fn standing(ledger: Ledger, store: &[u8], id: Id) -> Result<Option<Standing>, Refusal>
     ensures { asked_values result ≡ asked_of (book_of ledger) store.now id }
 {
-    if !sound(ledger, store) {
-        return Asked::Refused(Refusal::Unfit);
-    }
-    match find(ledger, &id) {
-        Found::At(k) => {
-            let p = ledger.places[k];
-            let standing = p.standing;
-            Asked::Is(standing)
-        }
-        Found::Nowhere => Asked::Unknown,
-    }
+    let found = checked(&ledger, store)?.find(&id);
+    Ok(found.map(|k| ledger.places[k].standing))
 }
 
 // The standings of many ids, which lie end to end in strictly ascending order: one byte for each, at the start of the output buffer; the bytes after them keep their values.
 // The answer is how many comparisons of two ids the walk of the ledger's ids and the asked ones made.
-pub fn standings(ledger: Ledger, store: &[u8], asked: &[u8], out: &mut [u8]) -> LookedUp
+#[tactic(auto, using(lookup_standings::specs::Lookup::unfit))]
+pub fn standings(
+    ledger: Ledger,
+    store: &[u8],
+    asked: &[u8],
+    out: &mut [u8],
+) -> Result<usize, Refusal>
     ensures { LookupRow (book_of ledger) store.now asked.now out.old (looked_up result) out.new }
 {
-    if !sound(ledger, store) {
-        return LookedUp::Refused(Refusal::Unfit);
-    }
-    look_up(ledger, store, asked, out)
-}
-
-// What a report answers: how many bytes of the output buffer it takes.
-#[derive(Clone, Copy)]
-pub enum Reported {
-    Written(usize),
-    Refused(Refusal),
+    look_up(&checked(&ledger, store)?, asked, out)
 }
 
 // Room for every report in the form: row 11 never comes where the buffer has so many bytes.
@@ -114,34 +100,32 @@ pub fn room(form: Form) -> usize
     }
 }
 
-// Puts the report at the start of the output buffer; the bytes after it keep their values. No form is named: the report is the short one.
-pub fn report(ledger: Ledger, store: &[u8], out: &mut [u8]) -> Reported
+// Puts the report at the start of the output buffer, and gives its length; the bytes after it keep their values. No form is named: the report is the short one.
+pub fn report(ledger: Ledger, store: &[u8], out: &mut [u8]) -> Result<usize, Refusal>
     ensures { Reporting default_form (book_of ledger) store.now out.old result out.new }
 {
     report_as(ledger, store, Form::Short, out)
 }
 
 // The same in the form that is named.
-pub fn report_as(ledger: Ledger, store: &[u8], form: Form, out: &mut [u8]) -> Reported
+#[tactic(auto, using(crate::specs::Report::unfit))]
+pub fn report_as(ledger: Ledger, store: &[u8], form: Form, out: &mut [u8]) -> Result<usize, Refusal>
     ensures { Reporting form (book_of ledger) store.now out.old result out.new }
 {
-    if !sound(ledger, store) {
-        return Reported::Refused(Refusal::Unfit);
-    }
+    let replica = checked(&ledger, store)?;
     if room(form) <= out.len() {
-        return Reported::Written(report_text::print(ledger, store, form, out));
+        return Ok(print(&replica, form, out));
     }
-    let mut page = [0u8; 1];
-    let length = report_text::print(ledger, store, form, &mut page);
+    let length = print(&replica, form, &mut [0u8; 1]);
     if out.len() < length {
-        return Reported::Refused(Refusal::Short);
+        return Err(Refusal::Short);
     }
-    report_text::print(ledger, store, form, out);
-    Reported::Written(length)
+    Ok(print(&replica, form, out))
 }
 
-// Writes a new update at the start of the output buffer; the bytes after it keep their values. The update is not offered. The tag is an Insert's value too, the
-// id an anchor or a deleted id, and the named ids are a Remove's. Rows 8 and 9 look at the named ids' bytes whatever the kind; a kind that names no ids writes none.
+// Writes a new update at the start of the output buffer, and gives its length; the bytes after it keep their values. The update is not offered. The tag is an Insert's value
+// too, the id an anchor or a deleted id, and the named ids are a Remove's. Rows 8 and 9 look at the named ids' bytes whatever the kind; a kind that names no ids writes none.
+#[tactic(auto, using(write_asking::specs::Write::unfit, write_asking::specs::Write::author, write_asking::specs::Write::layout, write_asking::specs::Write::unordered))]
 pub fn write(
     ledger: Ledger,
     store: &[u8],
@@ -151,20 +135,24 @@ pub fn write(
     id: Id,
     named: &[u8],
     out: &mut [u8],
-) -> Wrote
+) -> Result<usize, Refusal>
     ensures { Writing (book_of ledger) store.now author kind tag id named.now out.old (wrote_values result) out.new }
 {
-    if !sound(ledger, store) {
-        return Wrote::Refused(Refusal::Unfit);
-    }
+    let replica = checked(&ledger, store)?;
     if MAX_AUTHOR < author {
-        return Wrote::Refused(Refusal::Malformed(Malformed::Author));
+        return Err(Refusal::Malformed(Malformed::Author));
     }
-    if write_operations::bad_named(named) {
-        return Wrote::Refused(Refusal::Malformed(Malformed::Layout));
+    if bad_named(named) {
+        return Err(Refusal::Malformed(Malformed::Layout));
     }
-    if write_operations::unordered_named(named) {
-        return Wrote::Refused(Refusal::Malformed(Malformed::Unordered));
+    if unordered_named(named) {
+        return Err(Refusal::Malformed(Malformed::Unordered));
     }
-    write_asked(ledger, store, author, kind, tag, id, named, out)
+    let draft = Draft {
+        kind,
+        tag,
+        id,
+        named,
+    };
+    write_asked(&replica, author, &draft, out)
 }

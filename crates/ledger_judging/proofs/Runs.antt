@@ -1,11 +1,7 @@
 -- A run of ids, met one after the other: what is left of it from the k-th on.
-use Prim.Native.Nat.{ℕ, ◌+◌, ◌*◌, ◌≤◌, ◌<◌}
-use mathlib.Core.Path.{◌≡◌, sym, ap, ap₂, ◌∙◌}
-use mathlib.Core.List.{List, [], ◌∷◌}
-use mathlib.Core.Bool.{Bool, true, false, ◌&&◌}
-use native.Mathlib.Numerals.{add-one}
-use lib.ListN.{drop, drop_of_length-le}
-use lib.Seq.{drop-cons}
+use Rattle.std.proofs.Common.{◌≡◌, refl, ℕ, zero, suc, ◌+◌, ◌*◌, ◌≤◌, ◌<◌, List, [], ◌∷◌, Bool, ◌&&◌, drop, drop-cons, sym, ap, ap₂, ◌∙◌, add-one, arith}
+use Rattle.std.specs.List.{list_all, range_with_len}
+use lib.ListN.{drop_of_length-le}
 use Rattle.bytes_order.specs.Member.{all}
 use Rattle.update_format.specs.Update.{Id, id_length}
 use Rattle.update_format.specs.Decode.{slice, ids_at}
@@ -18,13 +14,7 @@ module _ (b : List ℕ) (at n k : ℕ) where
   abbrev left : List Id
   left = drop k (ids_at b at n)
 
-  abbrev after : List Id
-  after = drop (k + 1) (ids_at b at n)
-
-  abbrev id : Id
-  id = slice b (at + id_length * k) id_length
-
-  next : k < n → left ≡ id ∷ after
+  next : k < n → left ≡ slice b (at + id_length * k) id_length ∷ drop (k + 1) (ids_at b at n)
   next h =
       drop-cons (ids_at b at n) k [] (rw (ids-length b at n) h)
       ∙ ap₂ ◌∷◌ (ids-get b at n k h) (ap (λ (m : ℕ). drop m (ids_at b at n)) (sym (add-one k)))
@@ -34,24 +24,24 @@ module _ (b : List ℕ) (at n k : ℕ) where
 
   -- gathering from the k-th predecessor on
   module _ (l : Book) (g : Gathered) where
-    pub gather-next : (i : Id) → i ≡ id → (r : Gathered) → r ≡ gather_at l g (find_in l i) → k < n → gather l g left ≡ gather l r after
+    pub gather_next : k < n
+        → gather l g (drop k (ids_at b at n)) ≡ gather l (gather_at l g (find_in l (slice b (at + id_length * k) id_length))) (drop (k + 1) (ids_at b at n))
     unfolding gather
-    gather-next i e r f h = ap (gather l g) (next h) ∙ ap (λ (x : Gathered). gather l x after) (sym (f ∙ ap (λ (j : Id). gather_at l g (find_in l j)) e))
+    gather_next h = ap (gather l g) (next h)
 
-    pub gather-ended : n ≤ k → gather l g left ≡ g
+    pub gather_ended : n ≤ k → gather l g (drop k (ids_at b at n)) ≡ g
     unfolding gather
-    gather-ended h = ap (gather l g) (ended h)
+    gather_ended h = ap (gather l g) (ended h)
 
-  -- a test of each id from the k-th on
-  module _ (p : Id → Bool) where
-    pub all-stop : k < n → p id ≡ false → all p left ≡ false
-    unfolding all
-    all-stop h e = ap (all p) (next h) ∙ ap (λ (x : Bool). x && all p after) e
+-- a test of each id of a run, by its index
+module _ (b : List ℕ) (at : ℕ) (p : Id → Bool) where
+  abbrev pub test_at : ℕ → Bool
+  test_at k = p (slice b (at + id_length * k) id_length)
 
-    pub all-go-on : k < n → p id ≡ true → all p left ≡ all p after
-    unfolding all
-    all-go-on h e = ap (all p) (next h) ∙ ap (λ (x : Bool). x && all p after) e
+  from : (k n : ℕ) → list_all test_at (range_with_len k n) ≡ all p (ids_at b (at + id_length * k) n)
+  unfolding all ids_at
+  from k zero = refl
+  from k (suc n) = ap (λ (t : Bool). test_at k && t) (from (k + 1) n ∙ ap (λ (a : ℕ). all p (ids_at b a n)) (omega arith))
 
-    pub all-ended : n ≤ k → all p left ≡ true
-    unfolding all
-    all-ended h = ap (all p) (ended h)
+  pub all_ids : (n : ℕ) → list_all test_at (range_with_len 0 n) ≡ all p (ids_at b at n)
+  all_ids n = from 0 n ∙ ap (λ (a : ℕ). all p (ids_at b a n)) (omega arith)

@@ -7,7 +7,7 @@ use Rattle.std.proofs.Math.Path.{refl, sym, ap, ap₂, subst}
 use Rattle.std.proofs.Common.{◌∙◌, arith, true≢false, eq-eqb, eqb-true}
 use Prim.Native.Nat.{ℕ, zero, suc, ◌+◌, ◌≤◌, ◌<◌}
 use mathlib.Core.List.{List, [], ◌∷◌}
-use Rattle.std.proofs.Math.Option.{Option, none, some}
+use Rattle.std.specs.Prelude.{Option, None, Some}
 use Rattle.std.proofs.Math.Bool.{true, false, cond, not, or-false, or-true, or_assoc, not-not}
 use Rattle.std.proofs.lemmas.Bool.{false≢true}
 use Rattle.std.proofs.Math.ListN.{length}
@@ -38,18 +38,18 @@ AllHeld l us is = (i : Id) → i ∈ is → (j : ℕ) × (j < length us) × (ide
 
 -- an id is found at a place that passes; where it is not found, the answer is b
 unfoldable passes : (ℕ → Bool) → Bool → Option ℕ → Bool
-passes p b none = b
-passes p b (some j) = p j
+passes p b None = b
+passes p b (Some j) = p j
 
-passes→ : (p : ℕ → Bool) (o : Option ℕ) → passes p false o ≡ true → (j : ℕ) × (o ≡ some j) × (p j ≡ true)
+passes→ : (p : ℕ → Bool) (o : Option ℕ) → passes p false o ≡ true → (j : ℕ) × (o ≡ Some j) × (p j ≡ true)
 unfolding passes
-passes→ p none e = absurd (false≢true e)
-passes→ p (some j) e = (j, refl, e)
+passes→ p None e = absurd (false≢true e)
+passes→ p (Some j) e = (j, refl, e)
 
-fails→ : (p : ℕ → Bool) (o : Option ℕ) → passes p true o ≡ false → (j : ℕ) × (o ≡ some j) × (p j ≡ false)
+fails→ : (p : ℕ → Bool) (o : Option ℕ) → passes p true o ≡ false → (j : ℕ) × (o ≡ Some j) × (p j ≡ false)
 unfolding passes
-fails→ p none e = absurd (true≢false e)
-fails→ p (some j) e = (j, refl, e)
+fails→ p None e = absurd (true≢false e)
+fails→ p (Some j) e = (j, refl, e)
 
 module _ (l : Book) where
   found : (ℕ → Bool) → Bool → Id → Bool
@@ -93,8 +93,8 @@ module _ (l : Book) where
       by g j Void = sym (or-true g.void)
 
       step : (g : Gathered) (o : Option ℕ) → (gather_at l g o).void ≡ (g.void || passes void_at false o)
-      step g none = sym (or-false g.void)
-      step g (some j) = by g j (place_at l j).standing
+      step g None = sym (or-false g.void)
+      step g (Some j) = by g j (place_at l j).standing
 
   gather-ready : (is : List Id) → not (gather l nothing_gathered is).ready ≡ any (found waiting_at true) is
   unfolding found passes waiting_at is_waiting
@@ -106,8 +106,8 @@ module _ (l : Book) where
       by g j Void = sym (or-false (not g.ready))
 
       step : (g : Gathered) (o : Option ℕ) → not (gather_at l g o).ready ≡ (not g.ready || passes waiting_at true o)
-      step g none = sym (or-true (not g.ready))
-      step g (some j) = by g j (place_at l j).standing
+      step g None = sym (or-true (not g.ready))
+      step g (Some j) = by g j (place_at l j).standing
 
   gather-above : (k : ℕ) (is : List Id) → has (gather l nothing_gathered is).above k ≡ any (found (above_at k) false) is
   unfolding found passes above_at is_held
@@ -122,8 +122,8 @@ module _ (l : Book) where
       by g j Void = sym (or-false (has g.above k))
 
       step : (g : Gathered) (o : Option ℕ) → has (gather_at l g o).above k ≡ (has g.above k || passes (above_at k) false o)
-      step g none = sym (or-false (has g.above k))
-      step g (some j) = by g j (place_at l j).standing
+      step g None = sym (or-false (has g.above k))
+      step g (Some j) = by g j (place_at l j).standing
 
   -- no more places than ids
   pub gather-few : (n : ℕ) (is : List Id) → count_below n (has (gather l nothing_gathered is).direct) ≤ length is
@@ -143,8 +143,8 @@ module _ (l : Book) where
       by g j Void = omega arith
 
       step : (g : Gathered) (o : Option ℕ) → count_below n (has (gather_at l g o).direct) ≤ count_below n (has g.direct) + 1
-      step g none = omega arith
-      step g (some j) = by g j (place_at l j).standing
+      step g None = omega arith
+      step g (Some j) = by g j (place_at l j).standing
 
       go : (g : Gathered) (is : List Id) {m : ℕ} → count_below n (has g.direct) ≤ m → count_below n (has (gather l g is).direct) ≤ m + length is
       go g [] h = omega arith
@@ -168,8 +168,8 @@ module _ (l : Book) (taken : (j : ℕ) → j < l.used → within (place_at l j).
       by g j Void h p = p
 
       step : (g : Gathered) (i : Id) (o : Option ℕ) → find_in l i ≡ o → Inside g → Inside (gather_at l g o)
-      step g i none e p = p
-      step g i (some j) e p = by g j (place_at l j).standing (find-taken l i j e) p
+      step g i None e p = p
+      step g i (Some j) e p = by g j (place_at l j).standing (find-taken l i j e) p
 
 module _ (l : Book) (s : List ℕ) (us : List Update) (holds : Holds l s us) where
   gather-direct : (k : ℕ) (is : List Id) → has (gather l nothing_gathered is).direct k ≡ any (found l (direct_at l k) false) is
@@ -184,8 +184,8 @@ module _ (l : Book) (s : List ℕ) (us : List Update) (holds : Holds l s us) whe
       by g j Void = sym (or-false (has g.direct k))
 
       step : (g : Gathered) (o : Option ℕ) → has (gather_at l g o).direct k ≡ (has g.direct k || passes (direct_at l k) false o)
-      step g none = sym (or-false (has g.direct k))
-      step g (some j) = by g j (place_at l j).standing
+      step g None = sym (or-false (has g.direct k))
+      step g (Some j) = by g j (place_at l j).standing
 
   -- some id is that of an update whose place passes
   any-found→ : (p : ℕ → Bool) (is : List Id) → any (found l p false) is ≡ true

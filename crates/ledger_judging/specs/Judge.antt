@@ -1,11 +1,12 @@
 -- How a waiting place is judged from the bookkeeping and the store: what its predecessors say, its ancestor word, and its operation. The laws in
 -- `JudgeLaws` say that these are the judgements of the rules.
 use Rattle.std.specs.Prelude.{ℕ, List, [], ◌∷◌, Bool, true, false, cond, not, ◌&&◌, ◌||◌}
-use Rattle.std.proofs.Math.Option.{Option, none, some}
+use Rattle.std.specs.Prelude.{Option, None, Some}
+use Rattle.std.proofs.Common.{Bor}
 use Rattle.bytes_order.specs.Order.{same}
 use Rattle.bytes_order.specs.Member.{all}
-use Rattle.update_format.specs.Update.{Id, Operation, Add, Remove, Insert, Delete}
-use Rattle.update_format.specs.Decode.{Decoded, refused, update}
+use Rattle.update_format.specs.Update.{document_bounds, Id, Operation, Add, Remove, Insert, Delete}
+use Rattle.update_format.specs.Decode.{Decoded, refused, update, decode}
 use Rattle.rules.specs.Standing.{beginning}
 use Rattle.rules.specs.Settle.{is_add, is_insert}
 use Rattle.update_fields.specs.Fields.{test_of}
@@ -29,8 +30,8 @@ gather_by l g j Waiting = record { ready = false; void = g.void; direct = g.dire
 gather_by l g j Void = record { ready = g.ready; void = true; direct = g.direct; above = g.above }
 
 abbrev pub gather_at : Book → Gathered → Option ℕ → Gathered
-gather_at l g none = record { ready = false; void = g.void; direct = g.direct; above = g.above }
-gather_at l g (some j) = gather_by l g j (place_at l j).standing
+gather_at l g None = record { ready = false; void = g.void; direct = g.direct; above = g.above }
+gather_at l g (Some j) = gather_by l g j (place_at l j).standing
 
 unfoldable pub gather : Book → Gathered → List Id → Gathered
 gather l g [] = g
@@ -42,12 +43,17 @@ all_held g = not g.void && g.ready
 
 -- the place j is in the set `up`, and the operation of its update passes a test
 unfoldable pub names_at : Book → List ℕ → (Operation → Bool) → ℕ → Option ℕ → Bool
-names_at l s p up none = false
-names_at l s p up (some j) = has up j && test_of p (decoded_at l s j)
+names_at l s p up None = false
+names_at l s p up (Some j) = has up j && test_of p (decoded_at l s j)
 
 -- the id i is that of a place in the set `up` whose operation passes a test
 unfoldable pub names_ancestor : Book → List ℕ → (Operation → Bool) → ℕ → Id → Bool
 names_ancestor l s p up i = names_at l s p up (find_in l i)
+
+-- bytes that were found are an update whose operation passes a test
+abbrev pub tested : (Operation → Bool) → Option (Bor (List ℕ)) → Bool
+tested p None = false
+tested p (Some b) = test_of p (decode document_bounds b.now)
 
 -- the operation is valid for the ancestor word `up`
 unfoldable pub valid : Book → List ℕ → ℕ → Operation → Bool

@@ -7,7 +7,7 @@ use Rattle.std.specs.Prelude.{◌≡◌, ℕ, ◌<◌, List, Bool, cond}
 use Rattle.std.proofs.Math.Path.{refl, ap, subst}
 use Rattle.std.proofs.Common.{sym, ◌∙◌, subst₂}
 use Rattle.std.proofs.Math.Logic.{inl, inr, ⊎_elim}
-use Rattle.std.proofs.Math.Option.{Option, none, some}
+use Rattle.std.specs.Prelude.{Option, None, Some}
 use Rattle.std.proofs.Math.Bool.{true, false}
 use Rattle.std.proofs.lemmas.Bool.{false≢true}
 use Rattle.std.proofs.Math.ListN.{length}
@@ -64,8 +64,8 @@ module _ {l : Book} {s : List ℕ} {us : List Update} (holds : Holds l s us) {u 
     where
       step : (o : Option ℕ) → find_in l i ≡ o → names_at l s p w o ≡ true
           → (x : Update) × Ancestor rules us x u × (ident x ≡ i) × (p x.op ≡ true)
-      step none f e = absurd (false≢true e)
-      step (some j) f e =
+      step None f e = absurd (false≢true e)
+      step (Some j) f e =
           let r = find-right l s us holds i j f in
           let q = and-true→ (has w j) (test_of p (decoded_at l s j)) e in
           (update_at us j, word.only j r.0 q.0, r.1, ap (test_of p) (sym (stored-update l s us holds j r.0)) ∙ q.1)
@@ -74,7 +74,7 @@ module _ {l : Book} {s : List ℕ} {us : List Update} (holds : Holds l s us) {u 
   unfolding names_ancestor names_at test_of
   →names p {i} {x} a e q =
       let r = place_of us (ancestor-stored rules us a) in
-      let f : find_in l i ≡ some r.0 = ap (find_in l) (sym e ∙ ap ident (sym r.2)) ∙ find-all l s us holds r.0 r.1 in
+      let f : find_in l i ≡ Some r.0 = ap (find_in l) (sym e ∙ ap ident (sym r.2)) ∙ find-all l s us holds r.0 r.1 in
       ap (names_at l s p w) f
       ∙ and-true (has w r.0) (test_of p (decoded_at l s r.0))
       (word.each r.0 r.1 (subst (λ (y : Update). Ancestor rules us y u) (sym r.2) a))

@@ -5,7 +5,7 @@ use native.Mathlib.Nat.{eq-or-lt_of_le}
 use native.Mathlib.Omega.{arith}
 use mathlib.Core.Logic.{⊎_elim}
 use mathlib.Core.List.{List, [], ◌∷◌, ◌++◌}
-use mathlib.Core.Option.{none}
+use Rattle.std.specs.Prelude.{None}
 use mathlib.Core.Bool.{Bool, true, false, cond}
 use lib.ListN.{length}
 use Rattle.bytes_order.specs.Member.{◌∈◌}
@@ -90,7 +90,7 @@ module _ (l : Book) (s b : List ℕ) (u : Update) (fits : sound l s ≡ true) (d
       })
 
   -- i is the id, t the ledger with the place taken, r what it is once settled, with the two counts, and s' the store with the bytes written
-  module _ {i : Id} (hashed : i ≡ SHA-256 b) (unknown : find_in l i ≡ none) {t r : Book} {held void : ℕ} (grown : t ≡ with_taken l i (length b)) {s' : List ℕ}
+  module _ {i : Id} (hashed : i ≡ SHA-256 b) (unknown : find_in l i ≡ None) {t r : Book} {held void : ℕ} (grown : t ≡ with_taken l i (length b)) {s' : List ℕ}
       (wrote : s' ≡ overwritten s (start_of l.terms l.used) b) (same : length s' ≡ length s) (settling : SettledFrom t s' held void r) where
     settled : SettledFrom taken s' held void r
     settled = subst (λ (m : Book). SettledFrom m s' held void r) (grown ∙ ap (λ (j : Id). with_taken l j (length b)) hashed) settling

@@ -1,6 +1,6 @@
 -- What the entry `offer` promises, for every ledger, store and offered bytes.
 use Rattle.std.specs.Prelude.{◌≡◌, ℕ, ◌+◌, ◌-◌, ◌<◌, List, [], ◌∷◌, ◌++◌, true, false, length}
-use Rattle.std.proofs.Math.Option.{none, some}
+use Rattle.std.specs.Prelude.{None, Some, Result}
 use Rattle.sha256_fips180.specs.Fips180.{SHA-256}
 use Rattle.update_format.specs.Update.{Id, Update}
 use Rattle.update_format.specs.Decode.{refused, update, decode}
@@ -12,12 +12,13 @@ use Rattle.ledger_state.specs.View.{book_of}
 use Rattle.ledger_state.specs.Row1.{sound}
 use Rattle.ledger_state.specs.Stands.{Stands}
 use Rattle.ledger_refusals.specs.Numbers.{row1_number, row10_number}
+use Rattle.ledger_refusals.specs.declared.Refusal.{Refusal}
 use Rattle.ledger_offering.specs.declared.Answer.{Answer}
 use Rattle.ledger_offering.specs.declared.Offered.{Offered}
 use Rattle.ledger_offering.specs.Values.{OfferValues, taken_as, known_as, refused_as, offer_values}
 
 -- an answer that leaves the ledger as it was
-abbrev pub left : Ledger → Answer → Offered
+abbrev pub left : Ledger → Result Answer Refusal → Offered
 left l a = record { answer = a; ledger = l }
 
 -- What holds of the bookkeeping r and the store s' after the update u, with bytes b, took the next place of l. What the rules leave free, for a ledger or a
@@ -49,7 +50,7 @@ pub record Formed (l : Book) (s b : List ℕ) : Type 0 where
 pub record Takeable (l : Book) (s b : List ℕ) (i : Id) : Type 0 where
   pub formed : Formed l s b
   pub id_right : i ≡ SHA-256 b
-  pub id_new : find_in l i ≡ none
+  pub id_new : find_in l i ≡ None
   pub room : room_in l s formed.value ≡ true
 
 -- What an offer of the bytes b to the ledger l and the store s yields: document 01's values of the answer, and the ledger and the store as they are left. A
@@ -60,14 +61,14 @@ pub data OfferRow (l : Ledger) (s b : List ℕ) : OfferValues → Ledger → Lis
   -- rows 2 to 9
   malformed : (n : ℕ) → sound (book_of l) s ≡ true → decode (book_of l).terms.bounds b ≡ refused n → OfferRow l s b (refused_as n) l s
   -- "a known id gets its standing before 10"; "a known update changes nothing"
-  known : (u : Update) (k : ℕ) → sound (book_of l) s ≡ true → decode (book_of l).terms.bounds b ≡ update u → find_in (book_of l) (SHA-256 b) ≡ some k
+  known : (u : Update) (k : ℕ) → sound (book_of l) s ≡ true → decode (book_of l).terms.bounds b ≡ update u → find_in (book_of l) (SHA-256 b) ≡ Some k
       → OfferRow l s b (known_as (place_at (book_of l) k).standing) l s
   -- row 10
-  full : (u : Update) → sound (book_of l) s ≡ true → decode (book_of l).terms.bounds b ≡ update u → find_in (book_of l) (SHA-256 b) ≡ none → room_in (book_of l) s u ≡ false
+  full : (u : Update) → sound (book_of l) s ≡ true → decode (book_of l).terms.bounds b ≡ update u → find_in (book_of l) (SHA-256 b) ≡ None → room_in (book_of l) s u ≡ false
       → OfferRow l s b (refused_as row10_number) l s
   -- "the update's own standing, as the rules give it once the offer has settled, with the two counts": "held after less held before, and void after less
   -- void before"
-  taken : (u : Update) (r : Ledger) → sound (book_of l) s ≡ true → decode (book_of l).terms.bounds b ≡ update u → find_in (book_of l) (SHA-256 b) ≡ none → room_in (book_of l) s u ≡ true
+  taken : (u : Update) (r : Ledger) → sound (book_of l) s ≡ true → decode (book_of l).terms.bounds b ≡ update u → find_in (book_of l) (SHA-256 b) ≡ None → room_in (book_of l) s u ≡ true
       → Took (book_of l) s b u (book_of r) (overwritten s (start_of (book_of l).terms (book_of l).used) b)
       → OfferRow l s b
       (taken_as (place_at (book_of r) (book_of l).used).standing (standing_count is_held (book_of r) - standing_count is_held (book_of l))

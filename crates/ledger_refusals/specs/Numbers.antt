@@ -1,6 +1,7 @@
 -- Document 01's number for each refusal, and its values for an answer that puts bytes into an output buffer.
 use Rattle.std.specs.Prelude.{ℕ}
 use Rattle.update_format.specs.ParseResult.{malformed_number}
+use Rattle.update_format.specs.declared.Malformed.{Malformed}
 use Rattle.update_format.specs.declared.Malformed.TheVariants.{Length, Version, Author, Predecessors, Truncated, Kind, Layout, Unordered}
 use Rattle.ledger_refusals.specs.declared.Refusal.{Refusal}
 use Rattle.ledger_refusals.specs.declared.Refusal.TheVariants.{Unfit, Malformed as Bad, Full, Short, Invalid, Bundle}
@@ -67,6 +68,10 @@ refusal_number Full = row10_number
 refusal_number Short = row11_number
 refusal_number Invalid = row12_number
 refusal_number Bundle = row13_number
+
+-- the refusal of bytes that are no update
+abbrev pub malformed_refusal : Malformed → Refusal
+malformed_refusal m = Bad m
 
 -- document 01's values of an answer that puts bytes into an output buffer: how many they are, or the number of the row
 pub data Output : Type 0 where

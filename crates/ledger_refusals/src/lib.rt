@@ -2,12 +2,12 @@
 #![tactic(auto)]
 
 ghost use Rattle.std.specs.Prelude.{◌≡◌};
-ghost use Rattle.ledger_refusals.specs.Numbers.{refusal_number};
+ghost use Rattle.ledger_refusals.specs.Numbers.{refusal_number, malformed_refusal};
 
 use update_format::Malformed;
 
 // Why a call is refused.
-#[derive(Clone, Copy)]
+#[derive(Clone, Copy, PartialEq, Eq)]
 pub enum Refusal {
     // Row 1: the ledger and the store do not fit each other.
     Unfit,
@@ -36,5 +36,14 @@ impl Refusal {
             Refusal::Invalid => 12,
             Refusal::Bundle => 13,
         }
+    }
+}
+
+// Bytes that are no update: rows 2 to 9.
+impl From<Malformed> for Refusal {
+    ghost from_gives = { λ m r. r ≡ malformed_refusal m };
+
+    fn from(malformed: Malformed) -> Refusal {
+        Refusal::Malformed(malformed)
     }
 }

@@ -1,21 +1,20 @@
 // What held places do to a place of a ledger, the tests of a place that go by it, and whether a place is a fault.
 #![tactic(auto)]
 
-ghost use Rattle.std.specs.Prelude.{◌≡◌, not, ◌<◌};
-ghost use Rattle.rules.specs.CausalOrder.{is_before, is_apart};
-ghost use Rattle.ledger_state.specs.State.{places, document_terms};
-ghost use Rattle.ledger_state.specs.PlaceOrder.{place_order};
-ghost use Rattle.ledger_state.specs.View.{place_of, book_of};
-ghost use Rattle.ledger_state.specs.Asked.{PlaceIn, TwoPlaces};
+ghost use Rattle.std.specs.Prelude.{◌≡◌, ◌<◌};
+ghost use Rattle.rules.specs.CausalOrder.{is_before};
+ghost use Rattle.ledger_state.specs.State.{places, document_terms, place_at};
+ghost use Rattle.ledger_state.specs.PlaceOrder.{order_at};
+ghost use Rattle.ledger_state.specs.View.{book, store_of};
+ghost use Rattle.ledger_state.specs.Asked.{TwoPlaces};
 ghost use Rattle.ledger_relations.specs.PlaceTests.{head_at, forked_at, fault_at, present_at, shown_at};
 ghost use Rattle.ledger_relations.specs.Effects.{forks, affects, held_affects, some_held, ranked_in};
 
-use ledger_state::places::{causal_order, has_standing};
-use ledger_state::store::stored;
-use ledger_state::{Ledger, Place, Standing};
+use ledger_state::{Replica, Standing};
 use rules::CausalOrder;
+use update_fields::author_of;
 
-// What a held place can do to another place: be after it; be a fork of it; remove it; delete it.
+// What a held place can do to another place: be after it; be a fork of it; remove it; delete it. The definitions and the theorems of specs/ are by it.
 #[derive(Clone, Copy)]
 pub enum Effect {
     Covers,
@@ -24,157 +23,101 @@ pub enum Effect {
     Deletes,
 }
 
-// Whether the other place, q, covers the own, k: the own is before it.
-fn covers(own: Place, k: usize, other: Place, q: usize) -> bool
-    ensures { result ≡ is_before (place_order (place_of own) k (place_of other) q) }
-{
-    match causal_order(own, k, other, q) {
-        CausalOrder::Same => false,
-        CausalOrder::Before => true,
-        CausalOrder::After => false,
-        CausalOrder::Apart => false,
-    }
-}
-
-// Whether the places are one, or one is before the other.
-fn comparable(own: Place, k: usize, other: Place, q: usize) -> bool
-    ensures { result ≡ not (is_apart (place_order (place_of own) k (place_of other) q)) }
-{
-    match causal_order(own, k, other, q) {
-        CausalOrder::Same => true,
-        CausalOrder::Before => true,
-        CausalOrder::After => true,
-        CausalOrder::Apart => false,
-    }
-}
-
-// Whether the places are apart and of one author.
-fn forks(store: &[u8], own: Place, k: usize, other: Place, q: usize) -> bool
+// Whether place q covers place k: k is before it.
+fn covers(replica: &Replica, k: usize, q: usize) -> bool
     requires { TwoPlaces k q }
-    ensures { result ≡ forks document_terms store.now (place_of own) k (place_of other) q }
+    ensures { result ≡ is_before (order_at (book replica.now) k q) }
 {
-    if comparable(own, k, other, q) {
-        return false;
-    }
-    let author = update_fields::author_of(stored(store, k, own.length));
-    author == update_fields::author_of(stored(store, q, other.length))
+    replica.order(k, q) == CausalOrder::Before
 }
 
-// Whether the other place, q, does so to the own place, k.
-fn affects(store: &[u8], effect: Effect, own: Place, k: usize, other: Place, q: usize) -> bool
+// Whether the places are of one author and apart.
+fn forks(replica: &Replica, k: usize, q: usize) -> bool
     requires { TwoPlaces k q }
-    ensures { result ≡ affects document_terms store.now effect (place_of own) k (place_of other) q }
+    ensures { result ≡ forks document_terms (store_of replica.now) (place_at (book replica.now) k) k (place_at (book replica.now) q) q }
 {
-    let id = own.id;
+    author_of(replica.update(k)) == author_of(replica.update(q))
+        && replica.order(k, q) == CausalOrder::Apart
+}
+
+// Whether place q does so to place k.
+fn affects(replica: &Replica, effect: Effect, k: usize, q: usize) -> bool
+    requires { TwoPlaces k q }
+    ensures { result ≡ affects document_terms (store_of replica.now) effect (place_at (book replica.now) k) k (place_at (book replica.now) q) q }
+{
+    let id = &replica.ledger.places[k].id;
     match effect {
-        Effect::Covers => covers(own, k, other, q),
-        Effect::Forks => forks(store, own, k, other, q),
-        Effect::Removes => update_fields::removes(stored(store, q, other.length), &id),
-        Effect::Deletes => update_fields::erases(stored(store, q, other.length), &id),
+        Effect::Covers => covers(replica, k, q),
+        Effect::Forks => forks(replica, k, q),
+        Effect::Removes => update_fields::removes(replica.update(q), id),
+        Effect::Deletes => update_fields::erases(replica.update(q), id),
     }
 }
 
-// Whether the other place, q, is held and does so to the own place, k.
-fn held_affects(store: &[u8], effect: Effect, own: Place, k: usize, other: Place, q: usize) -> bool
+// Whether place q is held and does so to place k.
+fn held_affects(replica: &Replica, effect: Effect, k: usize, q: usize) -> bool
     requires { TwoPlaces k q }
-    ensures { result ≡ held_affects document_terms store.now effect (place_of own) k (place_of other) q }
+    ensures { result ≡ held_affects document_terms (store_of replica.now) effect (place_at (book replica.now) k) k (place_at (book replica.now) q) q }
 {
-    if has_standing(other, Standing::Held) {
-        affects(store, effect, own, k, other, q)
-    } else {
-        false
-    }
+    replica.has_standing(q, Standing::Held) && affects(replica, effect, k, q)
 }
 
 // Whether some held place does so to place k.
-fn some_held(l: Ledger, store: &[u8], effect: Effect, k: usize) -> bool
-    requires { PlaceIn (book_of l) k }
-    ensures { result ≡ some_held (book_of l) store.now effect k }
+fn some_held(replica: &Replica, effect: Effect, k: usize) -> bool
+    requires { k < places }
+    ensures { result ≡ some_held (book replica.now) (store_of replica.now) effect k }
 {
-    let used = l.used;
-    let own = l.places[k];
-    let mut q: usize = 0;
-    while q < used {
-        if held_affects(store, effect, own, k, l.places[q], q) {
-            return true;
-        }
-        q += 1;
-    }
-    false
+    (0..replica.ledger.used).any(|q| held_affects(replica, effect, k, q))
 }
 
 // Whether place k is a head.
-pub fn is_head(l: Ledger, store: &[u8], k: usize) -> bool
-    requires { PlaceIn (book_of l) k }
-    ensures { result ≡ head_at (book_of l) store.now k }
+pub fn is_head(replica: &Replica, k: usize) -> bool
+    requires { k < places }
+    ensures { result ≡ head_at (book replica.now) (store_of replica.now) k }
 {
-    if has_standing(l.places[k], Standing::Held) {
-        !some_held(l, store, Effect::Covers, k)
-    } else {
-        false
-    }
+    replica.has_standing(k, Standing::Held) && !some_held(replica, Effect::Covers, k)
 }
 
 // Whether place k is one of two that are a fork.
-pub fn is_forked(l: Ledger, store: &[u8], k: usize) -> bool
-    requires { PlaceIn (book_of l) k }
-    ensures { result ≡ forked_at (book_of l) store.now k }
+pub fn is_forked(replica: &Replica, k: usize) -> bool
+    requires { k < places }
+    ensures { result ≡ forked_at (book replica.now) (store_of replica.now) k }
 {
-    if has_standing(l.places[k], Standing::Held) {
-        some_held(l, store, Effect::Forks, k)
-    } else {
-        false
-    }
+    replica.has_standing(k, Standing::Held) && some_held(replica, Effect::Forks, k)
 }
 
 // Whether place k is a fault: void while all its predecessors are held.
-pub fn is_fault(l: Ledger, store: &[u8], k: usize) -> bool
-    requires { PlaceIn (book_of l) k }
-    ensures { result ≡ fault_at (book_of l) store.now k }
+pub fn is_fault(replica: &Replica, k: usize) -> bool
+    requires { k < places }
+    ensures { result ≡ fault_at (book replica.now) (store_of replica.now) k }
 {
-    if has_standing(l.places[k], Standing::Void) {
-        ledger_judging::is_ready(l, store, k)
-    } else {
-        false
-    }
+    replica.has_standing(k, Standing::Void) && ledger_judging::is_ready(replica, k)
 }
 
 // Whether place k holds an Add that no held Remove names.
-pub fn is_present(l: Ledger, store: &[u8], k: usize) -> bool
-    requires { PlaceIn (book_of l) k }
-    ensures { result ≡ present_at (book_of l) store.now k }
+pub fn is_present(replica: &Replica, k: usize) -> bool
+    requires { k < places }
+    ensures { result ≡ present_at (book replica.now) (store_of replica.now) k }
 {
-    let p = l.places[k];
-    if !has_standing(p, Standing::Held) {
-        return false;
-    }
-    if update_fields::is_add(stored(store, k, p.length)) {
-        !some_held(l, store, Effect::Removes, k)
-    } else {
-        false
-    }
+    replica.has_standing(k, Standing::Held)
+        && update_fields::is_add(replica.update(k))
+        && !some_held(replica, Effect::Removes, k)
 }
 
 // Whether no held Delete names place k.
-pub fn is_shown(l: Ledger, store: &[u8], k: usize) -> bool
-    requires { PlaceIn (book_of l) k }
-    ensures { result ≡ shown_at (book_of l) store.now k }
+pub fn is_shown(replica: &Replica, k: usize) -> bool
+    requires { k < places }
+    ensures { result ≡ shown_at (book replica.now) (store_of replica.now) k }
 {
-    !some_held(l, store, Effect::Deletes, k)
+    !some_held(replica, Effect::Deletes, k)
 }
 
-// Whether the place, k, holds a held Insert with n ancestors.
-pub fn is_ranked(store: &[u8], n: usize, p: Place, k: usize) -> bool
+// Whether place k holds a held Insert with n ancestors.
+pub fn is_ranked(replica: &Replica, n: usize, k: usize) -> bool
     requires { k < places }
-    ensures { result ≡ ranked_in document_terms store.now n (place_of p) k }
+    ensures { result ≡ ranked_in document_terms (store_of replica.now) n (place_at (book replica.now) k) k }
 {
-    if !has_standing(p, Standing::Held) {
-        return false;
-    }
-    let rank = bitset::count(p.ancestors);
-    if rank == n {
-        update_fields::is_insert(stored(store, k, p.length))
-    } else {
-        false
-    }
+    replica.has_standing(k, Standing::Held)
+        && bitset::count(replica.ledger.places[k].ancestors) == n
+        && update_fields::is_insert(replica.update(k))
 }

@@ -1,3 +1,2 @@
-pub mod Naming
 pub mod Judging
 pub mod Loops

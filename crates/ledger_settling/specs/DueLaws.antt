@@ -4,7 +4,7 @@ use Rattle.std.proofs.Math.Path.{refl, ap}
 use Rattle.std.proofs.Common.{sym, ◌∙◌}
 use Rattle.std.proofs.Math.Logic.{inl, inr, ⊎_elim}
 use mathlib.Core.List.{List, [], ◌∷◌}
-use Rattle.std.proofs.Math.Option.{Option, none, some}
+use Rattle.std.specs.Prelude.{Option, None, Some}
 use Rattle.bytes_order.specs.BoolLaws.{bool_cases, true-false, or-false→}
 use Rattle.bytes_order.specs.Order.{same}
 use Rattle.bytes_order.specs.Member.{member}
@@ -42,8 +42,8 @@ module _ (l : Book) (n : ℕ) (v : Standing) (w : ℕ) where
   gather-one x differs g = ap (gather_at after g) (find-same x) ∙ by (find_in l x) refl
     where
       by : (o : Option ℕ) → find_in l x ≡ o → gather_at after g o ≡ gather_at l g o
-      by none e = refl
-      by (some j) e =
+      by None e = refl
+      by (Some j) e =
           gather-same l after g j
           (other j
           (λ q.

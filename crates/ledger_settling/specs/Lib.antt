@@ -1,4 +1,5 @@
 pub mod Settle
+pub mod Roomy
 pub mod Worklist
 pub mod SettleLaws
 pub mod CountLaws

@@ -1,6 +1,6 @@
 -- What settling comes to, whatever the order in which places are judged: from a ledger, waiting places are settled one after the other, each as it is judged then, until every
 -- place that waits is judged to go on waiting. The laws in `SettleLaws` say that a ledger so settled stands as the rules say.
-use Rattle.std.specs.Prelude.{◌≡◌, ℕ, ◌+◌, ◌<◌, List, Bool, true, false}
+use Rattle.std.specs.Prelude.{◌≡◌, ℕ, ◌+◌, ◌<◌, List, Bool, true, false, ◌&&◌}
 use Rattle.bytes_order.specs.Member.{member}
 use Rattle.update_format.specs.Update.{Id}
 use Rattle.update_format.specs.Decode.{Decoded, refused, update}
@@ -8,7 +8,7 @@ use Rattle.rules.specs.declared.Standing.{Standing}
 use Rattle.rules.specs.declared.Standing.TheVariants.{Held, Waiting, Void}
 use Rattle.ledger_judging.specs.declared.Judgement.{Judgement}
 use Rattle.ledger_judging.specs.declared.Judgement.TheVariants.{Holds, Fails, Waits}
-use Rattle.ledger_state.specs.State.{Book, place_at, decoded_at, with_standing}
+use Rattle.ledger_state.specs.State.{Book, place_at, decoded_at, with_standing, is_waiting}
 use Rattle.ledger_judging.specs.Judge.{judge_at}
 
 -- the place k is judged, and gets this standing and ancestor word
@@ -50,3 +50,7 @@ follows i (update u) = member i u.preds
 
 abbrev pub follows_at : Book → List ℕ → Id → ℕ → Bool
 follows_at l s i k = follows i (decoded_at l s k)
+
+-- the place k waits, and its update names the id i
+abbrev pub waits_for : Book → List ℕ → Id → ℕ → Bool
+waits_for l s i k = is_waiting (place_at l k).standing && follows_at l s i k

@@ -4,7 +4,7 @@ use Rattle.std.proofs.Math.Path.{refl, ap}
 use Rattle.std.proofs.Common.{sym, ◌∙◌, arith, eq-or-lt_of_le}
 use Rattle.std.proofs.Math.Logic.{⊎_elim}
 use mathlib.Core.List.{List, [], ◌∷◌}
-use Rattle.std.proofs.Math.Option.{Option, none, some}
+use Rattle.std.specs.Prelude.{Option, None, Some}
 use Rattle.std.proofs.Math.Bool.{true, false, cond}
 use Rattle.std.proofs.lemmas.Bool.{false≢true}
 use Rattle.bytes_order.specs.BoolLaws.{true-false}
@@ -68,7 +68,7 @@ module _ (l m : Book) (s t : List ℕ) where
   decoded-waits (update u) f e = ap (judge_gathered m t u.op) (f u refl) ∙ gathered-waits u.op (gather l nothing_gathered u.preds) e
 
 -- a place that is the same says the same
-pub gather-same : (l m : Book) (g : Gathered) (j : ℕ) → place_at m j ≡ place_at l j → gather_at m g (some j) ≡ gather_at l g (some j)
+pub gather-same : (l m : Book) (g : Gathered) (j : ℕ) → place_at m j ≡ place_at l j → gather_at m g (Some j) ≡ gather_at l g (Some j)
 gather-same l m g j at = ap (gather_by m g j) (ap (λ (p : Place). p.standing) at) ∙ by (place_at l j).standing
   where
     by : (v : Standing) → gather_by m g j v ≡ gather_by l g j v
@@ -93,14 +93,14 @@ module _ (l : Book) (i : Id) (n : ℕ) where
     unfolding is_at
     same_test k h = ap (λ (p : Place). same p.id x) (at_old k h)
 
-    found-old : (j : ℕ) → find_in l x ≡ some j → find_in taken x ≡ some j
+    found-old : (j : ℕ) → find_in l x ≡ Some j → find_in taken x ≡ Some j
     unfolding find_in is_at
     found-old j e =
         let r = first_below-some→ l.used (is_at l) e in
         first_below-some← (l.used + 1) (is_at taken) j (omega (arith, r.0)) (same_test j r.0 ∙ r.1)
         (λ k h. same_test k (omega (arith, r.0)) ∙ r.2 k h)
 
-    found-new : find_in l x ≡ none → (j : ℕ) → find_in taken x ≡ some j → (place_at taken j).standing ≡ Waiting
+    found-new : find_in l x ≡ None → (j : ℕ) → find_in taken x ≡ Some j → (place_at taken j).standing ≡ Waiting
     unfolding find_in is_at
     found-new e j f =
         let r = first_below-some→ (l.used + 1) (is_at taken) f in
@@ -112,13 +112,13 @@ module _ (l : Book) (i : Id) (n : ℕ) where
     gather-one : (g : Gathered) → gather_at taken g (find_in taken x) ≡ gather_at l g (find_in l x)
     gather-one g = by (find_in l x) refl
       where
-        missing : (o : Option ℕ) → ((j : ℕ) → o ≡ some j → (place_at taken j).standing ≡ Waiting) → gather_at taken g o ≡ gather_at l g none
-        missing none f = refl
-        missing (some j) f = ap (gather_by taken g j) (f j refl)
+        missing : (o : Option ℕ) → ((j : ℕ) → o ≡ Some j → (place_at taken j).standing ≡ Waiting) → gather_at taken g o ≡ gather_at l g None
+        missing None f = refl
+        missing (Some j) f = ap (gather_by taken g j) (f j refl)
 
         by : (o : Option ℕ) → find_in l x ≡ o → gather_at taken g (find_in taken x) ≡ gather_at l g o
-        by none e = missing (find_in taken x) (found-new e)
-        by (some j) e = ap (gather_at taken g) (found-old j e) ∙ gather-same l taken g j (at_old j (find-taken l x j e))
+        by None e = missing (find_in taken x) (found-new e)
+        by (Some j) e = ap (gather_at taken g) (found-old j e) ∙ gather-same l taken g j (at_old j (find-taken l x j e))
 
   gather-taken : (g : Gathered) (is : List Id) → gather taken g is ≡ gather l g is
   unfolding gather

@@ -1,15 +1,15 @@
 -- The worklist: the places settled so far, in order. One fact is kept of it (`WorklistAt`): a place that is due, which is one that waits and is not judged to go on waiting, is a
 -- successor of a settled place whose successors were not judged yet. A place that is judged to wait is due no more; of one that is settled, the successors become due, and it
 -- goes on the worklist. At the end of the worklist nothing is due.
-use Rattle.std.specs.Prelude.{◌≡◌, ℕ, ◌+◌, ◌≤◌, ◌<◌, ◌⊎◌, List, [], ◌∷◌, ◌++◌, true, length, get_or, take, drop}
+use Rattle.std.specs.Prelude.{◌≡◌, ℕ, ◌+◌, ◌≤◌, ◌<◌, ◌⊎◌, List, [], ◌∷◌, ◌++◌, true, length, drop}
 use Rattle.bytes_order.specs.Member.{◌∈◌}
 use Rattle.update_format.specs.Update.{Id}
 use Rattle.rules.specs.declared.Standing.TheVariants.{Held, Waiting, Void}
 use Rattle.ledger_judging.specs.declared.Judgement.TheVariants.{Holds, Fails, Waits}
-use Rattle.ledger_state.specs.State.{places, Book, place_at, with_standing, is_waiting, standing_count}
+use Rattle.ledger_state.specs.State.{Book, place_at, with_standing}
 use Rattle.ledger_state.specs.View.{book_of}
 use Rattle.ledger_judging.specs.Judge.{judge_at}
-use Rattle.ledger_settling.specs.declared.Settling.{Settling}
+use Rattle.ledger_settling.specs.declared.settling.Settling.{Settling}
 use Rattle.ledger_settling.specs.Settle.{SettleSteps, OthersWait, SettledFrom, follows_at}
 
 -- each place that is due is one of these: every other that waits is judged to go on waiting
@@ -31,19 +31,24 @@ pub record Progress : Type 0 where
 
 -- the view of the declared struct
 abbrev pub progress_of : Settling → Progress
-progress_of x = record { book = book_of x.ledger; worklist = take (x.held + x.void) x.worklist; held = x.held; void = x.void }
+progress_of x = record { book = book_of x.ledger; worklist = x.worklist.items; held = x.held; void = x.void }
 
 -- nothing is settled yet
 abbrev pub unsettled : Book → Progress
 unsettled l = record { book = l; worklist = []; held = 0; void = 0 }
 
+-- the place k settled, as a held one or a void one, and on the worklist
+abbrev pub with_held : Progress → ℕ → ℕ → Progress
+with_held p k w = record { book = with_standing p.book k Held w; worklist = p.worklist ++ (k ∷ []); held = p.held + 1; void = p.void }
+
+abbrev pub with_void : Progress → ℕ → Progress
+with_void p k = record { book = with_standing p.book k Void 0; worklist = p.worklist ++ (k ∷ []); held = p.held; void = p.void + 1 }
+
 -- the place k judged: it goes on waiting, or is settled and goes on the worklist
 pub data Judged (s : List ℕ) (k : ℕ) (p : Progress) : Progress → Type 0 where
   waits : judge_at p.book s k ≡ Waits → Judged s k p p
-  holds : {w : ℕ} → judge_at p.book s k ≡ Holds w
-      → Judged s k p (record { book = with_standing p.book k Held w; worklist = p.worklist ++ (k ∷ []); held = p.held + 1; void = p.void })
-  fails : judge_at p.book s k ≡ Fails
-      → Judged s k p (record { book = with_standing p.book k Void 0; worklist = p.worklist ++ (k ∷ []); held = p.held; void = p.void + 1 })
+  holds : {w : ℕ} → judge_at p.book s k ≡ Holds w → Judged s k p (with_held p k w)
+  fails : judge_at p.book s k ≡ Fails → Judged s k p (with_void p k)
 
 -- settling, from l, with the successors of the first i places of the worklist judged
 pub record WorklistAt (l : Book) (s : List ℕ) (i : ℕ) (p : Progress) : Type 0 where
@@ -57,24 +62,11 @@ pub record SuccessorsAt (l : Book) (s : List ℕ) (i : ℕ) (x : Id) (k : ℕ) (
   pub due : OthersWait l s
       → Due p.book s (λ (j : ℕ). Successor p.book s (drop (i + 1) p.worklist) j ⊎ ((k ≤ j) × (follows_at p.book s x j ≡ true)))
 
--- WHAT THE FUNCTIONS ASK AND OWE.
--- the worklist has room for every place that still waits, and lists places
-pub record Roomy (x : Settling) : Type 0 where
-  pub whole : length x.worklist ≡ places
-  pub room : x.held + x.void + standing_count is_waiting (book_of x.ledger) ≤ places
-  pub used_within : x.ledger.used ≤ places
-  pub each_within : (i : ℕ) → get_or x.worklist i 0 < places
-
+-- WHAT THE FUNCTIONS ASK AND OWE. (That the worklist has room is said of every `Settling`: `Roomy`.)
 -- k is a taken place that waits
 pub record WaitsAt (x : Settling) (k : ℕ) : Type 0 where
-  pub roomy : Roomy x
   pub taken : k < x.ledger.used
   pub waiting : (place_at (book_of x.ledger) k).standing ≡ Waiting
-
--- i is an index of the worklist
-pub record ListedAt (x : Settling) (i : ℕ) : Type 0 where
-  pub roomy : Roomy x
-  pub listed : i < x.held + x.void
 
 -- k is the newest place, and waits
 pub record NewestWaits (l : Book) (k : ℕ) : Type 0 where
@@ -82,14 +74,8 @@ pub record NewestWaits (l : Book) (k : ℕ) : Type 0 where
   pub newest : k + 1 ≡ l.used
   pub waiting : (place_at l k).standing ≡ Waiting
 
--- the place k was judged
-pub record Judges (s : List ℕ) (k : ℕ) (x r : Settling) : Type 0 where
-  pub roomy : Roomy r
-  pub judged : Judged s k (progress_of x) (progress_of r)
-
 -- the successors of the place at index i of the worklist were judged
 pub record JudgesSuccessors (s : List ℕ) (i : ℕ) (x r : Settling) : Type 0 where
-  pub roomy : Roomy r
   pub onward : (l : Book) → WorklistAt l s i (progress_of x) → WorklistAt l s (i + 1) (progress_of r)
 
 -- the worklist is at its end

@@ -2,109 +2,116 @@
 // whose successors were not. So the newest place is judged once, and any other at most once for each of its predecessors that is settled.
 #![tactic(auto)]
 
-ghost use Rattle.std.specs.Prelude.{◌≡◌, ◌&&◌, ◌<◌};
+ghost use Rattle.std.specs.Prelude.{◌≡◌, ◌<◌};
 ghost use Rattle.update_format.specs.Update.{document_bounds};
 ghost use Rattle.update_format.specs.Decode.{decode};
-ghost use Rattle.ledger_state.specs.State.{document_terms, places, decoded_in, is_waiting};
-ghost use Rattle.ledger_state.specs.View.{place_of, book_of};
-ghost use Rattle.ledger_settling.specs.Settle.{follows, SettledFrom};
-ghost use Rattle.ledger_settling.specs.Worklist.{Roomy, WaitsAt, ListedAt, NewestWaits, Judges, JudgesSuccessors, Empties};
+ghost use Rattle.ledger_state.specs.State.{place_at};
+ghost use Rattle.ledger_state.specs.Asked.{TwoPlaces};
+ghost use Rattle.ledger_state.specs.View.{book_of, book, store_of};
+ghost use Rattle.ledger_settling.specs.Settle.{follows, waits_for, SettledFrom};
+ghost use Rattle.ledger_settling.specs.Worklist.{progress_of, with_held, with_void, Judged, WaitsAt, NewestWaits, JudgesSuccessors, Empties};
+ghost use Rattle.arrayvec.specs.ArrayVec.{array_vec_len};
 
+mod settling;
+
+use arrayvec::ArrayVec;
+use bitset::Set;
 use ledger_judging::{Judgement, judge};
-use ledger_state::places::has_standing;
-use ledger_state::store::stored;
-use ledger_state::{Ledger, PLACES, Place, Standing};
+use ledger_state::{Ledger, Replica, Standing};
+pub use settling::Settling;
 use update_format::numbers::FIRST_PREDECESSOR;
-use update_format::{Id, ParseResult};
-
-// How far settling has come: the ledger; the places settled so far, in order, which are the first `held + void` elements of the worklist; and how many of them became held,
-// and how many void.
-#[derive(Clone, Copy)]
-pub struct Settling {
-    pub ledger: Ledger,
-    pub worklist: [usize; PLACES],
-    pub held: usize,
-    pub void: usize,
-}
 
 // Whether the bytes are an update that names the id among its predecessors.
+#[tactic(auto, unfolding(crate::specs::Settle::follows))]
 fn follows(b: &[u8], id: &[u8]) -> bool
     ensures { result ≡ follows id.now (decode document_bounds b.now) }
 {
     match update_parsing::read(b) {
-        ParseResult::Update(u) => update_fields::among(b, FIRST_PREDECESSOR, u.count, id),
-        ParseResult::Refused(_) => false,
+        Ok(u) => update_fields::among(b, FIRST_PREDECESSOR, u.count, id),
+        Err(_) => false,
     }
 }
 
-// Whether the place k, which is p, waits and its update names the id.
-fn waits_for(p: Place, store: &[u8], k: usize, id: Id) -> bool
-    requires { k < places }
-    ensures { result ≡ (is_waiting p.standing && follows id (decoded_in document_terms store.now (place_of p) k)) }
+// Whether place k waits and its update names the id of place n.
+#[tactic(auto, using(ledger_state::proofs::NumberLaws::standing_tests))]
+fn waits_for(replica: &Replica, k: usize, n: usize) -> bool
+    requires { TwoPlaces k n }
+    ensures { result ≡ waits_for (book replica.now) (store_of replica.now) (place_at (book replica.now) n).id k }
 {
-    if has_standing(p, Standing::Waiting) {
-        follows(stored(store, k, p.length), &id)
-    } else {
-        false
-    }
+    replica.has_standing(k, Standing::Waiting)
+        && follows(replica.update(k), &replica.ledger.places[n].id)
 }
 
 impl Settling {
-    // The waiting place k as it is judged: on the worklist, if it is settled.
-    fn judged(mut self, store: &[u8], k: usize) -> Settling
+    // The waiting place k held, with these ancestors, and on the worklist.
+    #[tactic(auto, using(crate::proofs::Judging::worklist_room))]
+    fn with_held(mut self, k: usize, ancestors: Set) -> Settling
         requires { WaitsAt self k }
-        ensures { Judges store.now k self result }
+        ensures { progress_of result ≡ with_held (progress_of self) k ancestors }
     {
-        let l = self.ledger;
-        let end = self.held + self.void;
-        match judge(l, store, k) {
-            Judgement::Holds(up) => {
-                let next = l.with_standing(k, Standing::Held, up);
-                self.ledger = next;
-                self.worklist[end] = k;
-                self.held += 1;
-                self
-            }
-            Judgement::Fails => {
-                let next = l.with_standing(k, Standing::Void, 0);
-                self.ledger = next;
-                self.worklist[end] = k;
-                self.void += 1;
-                self
-            }
+        self.ledger = self.ledger.with_standing(k, Standing::Held, ancestors);
+        self.worklist.push(k);
+        self.held += 1;
+        self
+    }
+
+    // The waiting place k void, and on the worklist.
+    #[tactic(auto, using(crate::proofs::Judging::worklist_room))]
+    fn with_void(mut self, k: usize) -> Settling
+        requires { WaitsAt self k }
+        ensures { progress_of result ≡ with_void (progress_of self) k }
+    {
+        self.ledger = self.ledger.with_standing(k, Standing::Void, 0);
+        self.worklist.push(k);
+        self.void += 1;
+        self
+    }
+
+    // The waiting place k as it is judged: on the worklist, if it is settled.
+    fn judged(self, store: &[u8], k: usize) -> Settling
+        requires { WaitsAt self k }
+        ensures { Judged store.now k (progress_of self) (progress_of result) }
+    {
+        let replica = Replica {
+            ledger: &self.ledger,
+            store,
+        };
+        match judge(&replica, k) {
+            Judgement::Holds(up) => self.with_held(k, up),
+            Judgement::Fails => self.with_void(k),
             Judgement::Waits => self,
         }
     }
 
     // The successors of the place at index i of the worklist as they are judged. (Until the loop comes to a place, it is as it was when the loop began.)
+    #[tactic(auto, using(crate::proofs::Loops::successors_done))]
     fn successors_judged(self, store: &[u8], i: usize) -> Settling
-        requires { ListedAt self i }
+        requires { i < array_vec_len self.worklist }
         ensures { JudgesSuccessors store.now i self result }
     {
+        let ledger = self.ledger;
+        let replica = Replica {
+            ledger: &ledger,
+            store,
+        };
         let n = self.worklist[i];
-        let l = self.ledger;
-        let settled = l.places[n];
-        let id = settled.id;
-        let used = l.used;
         let mut current = self;
-        let mut k: usize = 0;
-        while k < used {
-            let q = k;
-            k += 1;
-            if waits_for(l.places[q], store, q, id) {
-                current = current.judged(store, q);
+        for k in 0..ledger.used {
+            if waits_for(&replica, k, n) {
+                current = current.judged(store, k);
             }
         }
         current
     }
 
     // The successors of each place of the worklist as they are judged, until the worklist is at its end.
+    #[tactic(auto, using(crate::proofs::Loops::worklist_begun, crate::proofs::Loops::worklist_onward, crate::proofs::Loops::worklist_done))]
     fn settle(mut self, store: &[u8]) -> Settling
-        requires { Roomy self }
         ensures { Empties store.now self result }
     {
         let mut i: usize = 0;
-        while i < self.held + self.void {
+        // a while: the worklist grows as it is gone through
+        while i < self.worklist.len() {
             self = self.successors_judged(store, i);
             i += 1;
         }
@@ -113,16 +120,15 @@ impl Settling {
 }
 
 // Settles a ledger whose newest place, k, waits.
-pub fn settle(l: Ledger, store: &[u8], k: usize) -> Settling
-    requires { NewestWaits (book_of l) k }
-    ensures { SettledFrom (book_of l) store.now result.held result.void (book_of result.ledger) }
+pub fn settle(ledger: Ledger, store: &[u8], k: usize) -> Settling
+    requires { NewestWaits (book_of ledger) k }
+    ensures { SettledFrom (book_of ledger) store.now result.held result.void (book_of result.ledger) }
 {
     let begun = Settling {
-        ledger: l,
-        worklist: [0usize; PLACES],
+        ledger,
+        worklist: ArrayVec::new(),
         held: 0,
         void: 0,
     };
-    let first = begun.judged(store, k);
-    first.settle(store)
+    begun.judged(store, k).settle(store)
 }

@@ -13,8 +13,8 @@ use Rattle.bytes_order.specs.Compare.{order_of}
 use Rattle.bytes_order.specs.Sort.{insert, sort}
 use Rattle.bytes_order.specs.Member.{keep}
 use Rattle.bytes_order.specs.MemberLaws.{keep_all}
-use Rattle.bytes_order.specs.declared.Order.{Order}
-use Rattle.bytes_order.specs.declared.Order.TheVariants.{Less, Equal, Greater}
+use Rattle.std.specs.declared.cmp.Ordering.{Ordering}
+use Rattle.std.specs.declared.cmp.Ordering.TheVariants.{Less, Equal, Greater}
 use Rattle.bitset.specs.Below.{up_to}
 use Rattle.bitset.specs.BelowLaws.{up_to-length}
 use Rattle.ledger_state.specs.State.{Book}
@@ -24,7 +24,7 @@ use Rattle.ledger_sorting.specs.PlaceLists.{ins, candidate, sorted_by}
 use Rattle.ledger_sorting.proofs.Inserting.{shift}
 
 module _ (key : ℕ → List ℕ) (x : ℕ) where
-  abbrev by_order : Order → ℕ → List ℕ → List ℕ
+  abbrev by_order : Ordering → ℕ → List ℕ → List ℕ
   by_order Less y ys = x ∷ y ∷ ys
   by_order Equal y ys = y ∷ ys
   by_order Greater y ys = y ∷ insert key x ys
@@ -39,11 +39,11 @@ module _ (key : ℕ → List ℕ) (x : ℕ) where
       go false false = refl
 
   module _ (xs : List ℕ) (i y : ℕ) (inv : insert key x xs ≡ take i xs ++ insert key x (drop i xs)) where
-    met : {o : Order} → drop i xs ≡ y ∷ drop (i + 1) xs → o ≡ order_of (key x) (key y) → insert key x xs ≡ take i xs ++ by_order o y (drop (i + 1) xs)
+    met : {o : Ordering} → drop i xs ≡ y ∷ drop (i + 1) xs → o ≡ order_of (key x) (key y) → insert key x xs ≡ take i xs ++ by_order o y (drop (i + 1) xs)
     met d e =
         inv
         ∙ ap (λ (r : List ℕ). take i xs ++ r)
-        (ap (insert key x) d ∙ insert-by y (drop (i + 1) xs) ∙ ap (λ (o : Order). by_order o y (drop (i + 1) xs)) (sym e))
+        (ap (insert key x) d ∙ insert-by y (drop (i + 1) xs) ∙ ap (λ (o : Ordering). by_order o y (drop (i + 1) xs)) (sym e))
 
     pub less : drop i xs ≡ y ∷ drop (i + 1) xs → Less ≡ order_of (key x) (key y) → ins i x xs ≡ insert key x xs
     less d e = sym (met d e ∙ ap (λ (r : List ℕ). take i xs ++ (x ∷ r)) (sym d))

@@ -1,3 +1,4 @@
+pub mod RangeLaws
 pub mod FindLaws
 pub mod Owning
 pub mod BookLaws

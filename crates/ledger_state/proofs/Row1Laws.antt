@@ -99,3 +99,7 @@ holds-sound l s us h =
             inside = subst (λ (n : ℕ). within (place_at l k).ancestors n ≡ true) (sym h.number) (h.inside k i);
           };
     }
+
+-- no more places are taken than there are
+pub few_taken : (l : Book) (s : List ℕ) → sound l s ≡ true → l.used ≤ l.terms.places
+few_taken l s e = (sound→ l s e).few

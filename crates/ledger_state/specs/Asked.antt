@@ -3,11 +3,6 @@ use Rattle.std.specs.Prelude.{◌≡◌, ℕ, ◌≤◌, ◌<◌, List, length}
 use Rattle.update_format.specs.Update.{document_bounds, max_length}
 use Rattle.ledger_state.specs.State.{places, document_terms, store_length_of, Book}
 
--- the bookkeeping has no more places taken than there are, and k is a place
-pub record PlaceIn (l : Book) (k : ℕ) : Type 0 where
-  pub used_within : l.used ≤ l.terms.places
-  pub place_within : k < l.terms.places
-
 -- j and k are places
 pub record TwoPlaces (j k : ℕ) : Type 0 where
   pub first_within : j < places

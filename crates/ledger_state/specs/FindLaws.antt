@@ -2,7 +2,7 @@
 use Rattle.std.specs.Prelude.{◌≡◌, ℕ, ◌<◌, List, Bool, length}
 use Rattle.std.proofs.Math.Path.{sym, ap}
 use Rattle.std.proofs.Common.{◌∙◌}
-use Rattle.std.proofs.Math.Option.{none, some}
+use Rattle.std.specs.Prelude.{None, Some}
 use Rattle.bytes_order.specs.Order.{same}
 use Rattle.bytes_order.specs.OrderLaws.{same→eq, eq→same, same-false→ne}
 use Rattle.bytes_order.specs.Member.{◌∈◌}
@@ -34,7 +34,7 @@ pub place_of : (us : List Update) {u : Update} → u ∈ us → (k : ℕ) × (k 
 place_of us m = ∈-get_or no_update m
 
 -- an id is found at a taken place, whatever the ledger
-pub find-taken : (l : Book) (i : Id) (j : ℕ) → find_in l i ≡ some j → j < l.used
+pub find-taken : (l : Book) (i : Id) (j : ℕ) → find_in l i ≡ Some j → j < l.used
 unfolding find_in
 find-taken l i j e = (first_below-some→ l.used (λ (k : ℕ). same (place_at l k).id i) e).0
 
@@ -46,13 +46,13 @@ module _ (l : Book) (s : List ℕ) (us : List Update) (holds : Holds l s us) whe
   unfolding find_in has-id
   find-below i = ap (λ (n : ℕ). first_below n (has-id i)) holds.number
 
-  pub find-right : (i : Id) (k : ℕ) → find_in l i ≡ some k → (k < length us) × (ident (update_at us k) ≡ i)
+  pub find-right : (i : Id) (k : ℕ) → find_in l i ≡ Some k → (k < length us) × (ident (update_at us k) ≡ i)
   unfolding has-id
   find-right i k e =
       let r = first_below-some→ (length us) (has-id i) (sym (find-below i) ∙ e) in
       (r.0, sym (holds.ids k r.0) ∙ same→eq (place_at l k).id i r.1)
 
-  pub find-all : (k : ℕ) → k < length us → find_in l (ident (update_at us k)) ≡ some k
+  pub find-all : (k : ℕ) → k < length us → find_in l (ident (update_at us k)) ≡ Some k
   unfolding has-id
   find-all k h =
       find-below (ident (update_at us k))
@@ -61,7 +61,7 @@ module _ (l : Book) (s : List ℕ) (us : List Update) (holds : Holds l s us) whe
       (λ j g e.
       distinct-index no_update holds.distinct j k g h (sym (holds.ids j g) ∙ same→eq (place_at l j).id (ident (update_at us k)) e))
 
-  pub find_none : (i : Id) → find_in l i ≡ none → (u : Update) → u ∈ us → ident u ≡ i → ⊥
+  pub find_none : (i : Id) → find_in l i ≡ None → (u : Update) → u ∈ us → ident u ≡ i → ⊥
   unfolding has-id
   find_none i e u m q =
       let p = place_of us m in

@@ -1,13 +1,11 @@
 -- Document 01, "Ledger and store": the bookkeeping, as laws and contracts see it, and the lent store. How a ledger keeps its bookkeeping is not said here: `View` makes
 -- this of the declared struct.
 use Rattle.std.specs.Prelude.{ℕ, ◌+◌, ◌*◌, List, Bool, cond, length, eqb, ltb}
-use Rattle.std.proofs.Math.Option.{Option, none, some}
+use Rattle.std.specs.Prelude.{Option, None, Some}
 use Rattle.bytes_order.specs.Order.{same}
 use Rattle.update_format.specs.Update.{Id, Update, max_length}
 use Rattle.update_format.specs.Decode.{slice, Decoded, decode}
 use Rattle.bitset.specs.Below.{count_below, first_below}
-use Rattle.ledger_state.specs.declared.Found.{Found}
-use Rattle.ledger_state.specs.declared.Found.TheVariants.{At, Nowhere}
 use Rattle.rules.specs.declared.Standing.{Standing}
 use Rattle.rules.specs.declared.Standing.TheVariants.{Waiting}
 pub use Rattle.rules.specs.Terms.{places, Terms, document_terms}
@@ -78,10 +76,6 @@ decoded_at l s k = decoded_in l.terms s (place_at l k) k
 -- the first taken place with this id
 unfoldable pub find_in : Book → Id → Option ℕ
 find_in l i = first_below l.used (λ (k : ℕ). same (place_at l k).id i)
-
-abbrev pub found_of : Option ℕ → Found
-found_of none = Nowhere
-found_of (some k) = At k
 
 -- how many taken places have a standing
 unfoldable pub standing_count : (Standing → Bool) → Book → ℕ

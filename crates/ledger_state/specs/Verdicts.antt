@@ -2,7 +2,7 @@
 use Rattle.std.specs.Prelude.{◌≡◌, ℕ, ◌<◌, List, length}
 use Rattle.std.proofs.Common.{sym, ◌∙◌}
 use Rattle.std.proofs.Math.Path.{ap}
-use Rattle.std.proofs.Math.Option.{Option, none, some}
+use Rattle.std.specs.Prelude.{Option, None, Some}
 use Rattle.bytes_order.specs.Member.{◌∈◌}
 use Rattle.bytes_order.specs.MemberLaws.{∈-get_or}
 use Rattle.update_format.specs.Update.{Update}
@@ -13,8 +13,8 @@ use Rattle.ledger_state.specs.Stands.{ident, no_update, update_at, Holds}
 use Rattle.ledger_state.specs.FindLaws.{find-all}
 
 abbrev verdict_at : Book → Option ℕ → Standing
-verdict_at l none = Waiting
-verdict_at l (some k) = (place_at l k).standing
+verdict_at l None = Waiting
+verdict_at l (Some k) = (place_at l k).standing
 
 pub verdict : Book → Update → Standing
 verdict l u = verdict_at l (find_in l (ident u))

@@ -1,8 +1,9 @@
 // The bookkeeping of a ledger: places, standings and ancestor words, by value; and the lent store.
 #![tactic(auto)]
 
-pub mod find;
 pub mod places;
+mod reading;
+mod replica;
 pub mod store;
 
 ghost use Rattle.std.specs.Prelude.{◌≡◌};
@@ -10,6 +11,7 @@ ghost use Rattle.ledger_state.specs.View.{fresh_ledger};
 ghost use Rattle.ledger_state.specs.Methods.{TakesPlace, ChangesStanding};
 
 use bitset::Set;
+pub use replica::Replica;
 pub use rules::Standing;
 use update_format::Id;
 use update_format::numbers::{ID_LENGTH, MAX_LENGTH};
@@ -36,14 +38,8 @@ pub struct Ledger {
     pub places: [Place; PLACES],
 }
 
-// Where an id is.
-#[derive(Clone, Copy)]
-pub enum Found {
-    At(usize),
-    Nowhere,
-}
-
 // A ledger with no place taken.
+#[tactic(auto, unfolding(crate::specs::View::fresh_ledger))]
 pub fn fresh() -> Ledger
     ensures { result ≡ fresh_ledger }
 {
@@ -69,8 +65,8 @@ impl Ledger {
             return self;
         }
         self.places[next] = Place {
-            id: id,
-            length: length,
+            id,
+            length,
             ancestors: 0,
             standing: Standing::Waiting,
         };
@@ -85,13 +81,10 @@ impl Ledger {
         if PLACES <= k {
             return self;
         }
-        let old = self.places[k];
-        let id = old.id;
         self.places[k] = Place {
-            id: id,
-            length: old.length,
-            ancestors: ancestors,
-            standing: standing,
+            ancestors,
+            standing,
+            ..self.places[k]
         };
         self
     }

@@ -9,6 +9,7 @@ use bytes_copy::copy;
 use update_format::numbers::MAX_LENGTH;
 
 // Writes one update into place k: "no other byte changes".
+#[tactic(auto, using(bytes_copy::specs::OverwrittenLaws::put_back), unfolding(crate::specs::State::start_of))]
 pub fn write_at(store: &mut [u8], k: usize, update: &[u8])
     requires { WritableAt store.old k update.now }
     ensures { store.new ≡ overwritten store.old (start_of document_terms k) update.now }
@@ -18,6 +19,7 @@ pub fn write_at(store: &mut [u8], k: usize, update: &[u8])
 }
 
 // The bytes of place k, of this length.
+#[tactic(auto, unfolding(crate::specs::State::start_of))]
 pub fn stored(store: &[u8], k: usize, len: usize) -> &[u8]
     requires { k < places }
     ensures { result.now ≡ slice store.now (start_of document_terms k) len }

@@ -1,6 +1,4 @@
 pub mod Walking
-pub mod Filling
-pub mod Finishing
 pub mod LayoutLaws
 pub mod StepLaws
 pub mod LookupLaws

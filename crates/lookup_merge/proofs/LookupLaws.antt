@@ -10,7 +10,7 @@ use Rattle.bytes_order.specs.MemberLaws.{∈-cases, map-cong}
 use Rattle.bytes_order.specs.Ascending.{Ascending}
 use Rattle.bytes_order.specs.SortLaws.{ascending-head, ascending-tail}
 use Rattle.bytes_order.specs.Compare.{order_of}
-use Rattle.bytes_order.specs.declared.Order.TheVariants.{Less, Equal, Greater}
+use Rattle.std.specs.declared.cmp.Ordering.TheVariants.{Less, Equal, Greater}
 use Rattle.update_format.specs.Update.{Id}
 use Rattle.standing_bytes.specs.StandingByte.{unknown_byte}
 use Rattle.lookup_merge.specs.Merge.{Stored, id_of, merge}

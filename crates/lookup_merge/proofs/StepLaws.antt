@@ -2,7 +2,7 @@
 use Rattle.std.specs.Prelude.{ℕ, suc, ◌+◌, ◌*◌, ◌<◌, ◌≤◌, ◌≡◌, List, [], ◌∷◌, ◌++◌, map, length, get_or, drop}
 use Rattle.std.proofs.Common.{sym, ap, ap₂, ◌∙◌, append_assoc, arith, add-one, drop_of_length-le}
 use Rattle.bytes_order.specs.Compare.{order_of}
-use Rattle.bytes_order.specs.declared.Order.TheVariants.{Less, Equal, Greater}
+use Rattle.std.specs.declared.cmp.Ordering.TheVariants.{Less, Equal, Greater}
 use Rattle.update_format.specs.Update.{id_length, Id}
 use Rattle.update_format.specs.Decode.{slice, id_count, ids_in}
 use Rattle.update_format.specs.Slices.{ids-length}
@@ -17,7 +17,7 @@ abbrev pub after : List ℕ → ℕ → Merged → Merged
 after done n m = record { answers = done ++ m.answers; comparisons = n + m.comparisons }
 
 -- one comparison more, and a byte with it
-counted : (done : List ℕ) (n : ℕ) (m : Merged) → after done n (record { answers = m.answers; comparisons = suc m.comparisons }) ≡ after done (n + 1) m
+pub counted : (done : List ℕ) (n : ℕ) (m : Merged) → after done n (record { answers = m.answers; comparisons = suc m.comparisons }) ≡ after done (n + 1) m
 counted done n m =
     let e : n + suc m.comparisons ≡ n + 1 + m.comparisons = omega arith in
     ap (λ (c : ℕ). record { answers = done ++ m.answers; comparisons = c }) e

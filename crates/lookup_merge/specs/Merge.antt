@@ -2,15 +2,15 @@
 -- returns how many comparisons of two ids that walk made: the smaller id is passed, equal ids are passed together, and the walk ends when either list does."
 use Rattle.std.specs.Prelude.{ℕ, suc, List, [], ◌∷◌, map}
 use Rattle.bytes_order.specs.Compare.{order_of}
-use Rattle.bytes_order.specs.declared.Order.{Order}
-use Rattle.bytes_order.specs.declared.Order.TheVariants.{Less, Equal, Greater}
+use Rattle.std.specs.declared.cmp.Ordering.{Ordering}
+use Rattle.std.specs.declared.cmp.Ordering.TheVariants.{Less, Equal, Greater}
 use Rattle.update_format.specs.Update.{Id}
 use Rattle.standing_bytes.specs.StandingByte.{unknown_byte}
+use Rattle.lookup_merge.specs.declared.Stored.{Stored as DeclaredStored}
 
 -- a stored id, and the byte of its standing
-pub record Stored : Type 0 where
-  pub id : Id
-  pub byte : ℕ
+abbrev pub Stored : Type 0
+Stored = DeclaredStored
 
 abbrev pub id_of : Stored → Id
 id_of x = x.id
@@ -25,7 +25,7 @@ abbrev pub answered : ℕ → Merged → Merged
 answered byte m = record { answers = byte ∷ m.answers; comparisons = m.comparisons }
 
 -- one comparison more: it tells how the stored id stands to the asked one, and so which of three walks goes on
-abbrev pub compared : Order → Merged → Merged → Merged → Merged
+abbrev pub compared : Ordering → Merged → Merged → Merged → Merged
 compared Less less equal greater = record { answers = less.answers; comparisons = suc less.comparisons }
 compared Equal less equal greater = record { answers = equal.answers; comparisons = suc equal.comparisons }
 compared Greater less equal greater = record { answers = greater.answers; comparisons = suc greater.comparisons }

@@ -1,8 +1,8 @@
 -- The walk, step by step, as the request's sentence has it.
 use Rattle.std.specs.Prelude.{suc, ◌≡◌, refl, List, [], ◌∷◌, map}
 use Rattle.bytes_order.specs.Compare.{order_of}
-use Rattle.bytes_order.specs.declared.Order.{Order}
-use Rattle.bytes_order.specs.declared.Order.TheVariants.{Less, Equal, Greater}
+use Rattle.std.specs.declared.cmp.Ordering.{Ordering}
+use Rattle.std.specs.declared.cmp.Ordering.TheVariants.{Less, Equal, Greater}
 use Rattle.update_format.specs.Update.{Id}
 use Rattle.standing_bytes.specs.StandingByte.{unknown_byte}
 use Rattle.lookup_merge.specs.Merge.{Stored, answered, compared, merge_from, merge}
@@ -19,7 +19,7 @@ unfolding merge
 merge-stored-end is = refl
 
 module _ (x : Stored) (xs : List Stored) (i : Id) (is : List Id) where
-  by_order : (o : Order) → order_of x.id i ≡ o
+  by_order : (o : Ordering) → order_of x.id i ≡ o
       → merge (x ∷ xs) (i ∷ is) ≡ compared o (merge xs (i ∷ is)) (answered x.byte (merge xs is)) (answered unknown_byte (merge (x ∷ xs) is))
   unfolding merge merge_from
   by_order o e = rw e

@@ -1,5 +1,5 @@
 -- What the entry `standings` promises, for every ledger, store, run of asked ids and output buffer.
-use Rattle.std.specs.Prelude.{◌≡◌, ℕ, ◌≤◌, ◌<◌, List, ◌++◌, map, true, false, length, drop}
+use Rattle.std.specs.Prelude.{◌≡◌, ℕ, ◌≤◌, ◌<◌, List, ◌++◌, map, true, false, length, drop, Result, Ok, Err}
 use Rattle.bytes_order.specs.Order.{ascending}
 use Rattle.bytes_order.specs.Member.{◌∈◌}
 use Rattle.bytes_order.specs.Ascending.{Ascending}
@@ -10,17 +10,16 @@ use Rattle.lookup_merge.specs.Merge.{Stored, Merged, merge}
 use Rattle.ledger_state.specs.State.{Book, place_at}
 use Rattle.ledger_state.specs.Row1.{sound}
 use Rattle.ledger_refusals.specs.Numbers.{row1_number, row8_number, row9_number, row11_number, refusal_number}
-use Rattle.lookup_standings.specs.declared.LookedUp.{LookedUp}
-use Rattle.lookup_standings.specs.declared.LookedUp.TheVariants.{Compared, Refused}
+use Rattle.ledger_refusals.specs.declared.Refusal.{Refusal}
 
 -- the values of an answer: how many comparisons of two ids were made, or the number of the row
 pub data LookupValues : Type 0 where
   compared_ids : ℕ → LookupValues
   refused_as : ℕ → LookupValues
 
-abbrev pub looked_up : LookedUp → LookupValues
-looked_up (Compared n) = compared_ids n
-looked_up (Refused r) = refused_as (refusal_number r)
+abbrev pub looked_up : Result ℕ Refusal → LookupValues
+looked_up (Ok n) = compared_ids n
+looked_up (Err r) = refused_as (refusal_number r)
 
 module _ (l : Book) where
   -- the id of a place, and the place as a stored id with the byte of its standing

@@ -1,18 +1,21 @@
 -- What the copy check `compare` promises, for any two lists, stores and buffers.
 use Rattle.std.specs.Prelude.{ℕ, List, cond, length, take}
+use Rattle.std.specs.Prelude.{Result, Ok, Err}
 use Rattle.bytes_order.specs.Order.{same}
 use Rattle.rules.specs.declared.Form.TheVariants.{Full}
 use Rattle.ledger_state.specs.declared.Ledger.{Ledger}
+use Rattle.ledger_refusals.specs.declared.Refusal.{Refusal}
 use Rattle.ledger_refusals.specs.Numbers.{refusal_number, put_bytes, refused_by}
-use Rattle.ledger.specs.declared.Reported.{Reported}
 use Rattle.ledger_state.specs.View.{book_of, fresh_ledger}
 use Rattle.ledger_offering.specs.Calls.{Offers}
 use Rattle.ledger.specs.Report.{ReportRow, Reporting}
-use Rattle.replicas_check.specs.declared.Compared.{Compared}
-use Rattle.replicas_check.specs.declared.Compared.TheVariants.{Same, Different, FirstUnreported, SecondUnreported}
+use Rattle.replicas_check.specs.declared.Comparison.{Comparison}
+use Rattle.replicas_check.specs.declared.Comparison.TheVariants.{Same, Different}
+use Rattle.replicas_check.specs.declared.Unreported.{Unreported}
+use Rattle.replicas_check.specs.declared.Unreported.TheVariants.{First, Second}
 
 -- One copy: offers of the list xs to a fresh ledger with the store s, and the full report into the buffer o.
-pub record OneCopy (xs : List (List ℕ)) (s o : List ℕ) (r : Reported) (s' o' : List ℕ) : Type 0 where
+pub record OneCopy (xs : List (List ℕ)) (s o : List ℕ) (r : Result ℕ Refusal) (s' o' : List ℕ) : Type 0 where
   pub ledger : Ledger
   pub calls : Offers fresh_ledger s xs ledger s'
   pub reports : Reporting Full (book_of ledger) s' o r o'
@@ -25,11 +28,11 @@ pub data CheckValues : Type 0 where
   first_refused : ℕ → CheckValues
   second_refused : ℕ → CheckValues
 
-abbrev pub check_values : Compared → CheckValues
-check_values (Same n) = same_of n
-check_values (Different n k) = different_of n k
-check_values (FirstUnreported e) = first_refused (refusal_number e)
-check_values (SecondUnreported e) = second_refused (refusal_number e)
+abbrev pub check_values : Result Comparison Unreported → CheckValues
+check_values (Ok (Same n)) = same_of n
+check_values (Ok (Different n k)) = different_of n k
+check_values (Err (First e)) = first_refused (refusal_number e)
+check_values (Err (Second e)) = second_refused (refusal_number e)
 
 -- the answer for two full reports
 unfoldable pub compared_of : List ℕ → List ℕ → CheckValues
@@ -42,9 +45,6 @@ pub data SecondRow (first : List ℕ) (ys : List (List ℕ)) (t p : List ℕ) : 
       → SecondRow first ys t p (second_refused i) t' p
   compared : {l : Ledger} {t' p' : List ℕ} (k : ℕ) → Offers fresh_ledger t ys l t' → ReportRow Full (book_of l) t' p (put_bytes k) p'
       → SecondRow first ys t p (compared_of first (take k p')) t' p'
-
-abbrev pub SecondChecking : List ℕ → List (List ℕ) → List ℕ → List ℕ → Compared → List ℕ → List ℕ → Type 0
-SecondChecking first ys t p r t' p' = SecondRow first ys t p (check_values r) t' p'
 
 -- The check of two copies: lists xs and ys, stores s and t, buffers o and p. The values of the answer, and the stores and the buffers as they are left. A constructor
 -- for each ending. A copy that gave no report was offered its list, and its buffer is as it was; where that is the first, the second copy is left as it was.
@@ -61,7 +61,7 @@ pub data CheckRow (xs ys : List (List ℕ)) (s t o p : List ℕ) : CheckValues �
       → CheckRow xs ys s t o p (compared_of (take n o') (take k p')) s' t' o' p'
 
 -- the promise of `compare`
-abbrev pub Checking : List (List ℕ) → List (List ℕ) → List ℕ → List ℕ → List ℕ → List ℕ → Compared → List ℕ → List ℕ → List ℕ → List ℕ → Type 0
+abbrev pub Checking : List (List ℕ) → List (List ℕ) → List ℕ → List ℕ → List ℕ → List ℕ → Result Comparison Unreported → List ℕ → List ℕ → List ℕ → List ℕ → Type 0
 Checking xs ys s t o p r s' t' o' p' = CheckRow xs ys s t o p (check_values r) s' t' o' p'
 
 -- the endings of the second copy, after a first report of n bytes

@@ -3,14 +3,13 @@
 -- The reports are equal, byte for byte, exactly when the two sets of well-formed updates are equal; and each report is, byte for byte, the one that the rules
 -- give for its set: laid out from parts that are those of the rules' definitions. What is assumed: neither list holds more than 64 distinct well-formed updates, and no two different ones of both lists share a SHA-256.
 -- Assumes nothing else. Of short reports (document 02, E10) the same is claimed, but for what unequal sets show.
-use Rattle.std.specs.Prelude.{◌≡◌, ℕ, List, length, take}
+use Rattle.std.specs.Prelude.{◌≡◌, ℕ, List, length, take, Ok}
 use Rattle.update_format.specs.Update.{document_bounds}
 use Rattle.rules.specs.declared.Form.{Form}
 use Rattle.rules.specs.declared.Form.TheVariants.{Full}
 use Rattle.ledger_state.specs.declared.Ledger.{Ledger}
 use Rattle.ledger_state.specs.State.{document_terms, store_length_of}
 use Rattle.ledger_state.specs.View.{book_of, fresh_ledger}
-use Rattle.ledger.specs.declared.Reported.TheVariants.{Written}
 use Rattle.ledger_offering.specs.Calls.{Offers}
 use Rattle.ledger.specs.Report.{Reporting}
 use Rattle.ledger.specs.AfterOffers.{LaidOut}
@@ -27,7 +26,7 @@ pub record CopyOf {C : Type 0} (Made : Ledger → List ℕ → C → Ledger → 
   pub buffer : List ℕ
   pub buffer_after : List ℕ
   pub answer : ℕ
-  pub reported : Reporting form (book_of ledger) store buffer (Written answer) buffer_after
+  pub reported : Reporting form (book_of ledger) store buffer (Ok answer) buffer_after
   pub shown : text ≡ take answer buffer_after
 
 -- a copy to which the byte strings are offered

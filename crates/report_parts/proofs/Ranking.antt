@@ -15,8 +15,7 @@ use Rattle.ledger_relations.specs.PlaceTests.{held_at, rank_at, id_order}
 use Rattle.ledger_relations.specs.Effects.{ranked_in}
 use Rattle.report_parts.specs.PlaceParts.{insert_at, by_rank, after, put_by, put_entry, put_all, entries_of}
 use Rattle.update_fields.specs.Fields.{anchor_in}
-use Rattle.ledger_sorting.specs.declared.Places.{Places}
-use Rattle.ledger_sorting.specs.PlaceLists.{places_in, ins, PlaceList, Lists}
+use Rattle.ledger_sorting.specs.PlaceLists.{Places, ins, PlaceList, Lists}
 use Rattle.report_parts.specs.Ranked.{ranked_at}
 use Rattle.report_parts.specs.LengthLaws.{by-rank-most}
 use Rattle.ledger_sorting.proofs.Inserting.{renamed}
@@ -97,17 +96,17 @@ module _ (l : Book) (s : List ℕ) where
   -- the entries once place k is met: with it put among them, if it passes
   module _ (q : ℕ → Bool) (es : Places) (k : ℕ) {b : Bool} (e : b ≡ q k) where
     abbrev pub Met : Places → Type 0
-    Met es' = Lists es' (put_all l s (places_in es) (keep q (k ∷ []))) × (es'.count ≡ es.count + length (keep q (k ∷ [])))
+    Met es' = Lists es' (put_all l s es.items (keep q (k ∷ []))) × (length es'.items ≡ length es.items + length (keep q (k ∷ [])))
 
-    pub met-put : {es' r : Places} → b ≡ true → Lists r (put_entry l s k (places_in es)) × (r.count ≡ es.count + 1) → es' ≡ r → Met es'
+    pub met-put : {es' r : Places} → b ≡ true → Lists r (put_entry l s k es.items) × (length r.items ≡ length es.items + 1) → es' ≡ r → Met es'
     met-put t h a =
         let f = keep_one q k e t in
-        subst Met (sym a) (renamed (put_one (places_in es) k f) h.0, omega (arith, h.1, ap length f))
+        subst Met (sym a) (renamed (put_one es.items k f) h.0, omega (arith, h.1, ap length f))
 
-    pub met-left : {es' : Places} → b ≡ false → PlaceList es → es' ≡ es → Met es'
+    pub met-left : {es' : Places} → b ≡ false → PlaceList es.items → es' ≡ es → Met es'
     met-left t h a =
         let f = keep-no q k e t in
-        subst Met (sym a) (record { is_list = h; are = put-none (places_in es) f }, omega (arith, ap length f))
+        subst Met (sym a) (record { is_list = h; are = put-none es.items f }, omega (arith, ap length f))
 
   -- one entry
   pub put_first : (k : ℕ) (xs a : List ℕ) {b : Bool} → a ≡ anchor_in (decoded_at l s k) → b ≡ same a beginning → b ≡ true → ins 0 k xs ≡ put_entry l s k xs

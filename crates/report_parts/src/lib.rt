@@ -4,7 +4,7 @@
 pub mod list;
 pub mod marks;
 
-// What of a place marks its author: it is one of two that are a fork; it is a fault.
+// What of a place marks its author: it is one of two that are a fork; it is a fault. The definitions and the theorems of specs/ are by it.
 #[derive(Clone, Copy)]
 pub enum Evidence {
     Fork,

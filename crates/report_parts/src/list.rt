@@ -1,84 +1,68 @@
 // The entries of the list in their order.
 ghost use Rattle.std.specs.Prelude.{◌≡◌, List, ℕ, ◌+◌, ◌≤◌, length};
 ghost use Rattle.bytes_order.specs.Member.{keep};
-ghost use Rattle.ledger_state.specs.View.{book_of};
+ghost use Rattle.ledger_state.specs.State.{places};
+ghost use Rattle.ledger_state.specs.View.{book, store_of};
 ghost use Rattle.report_parts.specs.PlaceParts.{after, put_entry, put_all, entries_of};
-ghost use Rattle.ledger_sorting.specs.PlaceLists.{places_in, ins, PlaceList, Lists, RoomFor, InOrder};
+ghost use Rattle.ledger_sorting.specs.PlaceLists.{ins, PlaceList, Lists, RoomFor, InOrder};
 ghost use Rattle.report_parts.specs.Ranked.{ranked_at, PlaceAmong, RankRoom};
 
 use ledger_sorting::Places;
-use ledger_state::find::has_id;
-use ledger_state::store::stored;
-use ledger_state::{Ledger, PLACES};
+use ledger_state::{PLACES, Replica};
 use update_format::numbers::ID_LENGTH;
 
 // The index after the first entry with this id; past the end where there is none.
-fn index_after(l: Ledger, entries: Places, id: &[u8]) -> usize
-    requires { PlaceList entries }
-    ensures { (result ≤ entries.count) × ((s : List ℕ) (k : ℕ) → ins result k (places_in entries) ≡ after (book_of l) s id.now k (places_in entries)) }
+fn index_after(replica: &Replica, entries: &[usize], id: &[u8]) -> usize
+    requires { PlaceList entries.now }
+    ensures { (result ≤ length entries.now) × ((s : List ℕ) (k : ℕ) → ins result k entries.now ≡ after (book replica.now) s id.now k entries.now) }
 {
-    let count = entries.count;
-    let mut i: usize = 0;
-    while i < count {
-        let e = entries.items[i];
-        if has_id(l.places[e], id) {
-            return i + 1;
-        }
-        i += 1;
-    }
-    i
+    entries
+        .iter()
+        .position(|e| bytes_order::same(&replica.ledger.places[*e].id, id))
+        .map_or(entries.len(), |i| i + 1)
 }
 
 // The index where place k is put.
-fn index_of(l: Ledger, store: &[u8], entries: Places, k: usize) -> usize
-    requires { PlaceAmong entries k }
-    ensures { (result ≤ entries.count) × (ins result k (places_in entries) ≡ put_entry (book_of l) store.now k (places_in entries)) }
+fn index_of(replica: &Replica, entries: &[usize], k: usize) -> usize
+    requires { PlaceAmong entries.now k }
+    ensures { (result ≤ length entries.now) × (ins result k entries.now ≡ put_entry (book replica.now) (store_of replica.now) k entries.now) }
 {
-    let p = l.places[k];
-    let anchor = update_fields::anchor_of(stored(store, k, p.length));
-    let zero = [0u8; ID_LENGTH];
-    if bytes_order::same(anchor, &zero) {
+    let anchor = update_fields::anchor_of(replica.update(k));
+    if bytes_order::same(anchor, &[0u8; ID_LENGTH]) {
         return 0;
     }
-    index_after(l, entries, anchor)
+    index_after(replica, entries, anchor)
 }
 
-// The entries with place k put among them.
-fn put(l: Ledger, store: &[u8], entries: Places, k: usize) -> Places
-    requires { RoomFor entries k }
-    ensures { Lists result (put_entry (book_of l) store.now k (places_in entries)) × (result.count ≡ entries.count + 1) }
+// Puts place k among the entries.
+fn put(replica: &Replica, entries: &mut Places, k: usize)
+    requires { RoomFor entries.old k }
+    ensures { Lists entries.new (put_entry (book replica.now) (store_of replica.now) k entries.old.items) × (length entries.new.items ≡ length entries.old.items + 1) }
 {
-    entries.insert(index_of(l, store, entries, k), k)
+    let at = index_of(replica, entries.as_slice(), k);
+    entries.insert(at, k);
 }
 
-// The entries with those of rank n put among them, in order.
-fn put_rank(l: Ledger, store: &[u8], order: Places, n: usize, entries: Places) -> Places
-    requires { RankRoom (book_of l) store.now order n entries }
-    ensures { Lists result (put_all (book_of l) store.now (places_in entries) (keep (ranked_at (book_of l) store.now n) (places_in order))) × (result.count ≡ entries.count + length (keep (ranked_at (book_of l) store.now n) (places_in order))) }
+// Puts those of rank n among the entries, in order.
+fn put_rank(replica: &Replica, order: &[usize], n: usize, entries: &mut Places)
+    requires { RankRoom (book replica.now) (store_of replica.now) order.now n entries.old }
+    ensures { Lists entries.new (put_all (book replica.now) (store_of replica.now) entries.old.items (keep (ranked_at (book replica.now) (store_of replica.now) n) order.now)) × (length entries.new.items ≡ length entries.old.items + length (keep (ranked_at (book replica.now) (store_of replica.now) n) order.now)) }
 {
-    let count = order.count;
-    let mut all = entries;
-    let mut i: usize = 0;
-    while i < count {
-        let k = order.items[i];
-        if ledger_relations::is_ranked(store, n, l.places[k], k) {
-            all = put(l, store, all, k);
+    for k in order {
+        if ledger_relations::is_ranked(replica, n, *k) {
+            put(replica, entries, *k);
         }
-        i += 1;
     }
-    all
 }
 
 // The held Inserts, of lower rank first, each put among those before it. A rank counts ancestors, so it is below PLACES.
-pub fn entries(l: Ledger, store: &[u8], order: Places) -> Places
-    requires { InOrder (book_of l) store.now order }
-    ensures { Lists result (entries_of (book_of l) store.now) }
+pub fn entries(replica: &Replica, order: &[usize]) -> Places
+    requires { InOrder (book replica.now) (store_of replica.now) order.now }
+    ensures { Lists result (entries_of (book replica.now) (store_of replica.now)) }
 {
-    let mut all = Places::none();
-    let mut n: usize = 0;
-    while n < PLACES {
-        all = put_rank(l, store, order, n, all);
-        n += 1;
+    let mut all = Places::new();
+    for n in 0..PLACES {
+        put_rank(replica, order, n, &mut all);
     }
     all
 }

@@ -1,59 +1,46 @@
 // The marked authors.
-ghost use Rattle.std.specs.Prelude.{◌≡◌, ◌&&◌, ◌||◌, eqb, ℕ, ◌≤◌};
+ghost use Rattle.std.specs.Prelude.{◌≡◌, ◌&&◌, ◌||◌, eqb, ℕ, ◌<◌};
 ghost use Rattle.bitset.specs.Bits.{has};
 ghost use Rattle.ledger_relations.specs.PlaceTests.{author_at};
 ghost use Rattle.ledger_state.specs.State.{places};
-ghost use Rattle.ledger_state.specs.View.{book_of};
-ghost use Rattle.ledger_state.specs.Asked.{PlaceIn};
+ghost use Rattle.ledger_state.specs.View.{book, store_of};
 ghost use Rattle.report_parts.specs.PlaceParts.{evidence_at, marked_by};
 
 use crate::Evidence;
 use bitset::Set;
-use ledger_state::Ledger;
-use ledger_state::store::stored;
+use ledger_state::Replica;
 
 // Whether place k is such evidence.
-fn is_evidence(l: Ledger, store: &[u8], evidence: Evidence, k: usize) -> bool
-    requires { PlaceIn (book_of l) k }
-    ensures { result ≡ evidence_at (book_of l) store.now evidence k }
+fn is_evidence(replica: &Replica, evidence: Evidence, k: usize) -> bool
+    requires { k < places }
+    ensures { result ≡ evidence_at (book replica.now) (store_of replica.now) evidence k }
 {
     match evidence {
-        Evidence::Fork => ledger_relations::is_forked(l, store, k),
-        Evidence::Fault => ledger_relations::is_fault(l, store, k),
+        Evidence::Fork => ledger_relations::is_forked(replica, k),
+        Evidence::Fault => ledger_relations::is_fault(replica, k),
     }
 }
 
 // The set with the author of place k, if the place is such evidence.
-fn with_author(l: Ledger, store: &[u8], evidence: Evidence, authors: Set, k: usize) -> Set
-    requires { PlaceIn (book_of l) k }
-    ensures { (a : ℕ) → has result a ≡ has authors a || (eqb (author_at (book_of l) store.now k) a && evidence_at (book_of l) store.now evidence k) }
+fn with_author(replica: &Replica, evidence: Evidence, authors: Set, k: usize) -> Set
+    requires { k < places }
+    ensures { (a : ℕ) → has result a ≡ has authors a || (eqb (author_at (book replica.now) (store_of replica.now) k) a && evidence_at (book replica.now) (store_of replica.now) evidence k) }
 {
-    if is_evidence(l, store, evidence, k) {
-        let p = l.places[k];
-        let author = update_fields::author_of(stored(store, k, p.length));
-        bitset::including(authors, wide(author))
+    if is_evidence(replica, evidence, k) {
+        let author = update_fields::author_of(replica.update(k));
+        bitset::including(authors, usize::from(author))
     } else {
         authors
     }
 }
 
 // The set of the authors that such evidence marks, bit a for author a.
-pub fn marked(l: Ledger, store: &[u8], evidence: Evidence) -> Set
-    requires { (book_of l).used ≤ places }
-    ensures { (a : ℕ) → has result a ≡ marked_by (book_of l) store.now evidence a }
+pub fn marked(replica: &Replica, evidence: Evidence) -> Set
+    ensures { (a : ℕ) → has result a ≡ marked_by (book replica.now) (store_of replica.now) evidence a }
 {
-    let used = l.used;
     let mut authors: Set = 0;
-    let mut k: usize = 0;
-    while k < used {
-        authors = with_author(l, store, evidence, authors, k);
-        k += 1;
+    for k in 0..replica.ledger.used {
+        authors = with_author(replica, evidence, authors, k);
     }
     authors
-}
-
-fn wide(x: u8) -> usize
-    ensures { result ≡ x }
-{
-    x as usize
 }

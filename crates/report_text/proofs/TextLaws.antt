@@ -1,9 +1,13 @@
 -- The text of the report, piece by piece as it is printed.
-use Prim.Native.Nat.{ℕ, ◌+◌}
+use Prim.Native.Nat.{ℕ, ◌+◌, ◌≤◌, ◌<◌}
 use mathlib.Core.Path.{◌≡◌, refl, sym, ap, ◌∙◌}
-use mathlib.Core.List.{List, [], ◌∷◌, ◌++◌}
-use mathlib.Core.Bool.{Bool, true, false, cond}
-use lib.ListN.{drop}
+use mathlib.Core.List.{List, [], ◌∷◌, ◌++◌, append-nil}
+use mathlib.Core.Bool.{Bool, true, false}
+use lib.ListN.{length, get_or, take}
+use lib.Seq.{take_all}
+use Rattle.std.proofs.lemmas.List.{take_more}
+use Rattle.bytes_order.specs.MemberLaws.{keep_append, concat_map-append}
+use Rattle.ledger_sorting.proofs.Keeping.{keep_one, keep-no}
 use Rattle.bytes_order.specs.Member.{keep, concat_map}
 use Rattle.bytes_ascii.specs.Ascii.{codes, ascii}
 use Rattle.rules.specs.declared.Form.{Form}
@@ -27,19 +31,35 @@ line-of l s k Set = refl
 line-of l s k Entries = refl
 
 module _ (l : Book) (s : List ℕ) where
-  pub lines_next : (p : Part) (xs : List ℕ) (i k : ℕ) → drop i xs ≡ k ∷ drop (i + 1) xs →
-      cond (listed_in l s p k) (line_of l s p k) [] ++ part_lines l s p (drop (i + 1) xs) ≡ part_lines l s p (drop i xs)
-  unfolding part_lines concat_map keep
-  lines_next p xs i k d = sym (ap (part_lines l s p) d ∙ go (listed_in l s p k))
-    where
-      go : (b : Bool) → concat_map (line_of l s p) (cond b (k ∷ keep (listed_in l s p) (drop (i + 1) xs)) (keep (listed_in l s p) (drop (i + 1) xs)))
-          ≡ cond b (line_of l s p k) [] ++ concat_map (line_of l s p) (keep (listed_in l s p) (drop (i + 1) xs))
-      go true = refl
-      go false = refl
+  -- the lines of a part, one place after the other
+  module _ (p : Part) (xs : List ℕ) where
+    pub lines_none : [] ≡ part_lines l s p (take 0 xs)
+    unfolding part_lines concat_map keep
+    lines_none = refl
 
-  pub lines_end : (p : Part) (xs : List ℕ) (i : ℕ) → drop i xs ≡ [] → [] ≡ part_lines l s p (drop i xs)
-  unfolding part_lines concat_map keep
-  lines_end p xs i d = sym (ap (part_lines l s p) d)
+    module _ (i : ℕ) (h : i < length xs) where
+      lines_more : part_lines l s p (take i xs) ++ part_lines l s p (get_or xs i 0 ∷ []) ≡ part_lines l s p (take (i + 1) xs)
+      unfolding part_lines
+      lines_more =
+          sym (concat_map-append (line_of l s p) (keep (listed_in l s p) (take i xs)) (keep (listed_in l s p) (get_or xs i 0 ∷ [])))
+          ∙ ap (concat_map (line_of l s p)) (sym (keep_append (listed_in l s p) (take i xs) (get_or xs i 0 ∷ [])))
+          ∙ ap (part_lines l s p) (sym (take_more xs i 0 h))
+
+      pub lines_yes : {b : Bool} → b ≡ listed_in l s p (get_or xs i 0) → b ≡ true → part_lines l s p (take i xs) ++ line_of l s p (get_or xs i 0) ≡ part_lines l s p (take (i + 1) xs)
+      unfolding part_lines concat_map
+      lines_yes e f =
+          ap (λ (t : List ℕ). part_lines l s p (take i xs) ++ t) (sym (append-nil (line_of l s p (get_or xs i 0))) ∙ ap (concat_map (line_of l s p)) (keep_one (listed_in l s p) (get_or xs i 0) e f))
+          ∙ lines_more
+
+      pub lines_no : {b : Bool} → b ≡ listed_in l s p (get_or xs i 0) → b ≡ false → part_lines l s p (take i xs) ≡ part_lines l s p (take (i + 1) xs)
+      unfolding part_lines concat_map
+      lines_no e f =
+          sym (append-nil (part_lines l s p (take i xs)))
+          ∙ ap (λ (ks : List ℕ). part_lines l s p (take i xs) ++ concat_map (line_of l s p) ks) (keep-no (listed_in l s p) (get_or xs i 0) e f)
+          ∙ lines_more
+
+    pub lines_all : (i : ℕ) → length xs ≤ i → part_lines l s p (take i xs) ≡ part_lines l s p xs
+    lines_all i h = ap (part_lines l s p) (take_all i xs h)
 
   pub part-is : (p : Part) (xs : List ℕ) → word_of p ++ (part_lines l s p xs ++ (41 ∷ 10 ∷ [])) ≡ part_of l s p xs
   unfolding part_of ascii codes

@@ -11,9 +11,7 @@ use Rattle.report_parts.specs.PlaceParts.{set_entry_at, value_at}
 use Rattle.report_wording.specs.declared.Part.{Part}
 use Rattle.report_wording.specs.declared.Part.TheVariants.{Held, Heads, Waiting, Void, Set, List as Entries}
 use Rattle.report_wording.specs.Lines.{max_report_line, word_of}
-use Rattle.ledger_state.specs.Asked.{PlaceIn}
 use Rattle.bytes_print.specs.Page.{farthest}
-use Rattle.ledger_sorting.specs.declared.Places.{Places}
 use Rattle.ledger_sorting.specs.PlaceLists.{PlaceList, InOrder}
 
 -- the part of the marks: its word, a line for each of these marks, the closing bracket
@@ -42,20 +40,14 @@ pub record LineAt (at k : ℕ) : Type 0 where
   pub line_within : at + max_report_line ≤ farthest
   pub place_within : k < places
 
--- .. of the bookkeeping
-pub record ShownLine (l : Book) (at k : ℕ) : Type 0 where
-  pub place_in : PlaceIn l k
-  pub line_within : at + max_report_line ≤ farthest
-
 -- the page has room for n bytes at byte `at`, for what is printed of the places of a list
-pub record ListOnPage (l : Book) (o : Places) (at n : ℕ) : Type 0 where
-  pub used_within : l.used ≤ l.terms.places
-  pub is_list : PlaceList o
+pub record ListOnPage (xs : List ℕ) (at n : ℕ) : Type 0 where
+  pub is_list : PlaceList xs
   pub page_within : at + n ≤ farthest
 
--- the list has the places in their order, and what is printed before them ends at byte `at`, which is at most n
-pub record InOrderFrom (l : Book) (s : List ℕ) (o : Places) (at n : ℕ) : Type 0 where
-  pub in_order : InOrder l s o
+-- they are the places in their order, and what is printed before them ends at byte `at`, which is at most n
+pub record InOrderFrom (l : Book) (s : List ℕ) (xs : List ℕ) (at n : ℕ) : Type 0 where
+  pub in_order : InOrder l s xs
   pub at_within : at ≤ n
 
 module _ (l : Book) (s : List ℕ) where

@@ -2,7 +2,7 @@
 #![tactic(auto)]
 
 // How an update of a set stands: document 01, "Held, waiting, void".
-#[derive(Clone, Copy)]
+#[derive(Clone, Copy, PartialEq, Eq)]
 pub enum Standing {
     Held,
     Waiting,
@@ -10,7 +10,7 @@ pub enum Standing {
 }
 
 // How one update stands to another: document 02's four answers, E4.
-#[derive(Clone, Copy)]
+#[derive(Clone, Copy, PartialEq, Eq)]
 pub enum CausalOrder {
     Same,
     Before,
@@ -19,14 +19,14 @@ pub enum CausalOrder {
 }
 
 // The two forms of a report: document 02, E10.
-#[derive(Clone, Copy)]
+#[derive(Clone, Copy, PartialEq, Eq)]
 pub enum Form {
     Full,
     Short,
 }
 
 // What an author is marked for: document 02, E7.
-#[derive(Clone, Copy)]
+#[derive(Clone, Copy, PartialEq, Eq)]
 pub enum MarkKind {
     Fork,
     Fault,

@@ -14,18 +14,6 @@ loaded w s t h e = rw (add-one, take-suc-set w t (word_at s (4 * t)), e)
 unfoldable pub word_from : List ℕ → ℕ → ℕ
 word_from w n = σ₁ (get_or w (n + 14) 0) ⊞ get_or w (n + 9) 0 ⊞ σ₀ (get_or w (n + 1) 0) ⊞ get_or w n 0
 
--- the same, as the code makes it
-pub word_from-made
-    : (w : List ℕ) (n : ℕ) {u v x y r : ℕ}
-    → u ≡ σ₁ (get_or w (n + 14) 0)
-    → x ≡ u ⊞ get_or w (n + 9) 0
-    → v ≡ σ₀ (get_or w (n + 1) 0)
-    → y ≡ x ⊞ v
-    → r ≡ y ⊞ get_or w n 0
-    → r ≡ word_from w n
-unfolding word_from
-word_from-made w n i j k l m = rw (m, l, k, j, i)
-
 at : (w : List ℕ) (n i j : ℕ) → i ≡ j → j < 16 + n → get_or (take (16 + n) w) i 0 ≡ get_or w j 0
 at w n i j e h = rw e (get_or-take (16 + n) w j 0 h)
 

@@ -8,28 +8,26 @@ steps-one : (t : ℕ) (W : List ℕ) (H : Working) → steps (t + 1) W H ≡ ste
 unfolding steps
 steps-one t W H = rw add-one
 
--- one more step, with the constants in the list k
+-- one more step
 pub step-on
-    : (t : ℕ) (k W : List ℕ) (H : Working) {s r : Working}
-    → k ≡ K
+    : (t : ℕ) (W : List ℕ) (H : Working) {s r : Working}
     → s ≡ steps t W H
-    → r ≡ step s (get_or k t 0) (get_or W t 0)
+    → r ≡ step s (get_or K t 0) (get_or W t 0)
     → r ≡ steps (t + 1) W H
-step-on t k W H i j l = rw (l, j, i, steps-one t W H)
+step-on t W H j l = rw (l, j, steps-one t W H)
 
 -- one more step, after one more word: w has word t already, as the whole schedule has it
 pub turned
-    : {M v w k : List ℕ} {H : Working} (t : ℕ) {s r : Working}
+    : {M v w : List ℕ} {H : Working} (t : ℕ) {s r : Working}
     → t < 48
-    → k ≡ K
     → Underway M H t v s
     → Scheduled M (t + 1) w
-    → r ≡ step s (get_or k t 0) (get_or w t 0)
+    → r ≡ step s (get_or K t 0) (get_or w t 0)
     → Underway M H (t + 1) w r
-turned {M} {v} {w} {k} {H} t {s} h i u l e =
+turned {M} {v} {w} {H} t {s} h u l e =
     record {
       scheduled = l;
-      stepped = step-on t k (schedule M 48) H i u.stepped (e ∙ ap (step s (get_or k t 0)) (made l (omega arith) t (omega arith)));
+      stepped = step-on t (schedule M 48) H u.stepped (e ∙ ap (step s (get_or K t 0)) (made l (omega arith) t (omega arith)));
     }
 
 -- after 48 of these the array has the whole schedule

@@ -1,7 +1,7 @@
 -- What the contracts say besides the standard's definitions: of the code's words and its schedule.
 use Rattle.sha256_compression.specs.declared.State.{State}
-use Rattle.std.specs.Prelude.{◌≡◌, ℕ, ◌+◌, ◌*◌, ◌<◌, ◌≤◌, List, length, take}
-use Rattle.sha256_fips180.specs.Fips180.{K, Working, schedule, steps}
+use Rattle.std.specs.Prelude.{◌≡◌, ℕ, ◌+◌, ◌<◌, List, length, take}
+use Rattle.sha256_fips180.specs.Fips180.{Working, schedule, steps}
 
 -- the code's eight words as the standard's
 abbrev pub working : State → Working
@@ -21,18 +21,3 @@ pub record Underway (M : List ℕ) (H : Working) (t : ℕ) (w : List ℕ) (s : W
 pub record Rotation (n : ℕ) : Type 0 where
   pub positive : 0 < n
   pub within_word : n < 32
-
--- what is asked for n steps from step t on, all before step `end`, with the constants k
-pub record StepsFrom (t n end : ℕ) (k : List ℕ) : Type 0 where
-  pub steps_within : t + n ≤ end
-  pub constants : k ≡ K
-
--- what is asked to load a block, the front of s, into the schedule w
-pub record Loadable (w s : List ℕ) : Type 0 where
-  pub size : length w ≡ 64
-  pub block_within : 64 ≤ length s
-
--- what is asked for the first n blocks of s, with the constants k
-pub record Blocks (n : ℕ) (s k : List ℕ) : Type 0 where
-  pub blocks_within : 64 * n ≤ length s
-  pub constants : k ≡ K

@@ -3,11 +3,11 @@
 #![tactic(auto)]
 
 ghost use Rattle.std.specs.Prelude.{◌≡◌, ℕ, ◌+◌, ◌<◌, ◌≤◌, List, length};
-ghost use Rattle.sha256_fips180.specs.Fips180.{ROTR, Ch, Maj, Σ₀, Σ₁, σ₀, σ₁, K, word_at, words, Working, T₁, T₂, step, steps, added, compress};
-ghost use Rattle.sha256_compression.specs.Code.{working, Scheduled, Underway, Rotation, StepsFrom, Loadable, Blocks};
+ghost use Rattle.sha256_fips180.specs.Fips180.{ROTR, Ch, Maj, Σ₀, Σ₁, σ₀, σ₁, word_at, words, Working, T₁, T₂, step, steps, added, compress};
+ghost use Rattle.sha256_compression.specs.Code.{working, Scheduled, Underway, Rotation};
 
 // K₀ .. K₆₃ of 4.2.2.
-pub const CONSTANTS: [u32; 64] = [
+const CONSTANTS: [u32; 64] = [
     0x428a2f98, 0x71374491, 0xb5c0fbcf, 0xe9b5dba5, 0x3956c25b, 0x59f111f1, 0x923f82a4, 0xab1c5ed5,
     0xd807aa98, 0x12835b01, 0x243185be, 0x550c7dc3, 0x72be5d74, 0x80deb1fe, 0x9bdc06a7, 0xc19bf174,
     0xe49b69c1, 0xefbe4786, 0x0fc19dc6, 0x240ca1cc, 0x2de92c6f, 0x4a7484aa, 0x5cb0a9dc, 0x76f988da,
@@ -31,19 +31,12 @@ pub struct State {
     pub h: u32,
 }
 
-// A byte as a word.
-fn wide(x: u8) -> u32
-    ensures { (result ≡ x) × (result < 256) }
-{
-    x as u32
-}
-
 // x rotated right by n.
 fn rotr(n: u32, x: u32) -> u32
     requires { Rotation n }
     ensures { result ≡ ROTR n x }
 {
-    (x >> n) | (x << (32 - n))
+    x.rotate_right(n)
 }
 
 // Ch of 4.1.2: each bit of x chooses that of y or of z. It and Maj are in forms of one operation less than the standard's.
@@ -92,17 +85,17 @@ fn small_sigma1(x: u32) -> u32
 fn t1(s: State, k: u32, w: u32) -> u32
     ensures { result ≡ T₁ (working s) k w }
 {
-    let x = std::num::wrapping_add_u32(s.h, big_sigma1(s.e));
-    let y = std::num::wrapping_add_u32(x, ch(s.e, s.f, s.g));
-    let z = std::num::wrapping_add_u32(y, k);
-    std::num::wrapping_add_u32(z, w)
+    s.h.wrapping_add(big_sigma1(s.e))
+        .wrapping_add(ch(s.e, s.f, s.g))
+        .wrapping_add(k)
+        .wrapping_add(w)
 }
 
 // T₂ of 6.2.2.
 fn t2(s: State) -> u32
     ensures { result ≡ T₂ (working s) }
 {
-    std::num::wrapping_add_u32(big_sigma0(s.a), maj(s.a, s.b, s.c))
+    big_sigma0(s.a).wrapping_add(maj(s.a, s.b, s.c))
 }
 
 // One step of the compression.
@@ -112,11 +105,11 @@ fn step(s: State, k: u32, w: u32) -> State
     let x = t1(s, k, w);
     let y = t2(s);
     State {
-        a: std::num::wrapping_add_u32(x, y),
+        a: x.wrapping_add(y),
         b: s.a,
         c: s.b,
         d: s.c,
-        e: std::num::wrapping_add_u32(s.d, x),
+        e: s.d.wrapping_add(x),
         f: s.e,
         g: s.f,
         h: s.g,
@@ -124,38 +117,23 @@ fn step(s: State, k: u32, w: u32) -> State
 }
 
 // Step t: from the first t steps to the first t + 1, of any hash value H.
-fn step_at(s: State, k: &[u32; 64], w: &[u32; 64], t: usize) -> State
-    requires { StepsFrom t 1 64 k.now }
+fn step_at(s: State, w: &[u32; 64], t: usize) -> State
+    requires { t < 64 }
     ensures { (H : Working) → working s ≡ steps t w.now H → working result ≡ steps (t + 1) w.now H }
 {
-    step(s, k[t], w[t])
+    step(s, CONSTANTS[t], w[t])
 }
 
-// Eight steps: written out, they leave no move of a variable to the next.
-fn eight_steps(s: State, k: &[u32; 64], w: &[u32; 64], t: usize) -> State
-    requires { StepsFrom t 8 64 k.now }
-    ensures { (H : Working) → working s ≡ steps t w.now H → working result ≡ steps (t + 8) w.now H }
-{
-    let s1 = step_at(s, k, w, t);
-    let s2 = step_at(s1, k, w, t + 1);
-    let s3 = step_at(s2, k, w, t + 2);
-    let s4 = step_at(s3, k, w, t + 3);
-    let s5 = step_at(s4, k, w, t + 4);
-    let s6 = step_at(s5, k, w, t + 5);
-    let s7 = step_at(s6, k, w, t + 6);
-    step_at(s7, k, w, t + 7)
-}
-
-// The last 16 steps, of any hash value H: the schedule is whole.
-fn last_steps(s: State, k: &[u32; 64], w: &[u32; 64]) -> State
-    requires { k.now ≡ K }
+// The last 16 steps, of any hash value H: the schedule is whole. The compiler writes eight steps out, where no variable has to move to the next; in one loop of 16 the
+// digest is slower by a sixth.
+fn last_steps(s: State, w: &[u32; 64]) -> State
     ensures { (H : Working) → working s ≡ steps 48 w.now H → working result ≡ steps 64 w.now H }
 {
     let mut v = s;
-    let mut t: usize = 48;
-    while t < 64 {
-        v = eight_steps(v, k, w, t);
-        t += 8;
+    for t in (48..64).step_by(8) {
+        for i in 0..8 {
+            v = step_at(v, w, t + i);
+        }
     }
     v
 }
@@ -165,18 +143,16 @@ fn word(s: &[u8], i: usize) -> u32
     requires { i + 4 ≤ length s.now }
     ensures { result ≡ word_at s.now i }
 {
-    wide(s[i]) * 0x100_0000 + wide(s[i + 1]) * 0x1_0000 + wide(s[i + 2]) * 0x100 + wide(s[i + 3])
+    u32::from_be_bytes([s[i], s[i + 1], s[i + 2], s[i + 3]])
 }
 
 // The block's 16 words to the front of the schedule.
 fn load(w: &mut [u32; 64], s: &[u8])
-    requires { Loadable w.old s.now }
+    requires { 64 ≤ length s.now }
     ensures { Scheduled (words 16 s.now) 0 w.new }
 {
-    let mut t: usize = 0;
-    while t < 16 {
+    for t in 0..16 {
         w[t] = word(s, 4 * t);
-        t += 1;
     }
 }
 
@@ -185,45 +161,30 @@ fn extend_at(w: &mut [u32; 64], n: usize)
     requires { n < 48 }
     ensures { (M : List ℕ) → Scheduled M n w.old → Scheduled M (n + 1) w.new }
 {
-    let x = std::num::wrapping_add_u32(small_sigma1(w[n + 14]), w[n + 9]);
-    let y = std::num::wrapping_add_u32(x, small_sigma0(w[n + 1]));
-    w[n + 16] = std::num::wrapping_add_u32(y, w[n]);
+    w[n + 16] = small_sigma1(w[n + 14])
+        .wrapping_add(w[n + 9])
+        .wrapping_add(small_sigma0(w[n + 1]))
+        .wrapping_add(w[n]);
 }
 
 // Word 16 + t of the schedule, then step t: of any words M of a block and any hash value H.
-fn turn(s: State, k: &[u32; 64], w: &mut [u32; 64], t: usize) -> State
-    requires { StepsFrom t 1 48 k.now }
+fn turn(s: State, w: &mut [u32; 64], t: usize) -> State
+    requires { t < 48 }
     ensures { (M : List ℕ) (H : Working) → Underway M H t w.old (working s) → Underway M H (t + 1) w.new (working result) }
 {
-    extend_at(&mut *w, t);
-    step(s, k[t], w[t])
+    extend_at(w, t);
+    step(s, CONSTANTS[t], w[t])
 }
 
-// Eight turns, written out as the steps are.
-fn eight_turns(s: State, k: &[u32; 64], w: &mut [u32; 64], t: usize) -> State
-    requires { StepsFrom t 8 48 k.now }
-    ensures { (M : List ℕ) (H : Working) → Underway M H t w.old (working s) → Underway M H (t + 8) w.new (working result) }
-{
-    let s1 = turn(s, k, &mut *w, t);
-    let s2 = turn(s1, k, &mut *w, t + 1);
-    let s3 = turn(s2, k, &mut *w, t + 2);
-    let s4 = turn(s3, k, &mut *w, t + 3);
-    let s5 = turn(s4, k, &mut *w, t + 4);
-    let s6 = turn(s5, k, &mut *w, t + 5);
-    let s7 = turn(s6, k, &mut *w, t + 6);
-    turn(s7, k, &mut *w, t + 7)
-}
-
-// The first 48 steps, with which the schedule becomes whole, from its first 16 words on.
-fn first_steps(h: State, k: &[u32; 64], w: &mut [u32; 64]) -> State
-    requires { k.now ≡ K }
+// The first 48 steps, with which the schedule becomes whole, from its first 16 words on; by eights as the last ones.
+fn first_steps(h: State, w: &mut [u32; 64]) -> State
     ensures { (M : List ℕ) → Scheduled M 0 w.old → Underway M (working h) 48 w.new (working result) }
 {
     let mut s = h;
-    let mut t: usize = 0;
-    while t < 48 {
-        s = eight_turns(s, k, &mut *w, t);
-        t += 8;
+    for t in (0..48).step_by(8) {
+        for i in 0..8 {
+            s = turn(s, w, t + i);
+        }
     }
     s
 }
@@ -233,24 +194,24 @@ fn added(s: State, h: State) -> State
     ensures { working result ≡ added (working s) (working h) }
 {
     State {
-        a: std::num::wrapping_add_u32(s.a, h.a),
-        b: std::num::wrapping_add_u32(s.b, h.b),
-        c: std::num::wrapping_add_u32(s.c, h.c),
-        d: std::num::wrapping_add_u32(s.d, h.d),
-        e: std::num::wrapping_add_u32(s.e, h.e),
-        f: std::num::wrapping_add_u32(s.f, h.f),
-        g: std::num::wrapping_add_u32(s.g, h.g),
-        h: std::num::wrapping_add_u32(s.h, h.h),
+        a: s.a.wrapping_add(h.a),
+        b: s.b.wrapping_add(h.b),
+        c: s.c.wrapping_add(h.c),
+        d: s.d.wrapping_add(h.d),
+        e: s.e.wrapping_add(h.e),
+        f: s.f.wrapping_add(h.f),
+        g: s.g.wrapping_add(h.g),
+        h: s.h.wrapping_add(h.h),
     }
 }
 
 // The hash value after one more block, s.
-pub fn compress(h: State, s: &[u8], k: &[u32; 64]) -> State
-    requires { Blocks 1 s.now k.now }
+pub fn compress(h: State, s: &[u8]) -> State
+    requires { 64 ≤ length s.now }
     ensures { working result ≡ compress (working h) s.now }
 {
     let mut w = [0u32; 64];
     load(&mut w, s);
-    let s48 = first_steps(h, k, &mut w);
-    added(last_steps(s48, k, &w), h)
+    let s48 = first_steps(h, &mut w);
+    added(last_steps(s48, &w), h)
 }

@@ -1,18 +1,20 @@
 -- The padded message: its whole blocks are the message's, and its end is one or two blocks.
-use mathlib.Core.Path.{◌≡◌, refl, ap₂, subst, sym, ◌∙◌}
-use mathlib.Core.Logic.{◌≢◌}
+use mathlib.Core.Path.{◌≡◌, refl, ap, ap₂, subst, sym, ◌∙◌}
 use mathlib.Core.List.{List, ◌∷◌, ◌++◌, append_assoc}
 use Prim.Native.Nat.{ℕ, zero, suc, ◌+◌, ◌-◌, ◌*◌, ◌/◌, ◌%◌, ◌^◌, ◌≤◌, ◌<◌}
-use native.Mathlib.Nat.{le_refl}
-use native.Mathlib.Numerals.{add-one, one-add}
+use native.Mathlib.Nat.{le_refl, add-zero, add-suc}
+use native.Mathlib.Numerals.{one-add}
 use native.Mathlib.Omega.{arith}
 use lib.ListN.{length, take, drop, set, replicate, length-append, length-drop, length-replicate, replicate-append-replicate}
-use lib.Seq.{take_all, take-take, take-append-le, drop-append-le, drop-drop, set_at, take_at, drop_at}
-use Rattle.sha256_fips180.specs.Fips180.{big_endian, zero_bytes, length_field, padding, pad, block, Working, compress, hash}
+use lib.Seq.{take_all, take-append-le, drop-append-le, drop-drop, set_at, take_at, drop_at}
+use Rattle.std.specs.Int.{w64, to_be_bytes}
+use Rattle.std.proofs.lemmas.Slice.{take-put_mid}
+use borrow.Rule.Slice.PartMut.{put_mid}
+use Rattle.sha256_fips180.specs.Fips180.{big_endian, zero_bytes, length_field, padding, pad, block, Working, H⁰, compress, hash}
 use Rattle.sha256_fips180.specs.Lengths.{length-length_field, length-padding}
 use Rattle.sha256_fips180.specs.Standard.{message_limit}
-use Rattle.sha256_digest.specs.Tail.{last_size, tail}
-use Rattle.sha256_digest.proofs.Bytes.{splice, take-splice}
+use Rattle.sha256_digest.specs.Tail.{last_size, tail, hash_from}
+use Rattle.sha256_digest.proofs.Bytes.{big-endian}
 
 pub one_block : (n : ℕ) → n % 64 < 56 → last_size n ≡ 64
 unfolding last_size zero_bytes
@@ -21,10 +23,6 @@ one_block n h = omega arith
 pub two_blocks : (n : ℕ) → 56 ≤ n % 64 → last_size n ≡ 128
 unfolding last_size zero_bytes
 two_blocks n h = omega arith
-
-else-two-blocks : (n : ℕ) → last_size n ≢ 64 → last_size n ≡ 128
-unfolding last_size zero_bytes
-else-two-blocks n h = omega arith
 
 -- the message's bytes after its last whole block
 rest : List ℕ → List ℕ
@@ -61,24 +59,19 @@ built xs N r z q l e =
 
 -- xs in the place of the last 8 of e bytes
 ended
-    : (p q xs : List ℕ) (e : ℕ) → length p + 8 ≡ e → length xs ≡ 8 → take e (splice (p ++ q) (e - 8) 8 xs) ≡ p ++ xs
-ended p q xs e h l =
-    let i : e - 8 + 8 ≡ e = omega arith in
-    let k : e - 8 ≤ length (p ++ q) = simp length-append (omega arith) in
-    subst (λ (j : ℕ). take j (splice (p ++ q) (e - 8) 8 xs) ≡ take (e - 8) (p ++ q) ++ xs) i
-    (take-splice (p ++ q) xs (e - 8) 8 l k)
-    ∙ rw (take_at p q (e - 8) (omega arith))
+    : (p q xs : List ℕ) (e k : ℕ) → length p + 8 ≡ e → length xs ≡ 8 → take e (put_mid (e - 8) k (p ++ q) xs) ≡ p ++ xs
+ended p q xs e k h l =
+    take-put_mid (e - 8) k (p ++ q) xs e (omega arith) (simp length-append (omega arith)) ∙ rw (take_at p q (e - 8) (omega arith))
 
 -- the last blocks as they are built in N zero bytes
 filled
-    : (m : List ℕ) (N e : ℕ)
+    : (m : List ℕ) (N e k : ℕ)
     → e ≡ last_size (length m)
     → e ≤ N
-    → take e
-    (splice (set (rest m ++ drop (length m % 64) (replicate N 0)) (length m % 64) 0x80) (e - 8) 8 (length_field (length m)))
+    → take e (put_mid (e - 8) k (set (rest m ++ drop (length m % 64) (replicate N 0)) (length m % 64) 0x80) (length_field (length m)))
     ≡ tail m
 unfolding padding last_size
-filled m N e size small =
+filled m N e k size small =
     let z : ℕ = zero_bytes (length m) in
     let q : ℕ = N - (length m % 64 + (1 + z)) in
     let xs : List ℕ = length_field (length m) in
@@ -87,10 +80,10 @@ filled m N e size small =
     rw (length-append (rest m) (0x80 ∷ replicate z 0), length_rest m, length-replicate {A = ℕ} z 0)
     in
     rw (tail-parts m, built (rest m) N (length m % 64) z q (length_rest m) (omega arith))
-    (ended p (replicate q 0) xs e (omega arith) (length-length_field (length m))
+    (ended p (replicate q 0) xs e k (omega arith) (length-length_field (length m))
     ∙ append_assoc (rest m) (0x80 ∷ replicate z 0) xs)
 
--- the same as the code takes it
+-- the rest as the code takes it
 abbrev pub after : List ℕ → List ℕ
 after m = take (length m - (length m - length m % 64)) (drop (length m - length m % 64) m)
 
@@ -100,97 +93,79 @@ after-rest m =
     let i : length m - length m % 64 ≡ 64 * (length m / 64) = omega arith in
     rw i (take_all (length m - 64 * (length m / 64)) (drop (64 * (length m / 64)) m) (rw length-drop (le_refl _)))
 
--- the last blocks by the steps of the code: the copy d, then the byte 0x80 and the length, at e - 8
+-- the last blocks by the steps of the code: the rest x, then the byte 0x80, and the length, in the bytes w at e - 8
 pub last-filled
-    : (m d b : List ℕ) (e : ℕ)
+    : (m x w : List ℕ) (e k : ℕ)
     → e ≡ last_size (length m)
     → e ≤ 128
-    → d ≡ after m ++ drop (length (after m)) (replicate 128 0)
-    → b ≡ splice (set d (length m % 64) 0x80) (e - 8) 8 (big_endian 8 (length m % message_limit * 8))
-    → take (last_size (length m)) b ≡ tail m
+    → x ≡ after m
+    → w ≡ to_be_bytes w64 (length m % message_limit * 8)
+    → take (last_size (length m))
+    (put_mid (e - 8) k (set (x ++ drop (length m % 64) (replicate 128 0)) (length m % 64) 0x80) w)
+    ≡ tail m
 unfolding length_field
-last-filled m d b e size small ed eb =
+last-filled m x w e k size small f g =
     let i : length m % message_limit * 8 ≡ 8 * length m % 2 ^ 64 = omega arith in
-    rw (← size, eb, ed, after-rest m, length_rest m, i) (filled m 128 e size small)
+    let l : w ≡ big_endian 8 (8 * length m % 2 ^ 64) = g ∙ rw i (big-endian 8 (8 * length m % 2 ^ 64)) in
+    rw (← size, l, f, after-rest m) (filled m 128 e k size small)
 
--- the message's own blocks, and the hash values of them
+-- ---- blocks from a hash value on
+
+-- the blocks after the first q are those of what comes after these
+pub hash-split
+    : (H : Working) (q k : ℕ) (m : List ℕ) → hash_from H (q + k) m ≡ hash_from (hash_from H q m) k (drop (64 * q) m)
+unfolding hash_from block
+hash-split H q zero m = rw add-zero
+hash-split H q (suc k) m =
+    let i : 64 * (q + k) ≡ 64 * q + 64 * k = omega arith in
+    let b : take 64 (drop (64 * (q + k)) m) ≡ take 64 (drop (64 * k) (drop (64 * q) m)) = rw (i, drop-drop (64 * k) (64 * q) m) in
+    ap (λ (n : ℕ). hash_from H n m) (add-suc q k) ∙ ap₂ compress (hash-split H q k m) b
+
+-- one block, and then those of the rest
+pub hash-then
+    : (H : Working) (b r : List ℕ)
+    → length b ≡ 64
+    → hash_from H (length (b ++ r) / 64) (b ++ r) ≡ hash_from (compress H b) (length r / 64) r
+unfolding hash_from block
+hash-then H b r h =
+    let i : length (b ++ r) / 64 ≡ 1 + length r / 64 = omega (arith, length-append b r) in
+    rw (i, hash-split H 1 (length r / 64) (b ++ r), take_at b r 64 h, drop_at b r 64 h)
+
+pub hash-none : (H : Working) (r : List ℕ) → length r < 64 → hash_from H (length r / 64) r ≡ H
+unfolding hash_from
+hash-none H r h = let i : length r / 64 ≡ 0 = omega arith in rw i
+
 block-front : (n : ℕ) (m x : List ℕ) → 64 * suc n ≤ length m → block n (m ++ x) ≡ block n m
 unfolding block
 block-front n m x h =
     let l : 64 ≤ length (drop (64 * n) m) = simp length-drop (omega arith) in
     rw (drop-append-le (64 * n) m x (omega arith), take-append-le 64 (drop (64 * n) m) x l)
 
-less : (n k : ℕ) → 64 * suc n ≤ k → 64 * n ≤ k
-less n k h = omega arith
+hash-front : (H : Working) (n : ℕ) (m x : List ℕ) → 64 * n ≤ length m → hash_from H n (m ++ x) ≡ hash_from H n m
+unfolding hash_from
+hash-front H zero m x h = refl
+hash-front H (suc n) m x h = ap₂ compress (hash-front H n m x (omega arith)) (block-front n m x h)
 
-hash-front : (n : ℕ) (m x : List ℕ) → 64 * n ≤ length m → hash n (m ++ x) ≡ hash n m
-unfolding hash
-hash-front zero m x h = refl
-hash-front (suc n) m x h = ap₂ compress (hash-front n m x (less n (length m) h)) (block-front n m x h)
+pub hash-first : (n : ℕ) (m : List ℕ) → hash_from H⁰ n m ≡ hash n m
+unfolding hash_from hash
+hash-first zero m = refl
+hash-first (suc n) m = ap (λ (h : Working). compress h (block n m)) (hash-first n m)
 
-pub hash-one : (n : ℕ) (m : List ℕ) → hash (n + 1) m ≡ compress (hash n m) (block n m)
-unfolding hash
-hash-one n m = rw add-one
-
--- one more block, as the code takes it
-pub hash-next
-    : (n : ℕ) (m : List ℕ) {h x : Working}
-    → h ≡ hash n m
-    → x ≡ compress h (take (64 * n + 64 - 64 * n) (drop (64 * n) m))
-    → x ≡ hash (n + 1) m
-unfolding block
-hash-next n m i j = let e : 64 * n + 64 - 64 * n ≡ 64 = omega arith in rw (j, i, e, hash-one n m)
-
-pub whole : (n : ℕ) → 64 * (n / 64) ≤ n
-whole n = omega arith
-
-module _ (m : List ℕ) where
-  pad-length : length (pad m) ≡ 64 * (length m / 64) + last_size (length m)
-  unfolding pad last_size
-  pad-length = omega (arith, length-append m (padding (length m)), length-padding (length m))
-
-  pad-hash : hash (length m / 64) (pad m) ≡ hash (length m / 64) m
-  unfolding pad
-  pad-hash = hash-front (length m / 64) m (padding (length m)) (omega arith)
-
-  pad-first : hash (length m / 64 + 1) (pad m) ≡ compress (hash (length m / 64) m) (take 64 (tail m))
-  unfolding block tail
-  pad-first = rw (hash-one (length m / 64) (pad m), pad-hash)
-
-  pad-second
-      : hash (length m / 64 + 1 + 1) (pad m)
-      ≡ compress (compress (hash (length m / 64) m) (take 64 (tail m))) (take 64 (drop 64 (tail m)))
-  unfolding block tail
-  pad-second =
-      let i : 64 * (length m / 64 + 1) ≡ 64 * (length m / 64) + 64 = omega arith in
-      rw (
-        hash-one (length m / 64 + 1) (pad m),
-        pad-first,
-        i,
-        ← drop-drop 64 (64 * (length m / 64)) (pad m),
-      )
-
--- the last hash value, where b begins with the last blocks: x after one more block than h, y after two
-module _
-    (m b : List ℕ) (h x : Working)
-    (size : length b ≡ 128)
-    (e : take (last_size (length m)) b ≡ tail m)
-    (i : h ≡ hash (length m / 64) m)
-    (j : x ≡ compress h (take 64 b))
-  where
-    pub last_one : last_size (length m) ≡ 64 → x ≡ hash (length (pad m) / 64) (pad m)
-    last_one l =
-        let n : length (pad m) / 64 ≡ length m / 64 + 1 = omega (arith, pad-length m) in
-        let t : tail m ≡ take 64 b = sym e ∙ rw l in
-        rw (n, pad-first m, t, take-take 64 64 b (omega arith), j, i)
-
-    pub last-two
-        : {y : Working}
-        → y ≡ compress x (take 64 (drop 64 b))
-        → last_size (length m) ≢ 64
-        → y ≡ hash (length (pad m) / 64) (pad m)
-    last-two {y} k d =
-        let l : last_size (length m) ≡ 128 = else-two-blocks (length m) d in
-        let n : length (pad m) / 64 ≡ length m / 64 + 1 + 1 = omega (arith, pad-length m) in
-        let t : tail m ≡ b = sym e ∙ rw l (take_all 128 b (omega arith)) in
-        rw (n, pad-second m, t, k, j, i)
+-- the last hash value: the whole blocks of the message, and then the last ones
+pub hash-whole
+    : (m b : List ℕ)
+    → b ≡ tail m
+    → hash_from (hash_from H⁰ (length m / 64) m) (length b / 64) b ≡ hash (length (pad m) / 64) (pad m)
+unfolding pad tail
+hash-whole m b e =
+    let q : ℕ = length m / 64 in
+    let d : b ≡ drop (64 * q) (m ++ padding (length m)) = e in
+    let front : hash_from H⁰ q (m ++ padding (length m)) ≡ hash_from H⁰ q m = hash-front H⁰ q m (padding (length m)) (omega arith) in
+    let n : q + length b / 64 ≡ length (m ++ padding (length m)) / 64 =
+    omega (arith, ap length d, length-drop (64 * q) (m ++ padding (length m)), length-append m (padding (length m)))
+    in
+    rw (← front)
+    (ap (hash_from (hash_from H⁰ q (m ++ padding (length m))) (length b / 64)) d
+    ∙ sym (hash-split H⁰ q (length b / 64) (m ++ padding (length m)))
+    ∙ hash-first (q + length b / 64) (m ++ padding (length m))
+    ∙ rw n)

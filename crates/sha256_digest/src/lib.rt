@@ -4,53 +4,36 @@
 #![tactic(auto)]
 
 ghost use Rattle.std.specs.Prelude.{◌≡◌, ◌++◌, ◌+◌, ◌/◌, ◌≤◌, ◌<◌, length, take, drop};
-ghost use Rattle.sha256_fips180.specs.Fips180.{SHA-256, big_endian, pad, hash, bytes_of};
-ghost use Rattle.sha256_compression.specs.Code.{working, Blocks};
-ghost use Rattle.sha256_digest.specs.Tail.{tail, last_size, HashedWhole};
+ghost use Rattle.sha256_fips180.specs.Fips180.{SHA-256, bytes_of};
+ghost use Rattle.sha256_compression.specs.Code.{working};
+ghost use Rattle.sha256_digest.specs.Tail.{tail, last_size, hash_from};
 
-use bytes_copy::copy;
-use sha256_compression::{CONSTANTS, State, compress};
+use sha256_compression::{State, compress};
 
 // 2^61 bytes: from this length on the bit length has no room in the padding's field, and the standard defines no digest.
 const MESSAGE_LIMIT: usize = 0x2000_0000_0000_0000;
 
-// The hash value after the first n blocks of s.
-fn blocks(s: &[u8], k: &[u32; 64], n: usize) -> State
-    requires { Blocks n s.now k.now }
-    ensures { working result ≡ hash n s.now }
-{
-    let mut h = State {
-        a: 0x6a09e667,
-        b: 0xbb67ae85,
-        c: 0x3c6ef372,
-        d: 0xa54ff53a,
-        e: 0x510e527f,
-        f: 0x9b05688c,
-        g: 0x1f83d9ab,
-        h: 0x5be0cd19,
-    };
-    let mut i: usize = 0;
-    while i < n {
-        let at = 64 * i;
-        let end = at + 64;
-        h = compress(h, &s[at..end], k);
-        i += 1;
-    }
-    h
-}
+// H⁽⁰⁾ of 5.3.3.
+const INITIAL: State = State {
+    a: 0x6a09e667,
+    b: 0xbb67ae85,
+    c: 0x3c6ef372,
+    d: 0xa54ff53a,
+    e: 0x510e527f,
+    f: 0x9b05688c,
+    g: 0x1f83d9ab,
+    h: 0x5be0cd19,
+};
 
-// Writes the k low bytes of x at `at`, the most significant first.
-fn put(d: &mut [u8], at: usize, k: usize, x: usize)
-    requires { at + k ≤ length d.old }
-    ensures { d.new ≡ take at d.old ++ (big_endian k x ++ drop (at + k) d.old) }
+// The hash value after the whole blocks of s, from h on.
+fn blocks(h: State, s: &[u8]) -> State
+    ensures { working result ≡ hash_from (working h) (length s.now / 64) s.now }
 {
-    let mut j = k;
-    let mut y = x;
-    while j > 0 {
-        j -= 1;
-        d[at + j] = (y % 256) as u8;
-        y = y / 256;
+    let mut x = h;
+    for block in s.chunks_exact(64) {
+        x = compress(x, block);
     }
+    x
 }
 
 // The size of the last blocks, those of the padded message after the whole blocks of n bytes: one block where the length has room in it,
@@ -63,29 +46,16 @@ fn last_size(n: usize) -> usize
 
 // The last blocks, at the front.
 fn last_blocks(s: &[u8]) -> [u8; 128]
-    ensures { (length result ≡ 128) × (take (last_size (length s.now)) result ≡ tail s.now) }
+    ensures { take (last_size (length s.now)) result ≡ tail s.now }
 {
     let mut b = [0u8; 128];
     let n = s.len();
-    let at = n - n % 64;
-    copy(&mut b, &s[at..n]);
-    b[n % 64] = 0x80;
+    let r = n % 64;
+    b[..r].copy_from_slice(&s[n - r..]);
+    b[r] = 0x80;
     let end = last_size(n);
-    put(&mut b, end - 8, 8, n % MESSAGE_LIMIT * 8);
+    b[end - 8..end].copy_from_slice(&(n % MESSAGE_LIMIT * 8).to_be_bytes());
     b
-}
-
-// The last hash value of the padded message, from that after the whole blocks of s.
-fn finish(h: State, s: &[u8], k: &[u32; 64]) -> State
-    requires { HashedWhole (working h) s.now k.now }
-    ensures { working result ≡ hash (length (pad s.now) / 64) (pad s.now) }
-{
-    let b = last_blocks(s);
-    let x = compress(h, &b[0..64], k);
-    if last_size(s.len()) == 64 {
-        return x;
-    }
-    compress(x, &b[64..128], k)
 }
 
 // The eight words in bytes.
@@ -93,14 +63,9 @@ fn bytes_of(s: State) -> [u8; 32]
     ensures { result ≡ bytes_of (working s) }
 {
     let mut d = [0u8; 32];
-    put(&mut d, 0, 4, s.a as usize);
-    put(&mut d, 4, 4, s.b as usize);
-    put(&mut d, 8, 4, s.c as usize);
-    put(&mut d, 12, 4, s.d as usize);
-    put(&mut d, 16, 4, s.e as usize);
-    put(&mut d, 20, 4, s.f as usize);
-    put(&mut d, 24, 4, s.g as usize);
-    put(&mut d, 28, 4, s.h as usize);
+    for (i, x) in [s.a, s.b, s.c, s.d, s.e, s.f, s.g, s.h].iter().enumerate() {
+        d[4 * i..4 * i + 4].copy_from_slice(&x.to_be_bytes());
+    }
     d
 }
 
@@ -109,9 +74,9 @@ fn bytes_of(s: State) -> [u8; 32]
 pub fn digest(s: &[u8]) -> [u8; 32]
     ensures { result ≡ SHA-256 s.now }
 {
-    let k = CONSTANTS;
-    let h = blocks(s, &k, s.len() / 64);
-    bytes_of(finish(h, s, &k))
+    let h = blocks(INITIAL, s);
+    let b = last_blocks(s);
+    bytes_of(blocks(h, &b[..last_size(s.len())]))
 }
 
 // For callers from other languages, which call it by `sha256_digest_c`: writes the SHA-256 of s to the front of `out` and returns 32, or writes
@@ -123,7 +88,6 @@ pub fn silkcliff_sha256(s: &[u8], out: &mut [u8]) -> usize
     if out.len() < 32 {
         return 0;
     }
-    let d = digest(s);
-    copy(out, &d);
+    out[..32].copy_from_slice(&digest(s));
     32
 }

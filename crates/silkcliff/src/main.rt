@@ -5,21 +5,16 @@ use command_loop::Ended;
 
 // Says on standard error what failed: the command has no exit status to give.
 fn tell(rt: &HostRuntime, ended: Ended) {
-    if ended.reading != 0 {
+    if let Some(error) = ended.reading {
         command_streams::tell(
             rt,
             b"silkcliff: reading failed (errno ",
-            ended.reading,
+            error,
             b"); the report is of what came before\n",
         );
     }
-    if ended.writing != 0 {
-        command_streams::tell(
-            rt,
-            b"silkcliff: writing failed (errno ",
-            ended.writing,
-            b")\n",
-        );
+    if let Some(error) = ended.writing {
+        command_streams::tell(rt, b"silkcliff: writing failed (errno ", error, b")\n");
     }
 }
 

@@ -1,29 +1,23 @@
 // Calls of the ledger.
 use crate::show;
-use crate::show::{answered, decimal, digest, text};
-use ledger::{Answer, Form, Kind, Ledger, Reported, Wrote};
-use ledger_state::PLACES;
+use crate::show::{decimal, digest, refused, text};
+use ledger::{Form, Kind, Ledger, Refusal};
 use ledger_state::places::causal_order;
-use test_script::{byte, bytes_of, number, set, slot, word};
+use std::array;
+use test_script::{byte, bytes_of, is_space, number, set, slot, word};
 use update_format::numbers::{ID_LENGTH, TAG_LENGTH};
 use update_format::slice_of;
-
-// Offers an update.
-fn offer(l: Ledger, store: &mut [u8], update: &[u8]) -> Ledger {
-    let o = ledger::offer(l, store, update);
-    let a = o.answer;
-    answered(a);
-    let next = o.ledger;
-    next
-}
 
 // Offers the bytes of each slot that a line names.
 pub fn offers(l: Ledger, store: &mut [u8], slots: &[u8], line: &[u8]) -> Ledger {
     let mut next = l;
-    let mut k: usize = 1;
-    while k < line.len() && 0 < word(line, k).len() {
-        next = offer(next, store, bytes_of(slots, slot(word(line, k))));
-        k += 1;
+    for word in line.split(is_space).skip(1) {
+        let Some(s) = slot(word) else {
+            break;
+        };
+        let offered = ledger::offer(next, store, bytes_of(slots, s));
+        show::offered(offered.answer);
+        next = offered.ledger;
     }
     next
 }
@@ -34,10 +28,10 @@ pub fn ask(l: Ledger, store: &[u8], update: &[u8]) {
 }
 
 // Prints a report, or why there is none.
-fn reported(r: Reported, out: &[u8]) {
+fn reported(r: Result<usize, Refusal>, out: &[u8]) {
     match r {
-        Reported::Written(n) => text(slice_of(out, 0, n)),
-        Reported::Refused(e) => answered(Answer::Refused(e)),
+        Ok(n) => text(slice_of(out, 0, n)),
+        Err(e) => refused(e),
     }
 }
 
@@ -62,40 +56,13 @@ pub fn rooms() {
     text(b")\n");
 }
 
-fn kind(b: u8) -> Kind {
-    match b {
-        1 => Kind::Add,
-        2 => Kind::Remove,
-        3 => Kind::Insert,
-        _ => Kind::Delete,
-    }
-}
-
-// An id from bytes; zeros stand for missing ones.
-fn id(s: &[u8]) -> [u8; ID_LENGTH] {
-    let mut id = [0u8; ID_LENGTH];
-    let mut i: usize = 0;
-    while i < ID_LENGTH {
-        id[i] = byte(s, i);
-        i += 1;
-    }
-    id
-}
-
-// Asks for an update: its author, its kind, the byte of which its tag is 16, its id, and its named ids.
-fn ask_for(l: Ledger, store: &[u8], request: &[u8], out: &mut [u8]) -> Wrote {
+// Asks for an update: its author, its kind, the byte of which its tag is 16, its id, and its named ids. Zeros stand for missing bytes of the id.
+fn ask_for(l: Ledger, store: &[u8], request: &[u8], out: &mut [u8]) -> Result<usize, Refusal> {
+    let kind = Kind::try_from(byte(request, 1)).unwrap_or(Kind::Delete);
     let tag = [byte(request, 2); TAG_LENGTH];
+    let id = array::from_fn(|i| byte(request, 3 + i));
     let named = slice_of(request, 3 + ID_LENGTH, request.len());
-    ledger::write(
-        l,
-        store,
-        byte(request, 0),
-        kind(byte(request, 1)),
-        tag,
-        id(slice_of(request, 3, ID_LENGTH)),
-        named,
-        out,
-    )
+    ledger::write(l, store, byte(request, 0), kind, tag, id, named, out)
 }
 
 // Puts a written update in a slot, and prints its length and id.
@@ -110,34 +77,32 @@ fn keep_written(slots: &mut [u8], s: usize, update: &[u8]) {
 // Writes what a slot asks for, and puts what was written in its place. Where the write is refused, the slot keeps what it asked for.
 pub fn write(l: Ledger, store: &[u8], slots: &mut [u8], out: &mut [u8], s: usize) {
     match ask_for(l, store, bytes_of(slots, s), out) {
-        Wrote::Written(n) => keep_written(slots, s, slice_of(out, 0, n)),
-        Wrote::Refused(r) => answered(Answer::Refused(r)),
+        Ok(n) => keep_written(slots, s, slice_of(out, 0, n)),
+        Err(r) => refused(r),
     }
+}
+
+// The number that the k-th word of a line spells.
+fn nth_number(line: &[u8], k: usize) -> usize {
+    number(word(line, k)).unwrap_or(0)
 }
 
 // The ledger with another count of taken places, and another length and other ancestors in a place.
 pub fn changed(l: Ledger, line: &[u8]) -> Ledger {
     let mut next = l;
-    next.used = number(word(line, 1));
-    let k = number(word(line, 2));
-    if k < PLACES {
-        let mut p = next.places[k];
-        p.length = number(word(line, 3));
-        p.ancestors = number(word(line, 4)) as u64;
-        next.places[k] = p;
+    next.used = nth_number(line, 1);
+    if let Some(place) = next.places.get_mut(nth_number(line, 2)) {
+        place.length = nth_number(line, 3);
+        place.ancestors = nth_number(line, 4) as u64;
     }
     next
 }
 
 // How the update at one place stands to that at another, where there are such places.
 pub fn order(l: Ledger, line: &[u8]) {
-    let k = number(word(line, 1));
-    let q = number(word(line, 2));
-    if PLACES <= k {
-        return;
+    let k = nth_number(line, 1);
+    let q = nth_number(line, 2);
+    if let (Some(own), Some(other)) = (l.places.get(k), l.places.get(q)) {
+        show::ordered(causal_order(*own, k, *other, q));
     }
-    if PLACES <= q {
-        return;
-    }
-    show::ordered(causal_order(l.places[k], k, l.places[q], q));
 }

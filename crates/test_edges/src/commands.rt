@@ -1,73 +1,92 @@
-// The commands, by their numbers.
-use test_script::byte;
+// The commands of a script.
+use ledger::Form;
+use test_script::{LENGTHS, fits, word};
 
-// Those that set a length, which is that of the slot LENGTHS and their number: of the store and of the output buffer, and of those of a second copy.
-pub const STORE: usize = 0;
+// What a script lends the ledger, by lengths that it sets: the store and the output buffer, and those of a second copy.
+#[derive(Clone, Copy, PartialEq, Eq)]
+pub enum Lent {
+    Store,
+    Buffer,
+    OtherStore,
+    OtherBuffer,
+}
 
-pub const BUFFER: usize = 1;
+impl Lent {
+    // The slot whose length it has.
+    pub fn slot(self) -> usize {
+        LENGTHS + self as usize
+    }
+}
 
-pub const OTHER_STORE: usize = 2;
+#[derive(Clone, Copy, PartialEq, Eq)]
+pub enum Command {
+    Length(Lent),
+    Let,
+    Fresh,
+    Offer,
+    Ask,
+    Write,
+    New,
+    Report,
+    ReportAs(Form),
+    Change,
+    View,
+    Compare,
+    Read,
+    Order,
+    Rooms,
+    Bundle,
+    Raw,
+    Lookup,
+    Spread,
+    Asks,
+    // A line without words, or that is a comment.
+    Nothing,
+    Heading,
+    // A line that is none of these.
+    Unread,
+}
 
-pub const OTHER_BUFFER: usize = 3;
-
-pub const LET: usize = 4;
-
-pub const FRESH: usize = 5;
-
-pub const OFFER: usize = 6;
-
-pub const ASK: usize = 7;
-
-pub const WRITE: usize = 8;
-
-pub const NEW: usize = 9;
-
-pub const REPORT: usize = 10;
-
-pub const CHANGE: usize = 11;
-
-pub const VIEW: usize = 12;
-
-pub const COMPARE: usize = 13;
-
-pub const READ: usize = 14;
-
-pub const ORDER: usize = 15;
-
-pub const FULL: usize = 16;
-
-pub const SHORT: usize = 17;
-
-pub const ROOMS: usize = 18;
-
-pub const BUNDLE: usize = 19;
-
-pub const RAW: usize = 20;
-
-pub const LOOKUP: usize = 21;
-
-pub const SPREAD: usize = 22;
-
-pub const ASKS: usize = 23;
-
-// A line without words, or that is a comment; a heading; a line that is none of these.
-pub const NOTHING: usize = 24;
-
-pub const HEADING: usize = 25;
-
-pub const UNREAD: usize = 26;
+// The command of a name, and the form of its words.
+fn named(name: &[u8]) -> Option<(Command, &'static [u8])> {
+    match name {
+        b"store" => Some((Command::Length(Lent::Store), b"-n")),
+        b"buffer" => Some((Command::Length(Lent::Buffer), b"-n")),
+        b"other-store" => Some((Command::Length(Lent::OtherStore), b"-n")),
+        b"other-buffer" => Some((Command::Length(Lent::OtherBuffer), b"-n")),
+        b"let" => Some((Command::Let, b"ps")),
+        b"fresh" => Some((Command::Fresh, b"-")),
+        b"offer" => Some((Command::Offer, b"ss")),
+        b"ask" => Some((Command::Ask, b"-s")),
+        b"write" => Some((Command::Write, b"ps")),
+        b"new" => Some((Command::New, b"ps")),
+        b"report" => Some((Command::Report, b"-")),
+        b"change" => Some((Command::Change, b"-nnnn")),
+        b"view" => Some((Command::View, b"-")),
+        b"compare" => Some((Command::Compare, b"-ll")),
+        b"read" => Some((Command::Read, b"-s")),
+        b"order" => Some((Command::Order, b"-nn")),
+        b"full" => Some((Command::ReportAs(Form::Full), b"-")),
+        b"short" => Some((Command::ReportAs(Form::Short), b"-")),
+        b"rooms" => Some((Command::Rooms, b"-")),
+        b"bundle" => Some((Command::Bundle, b"s")),
+        b"raw" => Some((Command::Raw, b"s")),
+        b"lookup" => Some((Command::Lookup, b"s")),
+        b"spread" => Some((Command::Spread, b"-n")),
+        b"asks" => Some((Command::Asks, b"-n")),
+        _ => None,
+    }
+}
 
 // The command of a line.
-pub fn command(line: &[u8]) -> usize {
-    match byte(line, 0) {
-        b';' => NOTHING,
-        b'#' => HEADING,
-        _ => {
-            let c = test_script::command(
-                b"store:-n buffer:-n other-store:-n other-buffer:-n let:ps fresh:- offer:ss ask:-s write:ps new:ps report:- change:-nnnn view:- compare:-ll read:-s order:-nn full:- short:- rooms:- bundle:s raw:s lookup:s spread:-n asks:-n",
-                line,
-            );
-            if c <= NOTHING { c } else { UNREAD }
-        }
+pub fn command_of(line: &[u8]) -> Command {
+    match line {
+        [b';', ..] => Command::Nothing,
+        [b'#', ..] => Command::Heading,
+        _ => match named(word(line, 0)) {
+            Some((command, form)) if fits(line, form) => command,
+            None if word(line, 0).is_empty() && word(line, 1).is_empty() => Command::Nothing,
+            _ => Command::Unread,
+        },
     }
 }

@@ -9,36 +9,38 @@ mod lookups;
 mod plain;
 mod show;
 
-use commands::{
-    ASK, ASKS, BUFFER, BUNDLE, CHANGE, FRESH, FULL, LOOKUP, NEW, OFFER, ORDER, RAW, REPORT, ROOMS,
-    SHORT, SPREAD, STORE, VIEW, WRITE, command,
-};
-use ledger::{Form, Ledger};
-use plain::{BUFFER_ROOM, FILL, STORE_ROOM, fill, prepare};
-use test_script::{LENGTHS, ROOM, bytes_of, find, lend, slot, word};
+use commands::{Command, Lent, command_of};
+use ledger::Ledger;
+use plain::{BUFFER_ROOM, FILL, STORE_ROOM, called, prepare};
+use test_script::{ROOM, bytes_of, item_of, lend, slot, word};
 
 // The descriptor of standard input.
 const STDIN_FILENO: i32 = 0;
 
-const NEWLINE: u8 = 10;
+const NEWLINE: u8 = b'\n';
+
+// Writes what the slot that a line names asks for.
+fn write(l: Ledger, store: &[u8], slots: &mut [u8], out: &mut [u8], line: &[u8]) {
+    if let Some(s) = slot(word(line, 1)) {
+        calls::write(l, store, slots, out, s);
+    }
+}
 
 // The commands that look at the ledger.
-fn look(l: Ledger, store: &[u8], slots: &mut [u8], out: &mut [u8], c: usize, line: &[u8]) {
-    let s = slot(word(line, 1));
+fn look(l: Ledger, store: &[u8], slots: &mut [u8], out: &mut [u8], c: Command, line: &[u8]) {
     match c {
-        BUFFER => fill(out),
-        ASK => calls::ask(l, store, bytes_of(slots, s)),
-        WRITE => calls::write(l, store, slots, out, s),
-        NEW => calls::write(ledger::fresh(), store, slots, out, s),
-        REPORT => calls::report(l, store, out),
-        VIEW => show::view(store, out),
-        ORDER => calls::order(l, line),
-        FULL => calls::report_as(l, store, Form::Full, out),
-        SHORT => calls::report_as(l, store, Form::Short, out),
-        ROOMS => calls::rooms(),
-        LOOKUP => lookups::lookup(l, store, slots, out, line),
-        SPREAD => lookups::spread(l, store, out, line),
-        ASKS => lookups::asks(l, store, out, line),
+        Command::Length(Lent::Buffer) => out.fill(FILL),
+        Command::Ask => calls::ask(l, store, called(slots, line)),
+        Command::Write => write(l, store, slots, out, line),
+        Command::New => write(ledger::fresh(), store, slots, out, line),
+        Command::Report => calls::report(l, store, out),
+        Command::View => show::view(store, out),
+        Command::Order => calls::order(l, line),
+        Command::ReportAs(form) => calls::report_as(l, store, form, out),
+        Command::Rooms => calls::rooms(),
+        Command::Lookup => lookups::lookup(l, store, slots, out, line),
+        Command::Spread => lookups::spread(l, store, out, line),
+        Command::Asks => lookups::asks(l, store, out, line),
         _ => {}
     }
 }
@@ -49,27 +51,28 @@ fn change(
     store: &mut [u8],
     slots: &[u8],
     out: &mut [u8],
-    c: usize,
+    c: Command,
     line: &[u8],
 ) -> Ledger {
     match c {
-        FRESH => {
-            fill(store);
+        Command::Fresh => {
+            store.fill(FILL);
             ledger::fresh()
         }
-        OFFER => calls::offers(l, store, slots, line),
-        BUNDLE | RAW => bundles::offer(l, store, slots, out, c, line),
-        CHANGE => calls::changed(l, line),
+        Command::Offer => calls::offers(l, store, slots, line),
+        Command::Bundle => bundles::offer(l, store, slots, out, line, item_of),
+        Command::Raw => bundles::offer(l, store, slots, out, line, bytes_of),
+        Command::Change => calls::changed(l, line),
         _ => l,
     }
 }
 
 // Runs a line.
 fn step(l: Ledger, store: &mut [u8], slots: &mut [u8], out: &mut [u8], line: &[u8]) -> Ledger {
-    let c = command(line);
+    let c = command_of(line);
     prepare(slots, c, line);
-    let lent = lend(slots, LENGTHS + STORE, store);
-    let page = lend(slots, LENGTHS + BUFFER, out);
+    let lent = lend(slots, Lent::Store.slot(), store);
+    let page = lend(slots, Lent::Buffer.slot(), out);
     look(l, lent, slots, page, c, line);
     change(l, lent, slots, page, c, line)
 }
@@ -77,11 +80,8 @@ fn step(l: Ledger, store: &mut [u8], slots: &mut [u8], out: &mut [u8], line: &[u
 // Runs the lines of a script.
 fn run(script: &[u8], store: &mut [u8], slots: &mut [u8], out: &mut [u8]) {
     let mut l = ledger::fresh();
-    let mut at: usize = 0;
-    while at < script.len() {
-        let end = find(script, at, NEWLINE);
-        l = step(l, store, slots, out, &script[at..end]);
-        at = end + 1;
+    for line in script.split(|b| *b == NEWLINE) {
+        l = step(l, store, slots, out, line);
     }
 }
 

@@ -1,10 +1,10 @@
 // Answers, as the lines that the command prints for them.
-ghost use Rattle.std.specs.Prelude.{◌<◌, ◌≤◌};
+ghost use Rattle.std.specs.Prelude.{◌<◌};
 
-use ledger::{ANSWER_LENGTH, Answer, Asked, Bundled, LookedUp, Refusal, Standing};
-use replicas_check::Compared;
+use ledger::{ANSWER_LENGTH, Answer, Refusal, Standing};
+use replicas_check::{Comparison, Unreported};
 use rules::CausalOrder;
-use update_format::{ParseResult, slice_of};
+use update_format::{Malformed, Parsed, slice_of};
 
 // The descriptor of standard output.
 const STDOUT_FILENO: i32 = 1;
@@ -25,43 +25,56 @@ fn standing(s: Standing) {
     }
 }
 
-fn refused(r: Refusal) {
-    text(b"refused ");
-    decimal(r.number() as usize);
+// A number, and the end of the line.
+fn last_number(n: usize) {
+    decimal(n);
+    text(b")\n");
+}
+
+// A refusal.
+pub fn refused(r: Refusal) {
+    text(b"(refused ");
+    last_number(usize::from(r.number()));
 }
 
 fn taken(s: Standing, held: usize, void: usize) {
-    text(b"taken ");
+    text(b"(taken ");
     standing(s);
     text(b" ");
     decimal(held);
     text(b" ");
-    decimal(void);
+    last_number(void);
 }
 
-pub fn answered(a: Answer) {
-    text(b"(");
-    match a {
-        Answer::Taken {
-            standing: s,
-            held,
-            void,
-        } => taken(s, held, void),
-        Answer::Known(s) => {
-            text(b"known ");
+// What an offer is answered.
+pub fn offered(answer: Result<Answer, Refusal>) {
+    match answer {
+        Ok(
+            Answer::Taken {
+                standing: s,
+                held,
+                void,
+            },
+        ) => taken(s, held, void),
+        Ok(Answer::Known(s)) => {
+            text(b"(known ");
             standing(s);
+            text(b")\n");
         }
-        Answer::Refused(r) => refused(r),
+        Err(r) => refused(r),
     }
-    text(b")\n");
 }
 
-pub fn asked(a: Asked) {
+// How an update stands.
+pub fn asked(answer: Result<Option<Standing>, Refusal>) {
     text(b"(standing ");
-    match a {
-        Asked::Is(s) => standing(s),
-        Asked::Unknown => text(b"unknown"),
-        Asked::Refused(r) => refused(r),
+    match answer {
+        Ok(Some(s)) => standing(s),
+        Ok(None) => text(b"unknown"),
+        Err(r) => {
+            text(b"refused ");
+            decimal(usize::from(r.number()));
+        }
     }
     text(b")\n");
 }
@@ -77,49 +90,41 @@ pub fn ordered(o: CausalOrder) {
 }
 
 // What two copies that are compared answer.
-pub fn compared(c: Compared) {
-    text(b"(");
+pub fn compared(c: Result<Comparison, Unreported>) {
     match c {
-        Compared::Same { length } => {
-            text(b"same ");
-            decimal(length);
+        Ok(Comparison::Same { length }) => {
+            text(b"(same ");
+            last_number(length);
         }
-        Compared::Different { first, second } => {
-            text(b"different ");
+        Ok(Comparison::Different { first, second }) => {
+            text(b"(different ");
             decimal(first);
             text(b" ");
-            decimal(second);
+            last_number(second);
         }
-        Compared::FirstUnreported(r) => {
-            text(b"first unreported ");
-            decimal(r.number() as usize);
+        Err(Unreported::First(r)) => {
+            text(b"(first unreported ");
+            last_number(usize::from(r.number()));
         }
-        Compared::SecondUnreported(r) => {
-            text(b"second unreported ");
-            decimal(r.number() as usize);
+        Err(Unreported::Second(r)) => {
+            text(b"(second unreported ");
+            last_number(usize::from(r.number()));
         }
     }
-    text(b")\n");
 }
 
 // What bytes are read as.
-pub fn read(r: ParseResult) {
+pub fn read(r: Result<Parsed, Malformed>) {
     match r {
-        ParseResult::Update(_) => text(b"(ok)\n"),
-        ParseResult::Refused(m) => answered(Answer::Refused(Refusal::Malformed(m))),
+        Ok(_) => text(b"(ok)\n"),
+        Err(m) => refused(Refusal::from(m)),
     }
-}
-
-fn hex_byte(b: u8) {
-    io::print_hex(STDOUT_FILENO, b as u64, 2);
 }
 
 // Bytes in hexadecimal digits, and the end of the line.
 fn hex(s: &[u8]) {
-    let mut i: usize = 0;
-    while i < s.len() {
-        hex_byte(s[i]);
-        i += 1;
+    for b in s {
+        io::print_hex(STDOUT_FILENO, u64::from(*b), 2);
     }
     text(b")\n");
 }
@@ -131,31 +136,28 @@ pub fn digest(s: &[u8]) {
 
 // Bytes in hexadecimal digits, so many of them a line.
 fn lines(s: &[u8], width: usize)
-    requires { (0 < width) × (width ≤ 32) }
+    requires { 0 < width }
 {
-    let mut at: usize = 0;
-    while at < s.len() {
+    for part in s.chunks(width) {
         text(b"(");
-        hex(slice_of(s, at, width));
-        at += width;
+        hex(part);
     }
 }
 
 // What a bundle answers, and the answers to its items.
-pub fn bundled(b: Bundled, out: &[u8]) {
-    match b {
-        Bundled::Answered(n) => {
+pub fn bundled(answer: Result<usize, Refusal>, out: &[u8]) {
+    match answer {
+        Ok(n) => {
             text(b"(answered ");
-            decimal(n);
-            text(b")\n");
+            last_number(n);
             lines(slice_of(out, 0, n), ANSWER_LENGTH);
         }
-        Bundled::Refused(r) => answered(Answer::Refused(r)),
+        Err(r) => refused(r),
     }
 }
 
 // How answers to ids are shown: all of them, or their SHA-256.
-#[derive(Clone, Copy)]
+#[derive(Clone, Copy, PartialEq, Eq)]
 pub enum Digits {
     All,
     Digest,
@@ -176,26 +178,25 @@ fn answers(s: &[u8], digits: Digits) {
 }
 
 // What looking ids up answers, and the answers to the ids.
-pub fn looked_up(r: LookedUp, s: &[u8], digits: Digits) {
+pub fn looked_up(r: Result<usize, Refusal>, s: &[u8], digits: Digits) {
     match r {
-        LookedUp::Compared(n) => {
+        Ok(n) => {
             text(b"(compared ");
-            decimal(n);
-            text(b")\n");
+            last_number(n);
             answers(s, digits);
         }
-        LookedUp::Refused(e) => answered(Answer::Refused(e)),
+        Err(e) => refused(e),
     }
 }
 
-// The answers to ids that were asked after one by one, the last of which is given.
-pub fn asked_each(last: Asked, s: &[u8]) {
-    match last {
-        Asked::Refused(r) => answered(Answer::Refused(r)),
-        _ => {
+// The answers to ids that were asked after one by one, or the refusal of the last.
+pub fn asked_each(r: Result<(), Refusal>, s: &[u8]) {
+    match r {
+        Ok(()) => {
             text(b"(asked)\n");
             answers(s, Digits::Digest);
         }
+        Err(e) => refused(e),
     }
 }
 

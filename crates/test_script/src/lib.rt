@@ -5,8 +5,8 @@ mod forms;
 mod slots;
 mod words;
 
-pub use forms::{LISTED, command};
+pub use forms::{LISTED, fits};
 pub use slots::{
     LENGTHS, ROOM, build, bytes_of, item_of, lend, of_letter, put, set, set_length, slot,
 };
-pub use words::{byte, find, number, word};
+pub use words::{byte, is_space, number, word};

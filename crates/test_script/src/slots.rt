@@ -1,9 +1,8 @@
-// Byte strings, in slots of one lent array. Slots are called 0 to 92 and a to z. The first two bytes of a slot are the length of its bytes.
+// Byte strings, in slots of one lent array. Slots are called 0 to 92 and a to z. The first two bytes of a slot are the length of its bytes, which may go on over the
+// slots after it: so the slots are one array, and no array of slots.
 ghost use Rattle.std.specs.Prelude.{◌≤◌, length};
 
-use crate::words::{after, byte, field, is_number, number, word};
-use bytes_copy::copy;
-use bytes_order::same;
+use crate::words::{after, byte, field, is_space, number};
 use update_format::slice_of;
 
 // How many bytes a slot takes, and how many of them are for the length.
@@ -12,35 +11,24 @@ const SLOT: usize = 640;
 const HEAD: usize = 2;
 
 // How many slots there are: those of letters have the letters' own numbers.
-pub const SLOTS: usize = 123;
+const SLOTS: usize = 123;
 
 // How many bytes they take.
-pub const ROOM: usize = 78720;
+pub const ROOM: usize = SLOT * SLOTS;
 
 // The first of the slots that words do not call, whose lengths are the program's.
 pub const LENGTHS: usize = 93;
 
-// The largest length.
-const LONGEST: usize = 65535;
-
-// The slot of a letter; past the last where it calls none.
-pub fn of_letter(b: u8) -> usize {
-    if b'a' <= b && b <= b'z' {
-        b as usize
-    } else {
-        SLOTS
-    }
+// The slot of a letter, if it calls one.
+pub fn of_letter(b: u8) -> Option<usize> {
+    b.is_ascii_lowercase().then_some(usize::from(b))
 }
 
-// The slot that a word calls; past the last where it calls none.
-pub fn slot(s: &[u8]) -> usize {
-    if s.len() == 1 && b'9' < byte(s, 0) {
-        return of_letter(byte(s, 0));
-    }
-    if is_number(s) && number(s) < LENGTHS {
-        number(s)
-    } else {
-        SLOTS
+// The slot that a word calls, if it calls one.
+pub fn slot(s: &[u8]) -> Option<usize> {
+    match s {
+        [b] if b'9' < *b => of_letter(*b),
+        _ => number(s).filter(|n| *n < LENGTHS),
     }
 }
 
@@ -56,31 +44,23 @@ fn length_of(slots: &[u8], s: usize) -> usize
     ensures { result ≤ 65535 }
 {
     let at = start(s);
-    let high = byte(slots, at);
-    let low = byte(slots, at + 1);
-    256 * high as usize + low as usize
+    usize::from(u16::from_be_bytes([byte(slots, at), byte(slots, at + 1)]))
 }
 
 // Puts bytes at a place, where they fit, and gives the place past them.
 pub fn put(slots: &mut [u8], at: usize, bytes: &[u8]) -> usize {
-    if slots.len() < at {
+    if slots.len() < at || slots.len() - at < bytes.len() {
         return at;
     }
-    if slots.len() - at < bytes.len() {
-        return at;
-    }
-    copy(&mut slots[at..], bytes);
-    at + bytes.len()
+    let end = at + bytes.len();
+    slots[at..end].copy_from_slice(bytes);
+    end
 }
 
 // Another length, at most the largest.
 pub fn set_length(slots: &mut [u8], s: usize, n: usize) {
-    let at = start(s);
-    let m = if n < LONGEST { n } else { LONGEST };
-    if at + 1 < slots.len() {
-        slots[at] = (m / 256 % 256) as u8;
-        slots[at + 1] = (m % 256) as u8;
-    }
+    let length = u16::try_from(n).unwrap_or(u16::MAX);
+    put(slots, start(s), &length.to_be_bytes());
 }
 
 // The bytes of a slot.
@@ -93,18 +73,10 @@ pub fn item_of(slots: &[u8], s: usize) -> &[u8] {
     slice_of(slots, start(s), HEAD + length_of(slots, s))
 }
 
-// The length of a slot's bytes, at most that of a whole.
-fn lent(slots: &[u8], s: usize, whole: &[u8]) -> usize
-    ensures { result ≤ length whole.now }
-{
-    let n = length_of(slots, s);
-    if n < whole.len() { n } else { whole.len() }
-}
-
 // The first bytes of a whole, as many as a slot has.
 pub fn lend<'a>(slots: &[u8], s: usize, whole: &'a mut [u8]) -> &'a mut [u8] {
-    let n = lent(slots, s, whole);
-    &mut whole[0..n]
+    let n = length_of(slots, s).min(whole.len());
+    &mut whole[..n]
 }
 
 // Other bytes.
@@ -115,69 +87,65 @@ pub fn set(slots: &mut [u8], s: usize, bytes: &[u8]) {
 
 // Puts a byte at a place, n times, as far as there is room, and gives the place past them.
 fn repeat(slots: &mut [u8], at: usize, b: u8, n: usize) -> usize {
-    let mut end = at;
-    while end < slots.len() && end - at < n {
-        slots[end] = b;
-        end += 1;
+    let end = at.saturating_add(n).min(slots.len());
+    if end < at {
+        return at;
     }
+    slots[at..end].fill(b);
     end
 }
 
-// Whether a part is the id of a slot's bytes.
-fn is_id(part: &[u8]) -> bool {
-    same(slice_of(part, 0, 3), b"id:")
+// What a part puts: the id of a slot's bytes; or a byte, so many times.
+#[derive(Clone, Copy)]
+enum Part {
+    Id(usize),
+    Bytes(u8, usize),
 }
 
-// Whether a word is a part: `id:a`, the id of the bytes of a; `77*16`, the byte 77, 16 times; `77`, once.
-pub fn is_part(s: &[u8]) -> bool {
-    if is_id(s) {
-        return slot(after(s, b':')) < SLOTS;
+// The part that a word is, if it is one: `id:a`, the id of the bytes of a; `77*16`, the byte 77, 16 times; `77`, once.
+fn read_part(s: &[u8]) -> Option<Part> {
+    if let Some(called) = s.strip_prefix(b"id:") {
+        return Some(Part::Id(slot(called)?));
     }
     let first = field(s, 0, b'*');
-    is_number(first) && number(first) < 256 && (first.len() == s.len() || is_number(after(s, b'*')))
-}
-
-// How many times the byte of a part is put.
-fn times(part: &[u8]) -> usize {
-    if field(part, 0, b'*').len() == part.len() {
+    let b = u8::try_from(number(first)?).ok()?;
+    let times = if first.len() == s.len() {
         1
     } else {
-        number(after(part, b'*'))
-    }
+        number(after(s, b'*'))?
+    };
+    Some(Part::Bytes(b, times))
 }
 
-// Puts the id of a slot's bytes at a place, and gives the place past it.
-fn add_id(slots: &mut [u8], at: usize, s: usize) -> usize {
-    let id = sha256_digest::digest(bytes_of(slots, s));
-    put(slots, at, &id)
+// Whether a word is a part.
+pub fn is_part(s: &[u8]) -> bool {
+    read_part(s).is_some()
 }
 
 // Puts a part at a place, and gives the place past it.
-fn add_part(slots: &mut [u8], at: usize, part: &[u8]) -> usize {
-    if is_id(part) {
-        return add_id(slots, at, slot(after(part, b':')));
+fn add_part(slots: &mut [u8], at: usize, s: &[u8]) -> usize {
+    match read_part(s) {
+        Some(Part::Id(called)) => {
+            let id = sha256_digest::digest(bytes_of(slots, called));
+            put(slots, at, &id)
+        }
+        Some(Part::Bytes(b, n)) => repeat(slots, at, b, n),
+        None => at,
     }
-    let b = number(field(part, 0, b'*')) % 256;
-    repeat(slots, at, b as u8, times(part))
-}
-
-// Puts the parts of a line, from its third word on, at a place, and gives the place past them.
-fn add_parts(slots: &mut [u8], at: usize, line: &[u8]) -> usize {
-    let mut end = at;
-    let mut k: usize = 2;
-    while k < line.len() && 0 < word(line, k).len() {
-        end = add_part(slots, end, word(line, k));
-        k += 1;
-    }
-    end
 }
 
 // Puts the parts of a line together in the slot that its second word calls.
 pub fn build(slots: &mut [u8], line: &[u8]) {
-    let s = slot(word(line, 1));
+    let Some(s) = slot(field(line, 1, b' ')) else {
+        return;
+    };
     let first = start(s) + HEAD;
-    let end = add_parts(slots, first, line);
-    if first <= end {
-        set_length(slots, s, end - first);
+    let mut end = first;
+    for word in line.split(is_space).skip(2) {
+        if word.is_empty() {
+            break;
+        }
+        end = add_part(slots, end, word);
     }
+    set_length(slots, s, end.saturating_sub(first));
 }

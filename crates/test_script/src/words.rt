@@ -1,46 +1,21 @@
 // The words of a line, and the numbers that they spell.
-ghost use Rattle.std.specs.Prelude.{◌≤◌, length};
 
-use update_format::slice_of;
-
-// The largest number.
-const LARGEST: usize = 0xffffffffffffffff;
-
-// The place of the first x from a place on; the length where there is none.
-pub fn find(s: &[u8], from: usize, x: u8) -> usize
-    requires { from ≤ length s.now }
-    ensures { (from ≤ result) × (result ≤ length s.now) }
-{
-    let mut at = from;
-    while at < s.len() && s[at] != x {
-        at += 1;
-    }
-    at
-}
-
-// The place past it.
-fn past(s: &[u8], from: usize, x: u8) -> usize
-    requires { from ≤ length s.now }
-    ensures { result ≤ length s.now }
-{
-    let end = find(s, from, x);
-    if end < s.len() { end + 1 } else { end }
+// Whether a byte stands between words.
+pub fn is_space(b: &u8) -> bool {
+    *b == b' '
 }
 
 // The k-th of the parts that x separates; no bytes past the last.
 pub fn field(s: &[u8], k: usize, x: u8) -> &[u8] {
-    let mut at: usize = 0;
-    let mut i: usize = 0;
-    while i < k {
-        at = past(s, at, x);
-        i += 1;
-    }
-    slice_of(s, at, find(s, at, x) - at)
+    s.split(|b| *b == x).nth(k).unwrap_or(&[])
 }
 
 // What comes after the first x.
 pub fn after(s: &[u8], x: u8) -> &[u8] {
-    slice_of(s, past(s, 0, x), s.len())
+    match s.iter().position(|b| *b == x) {
+        Some(at) => &s[at + 1..],
+        None => &[],
+    }
 }
 
 // The k-th word of a line.
@@ -50,53 +25,20 @@ pub fn word(line: &[u8], k: usize) -> &[u8] {
 
 // A byte; 0 stands for a missing one.
 pub fn byte(s: &[u8], at: usize) -> u8 {
-    if at < s.len() { s[at] } else { 0 }
+    s.get(at).copied().unwrap_or(0)
 }
 
-// Whether a byte is a digit, and makes a number of one that it comes after.
-fn extends(n: usize, b: u8) -> bool {
-    b'0' <= b && b <= b'9' && n <= (LARGEST - (b % 16) as usize) / 10
-}
-
-// That number; the largest stands for those above it.
-fn extended(n: usize, b: u8) -> usize {
-    let d = (b % 16) as usize;
-    if n <= (LARGEST - d) / 10 {
-        10 * n + d
-    } else {
-        LARGEST
+// The number that a word spells, if it spells one.
+pub fn number(s: &[u8]) -> Option<usize> {
+    if s.is_empty() {
+        return None;
     }
-}
-
-// A number, and how many of a word's bytes spell it.
-#[derive(Clone, Copy)]
-struct Spelled {
-    value: usize,
-    length: usize,
-}
-
-// The number that the first bytes of a word spell, as many as spell one.
-fn spell(s: &[u8]) -> Spelled {
     let mut n: usize = 0;
-    let mut i: usize = 0;
-    while i < s.len() && extends(n, s[i]) {
-        n = extended(n, s[i]);
-        i += 1;
+    for b in s {
+        if !b.is_ascii_digit() {
+            return None;
+        }
+        n = n.checked_mul(10)?.checked_add(usize::from(*b - b'0'))?;
     }
-    Spelled {
-        value: n,
-        length: i,
-    }
-}
-
-// The number that a word spells.
-pub fn number(s: &[u8]) -> usize {
-    let n = spell(s);
-    n.value
-}
-
-// Whether a word spells a number.
-pub fn is_number(s: &[u8]) -> bool {
-    let n = spell(s);
-    0 < s.len() && n.length == s.len()
+    Some(n)
 }

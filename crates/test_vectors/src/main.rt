@@ -13,11 +13,9 @@ fn main() {
     );
     whole(&[0xbd]);
     whole(&[0xc9, 0x8c, 0x8e, 0x55]);
-    repeated(0x00, 55);
-    repeated(0x00, 56);
-    repeated(0x00, 57);
-    repeated(0x00, 64);
-    repeated(0x00, 1000);
+    for n in [55, 56, 57, 64, 1000] {
+        repeated(0x00, n);
+    }
     repeated(0x41, 1000);
     repeated(0x55, 1005);
     edges();
@@ -25,18 +23,9 @@ fn main() {
 
 // Lengths on both sides of the end of a block, and of the last length whose padding needs no block more.
 fn edges() {
-    repeated(0xff, 55);
-    repeated(0xff, 56);
-    repeated(0xff, 57);
-    repeated(0xff, 63);
-    repeated(0xff, 64);
-    repeated(0xff, 65);
-    repeated(0xff, 119);
-    repeated(0xff, 120);
-    repeated(0xff, 121);
-    repeated(0xff, 127);
-    repeated(0xff, 128);
-    repeated(0xff, 129);
+    for n in [55, 56, 57, 63, 64, 65, 119, 120, 121, 127, 128, 129] {
+        repeated(0xff, n);
+    }
 }
 
 // The line of the message s.
@@ -46,13 +35,8 @@ fn whole(s: &[u8]) {
 
 // The line of n times the byte x, n at most 1,005; nothing where n is more.
 fn repeated(x: u8, n: usize) {
-    first(n, &[x], &[x; 1005]);
-}
-
-// The line of the first n bytes of s, each of which is the one of x; nothing where s is shorter.
-fn first(n: usize, x: &[u8], s: &[u8]) {
-    if n <= s.len() {
-        line(n as u64, x, &s[..n]);
+    if let Some(message) = [x; 1005].get(..n) {
+        line(n as u64, &[x], message);
     }
 }
 
@@ -60,25 +44,18 @@ fn first(n: usize, x: &[u8], s: &[u8]) {
 fn line(count: u64, bytes: &[u8], message: &[u8]) {
     io::print_decimal(1, count);
     io::write_all(1, b" ");
-    if bytes.len() == 0 {
+    if bytes.is_empty() {
         io::write_all(1, b"-");
     }
     write_hex(bytes);
     io::write_all(1, b" ");
-    let d = sha256_digest::digest(message);
-    write_hex(&d);
+    write_hex(&sha256_digest::digest(message));
     io::write_all(1, b"\n");
 }
 
 // Writes two digits for each byte of s.
 fn write_hex(s: &[u8]) {
-    let mut i = 0;
-    while i < s.len() {
-        io::print_hex(1, wide(s[i]), 2);
-        i += 1;
+    for x in s {
+        io::print_hex(1, u64::from(*x), 2);
     }
-}
-
-fn wide(x: u8) -> u64 {
-    x as u64
 }

@@ -3,36 +3,30 @@
 #![tactic(auto)]
 
 ghost use Rattle.std.specs.Prelude.{◌≡◌};
+ghost use Rattle.update_format.specs.Kinds.{kind_byte};
 ghost use Rattle.update_facts.specs.Facts.{kind_in, named_in, packed, author_by, kind_by, predecessors_by, named_by, operation_by, unpacked, Packable};
 
-use update_format::numbers::{
-    ADD, DELETE, FIRST_PREDECESSOR, ID_LENGTH, INSERT, REMOVE, TAG_LENGTH,
-};
-use update_format::{Operation, Parsed};
+use update_format::numbers::{FIRST_PREDECESSOR, ID_LENGTH};
+use update_format::{Kind, Operation, Parsed};
 
-// Where the facts above the author begin in a word.
-const KIND: u64 = 256;
+// Where the facts stand among the bytes of a word, the lowest first.
+const AUTHOR: usize = 0;
 
-const PREDECESSORS: u64 = 65536;
+const KIND: usize = 1;
 
-const NAMED: u64 = 16777216;
+const PREDECESSORS: usize = 2;
 
-// The kind byte of an operation.
-fn kind_of(operation: Operation) -> u8
-    ensures { result ≡ kind_in operation }
+const NAMED: usize = 3;
+
+// The kind of an operation.
+fn kind_of(operation: Operation) -> Kind
+    ensures { kind_byte result ≡ kind_in operation }
 {
     match operation {
-        Operation::Add { tag: _ } => ADD,
-        Operation::Remove {
-            tag: _,
-            named: _,
-            count: _,
-        } => REMOVE,
-        Operation::Insert {
-            anchor: _,
-            value: _,
-        } => INSERT,
-        Operation::Delete { deleted: _ } => DELETE,
+        Operation::Add { .. } => Kind::Add,
+        Operation::Remove { .. } => Kind::Remove,
+        Operation::Insert { .. } => Kind::Insert,
+        Operation::Delete { .. } => Kind::Delete,
     }
 }
 
@@ -41,88 +35,63 @@ fn named_of(operation: Operation) -> usize
     ensures { result ≡ named_in operation }
 {
     match operation {
-        Operation::Add { tag: _ } => 0,
-        Operation::Remove {
-            tag: _,
-            named: _,
-            count,
-        } => count,
-        Operation::Insert {
-            anchor: _,
-            value: _,
-        } => 0,
-        Operation::Delete { deleted: _ } => 0,
+        Operation::Remove { count, .. } => count,
+        _ => 0,
     }
 }
 
 // The facts of an update that was read.
+#[tactic(auto, unfolding(crate::specs::Facts::packed))]
 pub fn pack(update: Parsed) -> u64
     requires { Packable update }
     ensures { result ≡ packed update }
 {
-    let operation = update.operation;
-    let kind = kind_of(operation);
-    let named = named_of(operation);
-    update.author as u64
-        + KIND * kind as u64
-        + PREDECESSORS * update.count as u64
-        + NAMED * named as u64
+    let kind = u8::from(kind_of(update.operation));
+    let predecessors = update.count as u8;
+    let named = named_of(update.operation) as u8;
+    u64::from(u32::from_le_bytes([update.author, kind, predecessors, named]))
 }
 
 // The author, of any word.
 pub fn author(facts: u64) -> u8
     ensures { result ≡ author_by facts }
 {
-    (facts % 256) as u8
+    facts.to_le_bytes()[AUTHOR]
 }
 
 // The kind byte.
 pub fn kind(facts: u64) -> u8
     ensures { result ≡ kind_by facts }
 {
-    (facts / KIND % 256) as u8
+    facts.to_le_bytes()[KIND]
 }
 
 // How many predecessors.
 pub fn predecessors(facts: u64) -> usize
     ensures { result ≡ predecessors_by facts }
 {
-    (facts / PREDECESSORS % 256) as usize
+    usize::from(facts.to_le_bytes()[PREDECESSORS])
 }
 
 // How many named ids.
 pub fn named(facts: u64) -> usize
     ensures { result ≡ named_by facts }
 {
-    (facts / NAMED % 256) as usize
+    usize::from(facts.to_le_bytes()[NAMED])
 }
 
 // The offsets of the operation's fields.
+#[tactic(auto, unfolding(crate::specs::Facts::operation_by))]
 fn operation(facts: u64) -> Operation
     ensures { result ≡ operation_by facts }
 {
     let body = FIRST_PREDECESSOR + ID_LENGTH * predecessors(facts) + 1;
-    let byte = kind(facts);
-    if byte == ADD {
-        return Operation::Add { tag: body };
-    }
-    if byte == REMOVE {
-        return Operation::Remove {
-            tag: body,
-            named: body + TAG_LENGTH + 1,
-            count: named(facts),
-        };
-    }
-    if byte == INSERT {
-        return Operation::Insert {
-            anchor: body,
-            value: body + ID_LENGTH,
-        };
-    }
-    Operation::Delete { deleted: body }
+    let kind = Kind::try_from(kind(facts)).unwrap_or(Kind::Delete);
+    Operation::laid_out(kind, body, named(facts))
 }
 
 // What reading the update gave.
+#[tactic(auto, unfolding(crate::specs::Facts::unpacked))]
 pub fn unpack(facts: u64) -> Parsed
     ensures { result ≡ unpacked facts }
 {

@@ -1,1 +1,1 @@
-pub mod FieldsRead
+pub mod Members

@@ -1,3 +1,2 @@
 pub mod Fields
-pub mod Laid
 pub mod FieldLaws

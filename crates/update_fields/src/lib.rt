@@ -7,139 +7,84 @@ ghost use Rattle.update_format.specs.Update.{document_bounds, tag_length};
 ghost use Rattle.update_format.specs.Decode.{ids_at, decode};
 ghost use Rattle.rules.specs.Settle.{is_add, is_insert, names, deletes};
 ghost use Rattle.update_fields.specs.Fields.{test_of, author_in, is_any_add, tag_in, value_in, anchor_in};
-ghost use Rattle.update_fields.specs.Laid.{Laid};
 
-use update_format::numbers::{ADD, DELETE, ID_LENGTH, INSERT, REMOVE, TAG_LENGTH};
-use update_format::{Operation, ParseResult};
-
-// What bytes lay out: the kind byte of an update, 0 where they are none; the author; where the tag or the value begins; where the ids
-// begin, and how many they are (those that a Remove names, the anchor of an Insert, the id that a Delete deletes).
-#[derive(Clone, Copy)]
-pub struct Layout {
-    pub kind: u8,
-    pub author: u8,
-    pub text: usize,
-    pub ids: usize,
-    pub count: usize,
-}
-
-// Where the fields lie.
-fn layout_of(b: &[u8]) -> Layout
-    ensures { Laid b.now result (decode document_bounds b.now) }
-{
-    match update_parsing::read(b) {
-        ParseResult::Update(u) => {
-            let operation = u.operation;
-            match operation {
-                Operation::Add { tag } => Layout {
-                    kind: ADD,
-                    author: u.author,
-                    text: tag,
-                    ids: 0,
-                    count: 0,
-                },
-                Operation::Remove { tag, named, count } => Layout {
-                    kind: REMOVE,
-                    author: u.author,
-                    text: tag,
-                    ids: named,
-                    count: count,
-                },
-                Operation::Insert { anchor, value } => Layout {
-                    kind: INSERT,
-                    author: u.author,
-                    text: value,
-                    ids: anchor,
-                    count: 1,
-                },
-                Operation::Delete { deleted } => Layout {
-                    kind: DELETE,
-                    author: u.author,
-                    text: 0,
-                    ids: deleted,
-                    count: 1,
-                },
-            }
-        }
-        ParseResult::Refused(_) => Layout {
-            kind: 0,
-            author: 0,
-            text: 0,
-            ids: 0,
-            count: 0,
-        },
-    }
-}
+use update_format::numbers::{ID_LENGTH, TAG_LENGTH};
+use update_format::{Operation, slice_of};
 
 // The author.
+#[tactic(auto, unfolding(crate::specs::Fields::author_in))]
 pub fn author_of(b: &[u8]) -> u8
     ensures { (result ≡ author_in (decode document_bounds b.now)) × (result < document_bounds.authors) }
 {
-    let f = layout_of(b);
-    f.author
+    match update_parsing::read(b) {
+        Ok(u) => u.author,
+        Err(_) => 0,
+    }
 }
 
 // The tag of an Add.
+#[tactic(auto, unfolding(crate::specs::Fields::tag_in, bytes_order::specs::Member::concat_map, rules::specs::Settle::tags_of))]
 pub fn tag_of(b: &[u8]) -> &[u8]
     ensures { (result.now ≡ tag_in (decode document_bounds b.now)) × (length result.now ≤ tag_length) }
 {
-    let f = layout_of(b);
-    if f.kind == ADD {
-        update_format::slice_of(b, f.text, TAG_LENGTH)
-    } else {
-        &b[..0]
+    match update_parsing::read(b).map(|u| u.operation) {
+        Ok(Operation::Add { tag }) => slice_of(b, tag, TAG_LENGTH),
+        _ => &[],
     }
 }
 
 // The value of an Insert.
+#[tactic(auto, unfolding(crate::specs::Fields::value_in, bytes_order::specs::Member::concat_map, rules::specs::Settle::values_of))]
 pub fn value_of(b: &[u8]) -> &[u8]
     ensures { (result.now ≡ value_in (decode document_bounds b.now)) × (length result.now ≤ tag_length) }
 {
-    let f = layout_of(b);
-    if f.kind == INSERT {
-        update_format::slice_of(b, f.text, TAG_LENGTH)
-    } else {
-        &b[..0]
+    match update_parsing::read(b).map(|u| u.operation) {
+        Ok(Operation::Insert { value, .. }) => slice_of(b, value, TAG_LENGTH),
+        _ => &[],
     }
 }
 
 // The anchor of an Insert.
+#[tactic(auto, unfolding(crate::specs::Fields::anchor_in, crate::specs::Fields::anchor_of))]
 pub fn anchor_of(b: &[u8]) -> &[u8]
     ensures { result.now ≡ anchor_in (decode document_bounds b.now) }
 {
-    let f = layout_of(b);
-    if f.kind == INSERT {
-        update_format::slice_of(b, f.ids, ID_LENGTH)
-    } else {
-        &b[..0]
+    match update_parsing::read(b).map(|u| u.operation) {
+        Ok(Operation::Insert { anchor, .. }) => slice_of(b, anchor, ID_LENGTH),
+        _ => &[],
     }
 }
 
 // Whether it is an Add.
+#[tactic(auto, unfolding(crate::specs::Fields::test_of, crate::specs::Fields::is_any_add))]
 pub fn is_add(b: &[u8]) -> bool
     ensures { result ≡ test_of is_any_add (decode document_bounds b.now) }
 {
-    let f = layout_of(b);
-    f.kind == ADD
+    matches!(
+        update_parsing::read(b).map(|u| u.operation),
+        Ok(Operation::Add { .. })
+    )
 }
 
 // Whether it is an Insert.
+#[tactic(auto, unfolding(crate::specs::Fields::test_of, rules::specs::Settle::is_insert))]
 pub fn is_insert(b: &[u8]) -> bool
     ensures { result ≡ test_of is_insert (decode document_bounds b.now) }
 {
-    let f = layout_of(b);
-    f.kind == INSERT
+    matches!(
+        update_parsing::read(b).map(|u| u.operation),
+        Ok(Operation::Insert { .. })
+    )
 }
 
 // Whether it is an Add of the tag.
+#[tactic(auto, unfolding(crate::specs::Fields::test_of, rules::specs::Settle::is_add))]
 pub fn adds(b: &[u8], tag: &[u8]) -> bool
     ensures { result ≡ test_of (is_add tag.now) (decode document_bounds b.now) }
 {
-    let f = layout_of(b);
-    if f.kind == ADD {
-        bytes_order::same(tag, update_format::slice_of(b, f.text, TAG_LENGTH))
-    } else {
-        false
+    match update_parsing::read(b).map(|u| u.operation) {
+        Ok(Operation::Add { tag: at }) => bytes_order::same(tag, slice_of(b, at, TAG_LENGTH)),
+        _ => false,
     }
 }
 
@@ -147,36 +92,27 @@ pub fn adds(b: &[u8], tag: &[u8]) -> bool
 pub fn among(b: &[u8], at: usize, count: usize, id: &[u8]) -> bool
     ensures { result ≡ member id.now (ids_at b.now at count) }
 {
-    let mut k: usize = 0;
-    while k < count {
-        if bytes_order::same(id, update_format::named(b, at, k)) {
-            return true;
-        }
-        k += 1;
-    }
-    false
+    (0..count).any(|k| bytes_order::same(id, update_format::named(b, at, k)))
 }
 
 // Whether it is a Remove that names the id.
+#[tactic(auto, unfolding(crate::specs::Fields::test_of, rules::specs::Settle::names))]
 pub fn removes(b: &[u8], id: &[u8]) -> bool
     ensures { result ≡ test_of (names id.now) (decode document_bounds b.now) }
 {
-    let f = layout_of(b);
-    if f.kind == REMOVE {
-        among(b, f.ids, f.count, id)
-    } else {
-        false
+    match update_parsing::read(b).map(|u| u.operation) {
+        Ok(Operation::Remove { named, count, .. }) => among(b, named, count, id),
+        _ => false,
     }
 }
 
 // Whether it is a Delete of the id.
+#[tactic(auto, unfolding(crate::specs::Fields::test_of, rules::specs::Settle::deletes))]
 pub fn erases(b: &[u8], id: &[u8]) -> bool
     ensures { result ≡ test_of (deletes id.now) (decode document_bounds b.now) }
 {
-    let f = layout_of(b);
-    if f.kind == DELETE {
-        bytes_order::same(id, update_format::slice_of(b, f.ids, ID_LENGTH))
-    } else {
-        false
+    match update_parsing::read(b).map(|u| u.operation) {
+        Ok(Operation::Delete { deleted }) => bytes_order::same(id, slice_of(b, deleted, ID_LENGTH)),
+        _ => false,
     }
 }

@@ -2,7 +2,7 @@
 use Rattle.std.specs.Prelude.{ℕ, zero, suc, ◌+◌, ◌*◌, ◌/◌, ◌%◌, List, [], ◌∷◌, Bool, cond, not, ◌&&◌, ◌||◌, length, get_or, take, drop, ltb, leb, eqb}
 use Rattle.bytes_order.specs.Order.{ascending}
 use Rattle.update_format.specs.declared.Bounds.{Bounds}
-use Rattle.update_format.specs.Update.{max_named, id_length, tag_length, min_length, max_length, Id, Operation, Add, Remove, Insert, Delete, Update}
+use Rattle.update_format.specs.Update.{max_count, max_named, id_length, tag_length, min_length, max_length, Id, Operation, Add, Remove, Insert, Delete, Update}
 
 -- the k bytes of b from byte at on
 abbrev pub slice : List ℕ → ℕ → ℕ → List ℕ
@@ -41,10 +41,15 @@ kind_at b = first_predecessor + id_length * count_of b
 abbrev pub kind_of : List ℕ → ℕ
 kind_of b = get_or b (kind_at b) 0
 
--- where the operation's own bytes begin, and where a Remove's count byte m and its named ids stand
+-- where the operation's own bytes begin
 abbrev pub body_at : List ℕ → ℕ
 body_at b = kind_at b + 1
 
+-- the farthest that they can begin
+abbrev pub farthest_body : ℕ
+farthest_body = first_predecessor + id_length * max_count + 1
+
+-- where a Remove's count byte m stands, and what it says
 abbrev pub named_count_at : List ℕ → ℕ
 named_count_at b = body_at b + tag_length
 

@@ -1,5 +1,5 @@
 -- What reading the bytes answers: the offsets of an update's fields, or the refusal; and what such an answer means.
-use Rattle.std.specs.Prelude.{ℕ, ◌+◌, ◌≡◌, refl, List, [], Bool, true, false, cond, eqb}
+use Rattle.std.specs.Prelude.{ℕ, ◌+◌, ◌≡◌, refl, List, [], Bool, true, false, cond, eqb, Result, Ok, Err}
 use Rattle.std.proofs.Common.{ap}
 use Rattle.update_format.specs.Update as U
 use Rattle.update_format.specs.declared.Bounds.{Bounds}
@@ -10,8 +10,6 @@ use Rattle.update_format.specs.declared.Malformed.TheVariants.{Length, Version, 
 use Rattle.update_format.specs.declared.Operation.{Operation}
 use Rattle.update_format.specs.declared.Operation.TheVariants.{Add, Remove, Insert, Delete}
 use Rattle.update_format.specs.declared.Parsed.{Parsed}
-use Rattle.update_format.specs.declared.ParseResult.{ParseResult}
-use Rattle.update_format.specs.declared.ParseResult.TheVariants.{Update as Accepted, Refused}
 
 -- document 01's number of each refusal
 abbrev pub malformed_number : Malformed → ℕ
@@ -24,6 +22,10 @@ malformed_number Kind = 7
 malformed_number Layout = 8
 malformed_number Unordered = 9
 
+-- row 7's refusal, of a kind byte that is none of the four
+abbrev pub kind_refused : Malformed
+kind_refused = Kind
+
 -- the operation whose fields stand at the offsets
 abbrev pub operation_at : List ℕ → Operation → U.Operation
 operation_at b (Add tag) = U.Add (slice b tag tag_length)
@@ -35,9 +37,9 @@ operation_at b (Delete deleted) = U.Delete (slice b deleted id_length)
 abbrev pub value_of : List ℕ → Parsed → Update
 value_of b p = record { author = p.author; preds = ids_at b first_predecessor p.count; op = operation_at b p.operation }
 
-abbrev pub decoded_of : List ℕ → ParseResult → Decoded
-decoded_of b (Accepted p) = update (value_of b p)
-decoded_of b (Refused m) = refused (malformed_number m)
+abbrev pub decoded_of : List ℕ → Result Parsed Malformed → Decoded
+decoded_of b (Ok p) = update (value_of b p)
+decoded_of b (Err m) = refused (malformed_number m)
 
 -- the offsets of the operation's fields, by the kind byte
 unfoldable pub offsets_of : List ℕ → Operation
@@ -51,21 +53,21 @@ unfoldable pub parsed_of : List ℕ → Parsed
 parsed_of b = record { author = author_of b; count = count_of b; operation = offsets_of b }
 
 -- rows 6 to 9, then the offsets
-unfoldable pub operation_parse : List ℕ → ParseResult
+unfoldable pub operation_parse : List ℕ → Result Parsed Malformed
 operation_parse b =
-    cond (row6 b) (Refused Truncated)
-    (cond (row7 b) (Refused Kind)
-    (cond (row8 b) (Refused Layout)
-    (cond (row9 b) (Refused Unordered)
-    (Accepted (parsed_of b)))))
+    cond (row6 b) (Err Truncated)
+    (cond (row7 b) (Err Kind)
+    (cond (row8 b) (Err Layout)
+    (cond (row9 b) (Err Unordered)
+    (Ok (parsed_of b)))))
 
 -- rows 2 to 9 in their order, then the offsets
-unfoldable pub parse_of : Bounds → List ℕ → ParseResult
+unfoldable pub parse_of : Bounds → List ℕ → Result Parsed Malformed
 parse_of bounds b =
-    cond (row2 bounds b) (Refused Length)
-    (cond (row3 b) (Refused Version)
-    (cond (row4 bounds b) (Refused Author)
-    (cond (row5 bounds b) (Refused Predecessors)
+    cond (row2 bounds b) (Err Length)
+    (cond (row3 b) (Err Version)
+    (cond (row4 bounds b) (Err Author)
+    (cond (row5 bounds b) (Err Predecessors)
     (operation_parse b))))
 
 operation-back : (b : List ℕ) → operation_at b (offsets_of b) ≡ operation_of b
@@ -99,8 +101,8 @@ parse-decodes bounds b = go (row2 bounds b) (row3 b) (row4 bounds b) (row5 bound
     go :
         (a c d e f g h i : Bool) →
         decoded_of b
-        (cond a (Refused Length) (cond c (Refused Version) (cond d (Refused Author) (cond e (Refused Predecessors)
-        (cond f (Refused Truncated) (cond g (Refused Kind) (cond h (Refused Layout) (cond i (Refused Unordered) (Accepted (parsed_of b))))))))))
+        (cond a (Err Length) (cond c (Err Version) (cond d (Err Author) (cond e (Err Predecessors)
+        (cond f (Err Truncated) (cond g (Err Kind) (cond h (Err Layout) (cond i (Err Unordered) (Ok (parsed_of b))))))))))
         ≡ cond a (refused 2) (cond c (refused 3) (cond d (refused 4) (cond e (refused 5)
         (cond f (refused 6) (cond g (refused 7) (cond h (refused 8) (cond i (refused 9) (update (update_of b)))))))))
     go true c d e f g h i = refl

@@ -2,7 +2,7 @@
 ghost use Rattle.std.specs.Prelude.{◌≡◌, ◌≤◌};
 ghost use Rattle.update_format.specs.Update.{document_bounds, max_length, max_count};
 
-use crate::Bounds;
+use crate::{Bounds, Kind};
 
 // Document 01's own bounds.
 pub fn document_bounds() -> Bounds
@@ -10,7 +10,7 @@ pub fn document_bounds() -> Bounds
 {
     Bounds {
         authors: AUTHORS,
-        predecessors: MAX_PREDECESSORS as usize,
+        predecessors: usize::from(MAX_PREDECESSORS),
     }
 }
 
@@ -19,14 +19,14 @@ pub fn max_length(bounds: Bounds) -> usize
     requires { bounds.predecessors ≤ max_count }
     ensures { result ≡ max_length bounds }
 {
-    MIN_LENGTH + 1 + ID_LENGTH * bounds.predecessors + ID_LENGTH * MAX_NAMED as usize
+    MIN_LENGTH + 1 + ID_LENGTH * bounds.predecessors + ID_LENGTH * usize::from(MAX_NAMED)
 }
 
 pub const VERSION: u8 = 1;
 
 pub const MAX_AUTHOR: u8 = 15;
 
-// How many authors there are: 0 to MAX_AUTHOR.
+// How many authors there are: 0 to MAX_AUTHOR. Widened by `as`, here and in MAX_LENGTH: a constant calls no From.
 pub const AUTHORS: usize = MAX_AUTHOR as usize + 1;
 
 pub const MAX_PREDECESSORS: u8 = 8;
@@ -47,10 +47,10 @@ pub const TAG_LENGTH: usize = 16;
 pub const FIRST_PREDECESSOR: usize = 3;
 
 // The kind bytes.
-pub const ADD: u8 = 1;
+pub const ADD: u8 = Kind::Add as u8;
 
-pub const REMOVE: u8 = 2;
+pub const REMOVE: u8 = Kind::Remove as u8;
 
-pub const INSERT: u8 = 3;
+pub const INSERT: u8 = Kind::Insert as u8;
 
-pub const DELETE: u8 = 4;
+pub const DELETE: u8 = Kind::Delete as u8;

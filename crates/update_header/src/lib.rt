@@ -25,53 +25,48 @@ pub struct Header {
     pub named: u8,
 }
 
-// The reader at the first byte.
-fn start<'a>(bytes: &'a [u8]) -> Reader<'a>
-    ensures { (result.bytes ≡ bytes.entry) × (result.at ≡ 0) }
-{
-    Reader { bytes, at: 0 }
-}
-
-// The reader n bytes further.
-fn past<'a>(r: Reader<'a>, n: usize) -> Reader<'a>
-    requires { r.at + n < 2 ^ 64 }
-    ensures { (result.bytes ≡ r.entry.bytes) × (result.at ≡ r.entry.at + n) }
-{
-    Reader {
-        bytes: r.bytes,
-        at: r.at + n,
+impl<'a> Reader<'a> {
+    // The reader at the first byte.
+    fn start(bytes: &'a [u8]) -> Reader<'a>
+        ensures { (result.bytes ≡ bytes.entry) × (result.at ≡ 0) }
+    {
+        Reader { bytes, at: 0 }
     }
-}
 
-// The byte at the reader; 0 stands for a missing one.
-fn byte<'a>(r: Reader<'a>) -> u8
-    ensures { result ≡ get_or r.entry.bytes.now r.entry.at 0 }
-{
-    byte_at(r.bytes, r.at)
-}
+    // The reader n bytes further.
+    fn past(self, n: usize) -> Reader<'a>
+        requires { self.at + n < 2 ^ 64 }
+        ensures { (result.bytes ≡ self.entry.bytes) × (result.at ≡ self.entry.at + n) }
+    {
+        Reader {
+            at: self.at + n,
+            ..self
+        }
+    }
 
-// The byte at a position of the bytes; 0 stands for a missing one.
-fn byte_at(s: &[u8], at: usize) -> u8
-    ensures { result ≡ get_or s.now at 0 }
-{
-    if at < s.len() { s[at] } else { 0 }
+    // The byte at the reader; 0 stands for a missing one.
+    fn byte(self) -> u8
+        ensures { result ≡ get_or self.entry.bytes.now self.entry.at 0 }
+    {
+        self.bytes.get(self.at).copied().unwrap_or(0)
+    }
 }
 
 // What a reader finds on its way from the version to a Remove's count byte.
 pub fn read_header(s: &[u8]) -> Header
     ensures { result ≡ header_of s.now }
 {
-    let at_version = start(s);
-    let version = byte(at_version);
-    let at_author = past(at_version, 1);
-    let author = byte(at_author);
-    let at_count = past(at_author, 1);
-    let count = byte(at_count);
-    let at_ids = past(at_count, 1);
-    let at_kind = past(at_ids, ID_LENGTH * wide(count));
-    let kind = byte(at_kind);
-    let at_body = past(at_kind, 1);
-    let named = byte(past(at_body, TAG_LENGTH));
+    let at_version = Reader::start(s);
+    let version = at_version.byte();
+    let at_author = at_version.past(1);
+    let author = at_author.byte();
+    let at_count = at_author.past(1);
+    let count = at_count.byte();
+    let at_ids = at_count.past(1);
+    let at_kind = at_ids.past(ID_LENGTH * usize::from(count));
+    let kind = at_kind.byte();
+    let at_body = at_kind.past(1);
+    let named = at_body.past(TAG_LENGTH).byte();
     Header {
         version,
         author,
@@ -80,11 +75,4 @@ pub fn read_header(s: &[u8]) -> Header
         body: at_body.at,
         named,
     }
-}
-
-// A byte as a count.
-pub fn wide(x: u8) -> usize
-    ensures { result ≡ x }
-{
-    x as usize
 }

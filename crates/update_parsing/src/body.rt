@@ -2,73 +2,38 @@
 ghost use Rattle.std.specs.Prelude.{◌≡◌, not};
 ghost use Rattle.update_format.specs.Decode.{row8, row9};
 ghost use Rattle.update_format.specs.BodyBounds.{AtBody, AtCount, OffsetsRead};
-ghost use Rattle.update_format.specs.ParseResult.{offsets_of, operation_parse};
+ghost use Rattle.update_format.specs.ParseResult.{operation_parse};
 ghost use Rattle.update_header.specs.Header.{AtKind};
 
-use update_format::numbers::{
-    ADD, DELETE, FIRST_PREDECESSOR, ID_LENGTH, INSERT, MAX_NAMED, REMOVE, TAG_LENGTH,
-};
-use update_format::{Malformed, Operation, ParseResult, Parsed, ascends};
-use update_header::{Header, wide};
+use update_format::numbers::{FIRST_PREDECESSOR, ID_LENGTH, MAX_NAMED, TAG_LENGTH};
+use update_format::{Kind, Malformed, Operation, Parsed, ascends};
+use update_header::Header;
 
 // Whether a Remove's count byte is missing or too large, or its named ids do not end with the bytes.
+#[tactic(auto, unfolding(update_format::specs::Decode::row8, update_format::specs::Decode::length_of))]
 fn wrong_remove(s: &[u8], at: usize, named: u8) -> bool
     requires { AtCount s.now at named }
     ensures { result ≡ row8 s.now }
 {
-    if s.len() <= at {
-        return true;
-    }
-    if MAX_NAMED < named {
-        return true;
-    }
-    s.len() != at + 1 + ID_LENGTH * wide(named)
+    s.len() <= at || MAX_NAMED < named || s.len() != at + 1 + ID_LENGTH * usize::from(named)
 }
 
 // Whether the length is not what kind and counts give.
-fn wrong_layout(s: &[u8], header: Header) -> bool
-    requires { AtBody s.now header.kind header.body header.named }
+#[tactic(auto, unfolding(update_format::specs::Decode::row8, update_format::specs::Decode::length_of))]
+fn wrong_layout(s: &[u8], header: Header, kind: Kind) -> bool
+    requires { AtBody s.now kind header.body header.named }
     ensures { result ≡ row8 s.now }
 {
-    if header.kind == ADD {
-        return s.len() != header.body + TAG_LENGTH;
-    }
-    if header.kind == REMOVE {
-        return wrong_remove(s, header.body + TAG_LENGTH, header.named);
-    }
-    if header.kind == INSERT {
-        return s.len() != header.body + ID_LENGTH + TAG_LENGTH;
-    }
-    s.len() != header.body + ID_LENGTH
-}
-
-// The offsets of the operation's fields.
-fn offsets(s: &[u8], header: Header) -> Operation
-    requires { AtBody s.now header.kind header.body header.named }
-    ensures { result ≡ offsets_of s.now }
-{
-    if header.kind == ADD {
-        return Operation::Add { tag: header.body };
-    }
-    if header.kind == REMOVE {
-        return Operation::Remove {
-            tag: header.body,
-            named: header.body + TAG_LENGTH + 1,
-            count: wide(header.named),
-        };
-    }
-    if header.kind == INSERT {
-        return Operation::Insert {
-            anchor: header.body,
-            value: header.body + ID_LENGTH,
-        };
-    }
-    Operation::Delete {
-        deleted: header.body,
+    match kind {
+        Kind::Add => s.len() != header.body + TAG_LENGTH,
+        Kind::Remove => wrong_remove(s, header.body + TAG_LENGTH, header.named),
+        Kind::Insert => s.len() != header.body + ID_LENGTH + TAG_LENGTH,
+        Kind::Delete => s.len() != header.body + ID_LENGTH,
     }
 }
 
 // Whether the predecessors and a Remove's named ids are strictly ascending.
+#[tactic(auto, unfolding(update_format::specs::ParseResult::offsets_of, update_format::specs::Decode::row9, update_format::specs::Decode::named_of))]
 fn ordered(s: &[u8], count: usize, operation: Operation) -> bool
     requires { OffsetsRead s.now count operation }
     ensures { not result ≡ row9 s.now }
@@ -77,43 +42,30 @@ fn ordered(s: &[u8], count: usize, operation: Operation) -> bool
         return false;
     }
     match operation {
-        Operation::Remove {
-            tag: _,
-            named,
-            count,
-        } => ascends(s, named, count),
-        Operation::Add { tag: _ } => true,
-        Operation::Insert {
-            anchor: _,
-            value: _,
-        } => true,
-        Operation::Delete { deleted: _ } => true,
+        Operation::Remove { named, count, .. } => ascends(s, named, count),
+        _ => true,
     }
 }
 
 // Rows 6 to 9, then the offsets.
-pub fn read(s: &[u8], header: Header) -> ParseResult
+#[tactic(auto, using(update_format::specs::KindLaws::row7_kind, update_format::specs::KindLaws::offsets_kind), unfolding(update_format::specs::ParseResult::operation_parse, update_format::specs::Decode::row6, update_format::specs::ParseResult::parsed_of))]
+pub fn read(s: &[u8], header: Header) -> Result<Parsed, Malformed>
     requires { AtKind s.now header }
     ensures { result ≡ operation_parse s.now }
 {
     if s.len() < header.body {
-        return ParseResult::Refused(Malformed::Truncated);
+        return Err(Malformed::Truncated);
     }
-    if header.kind < ADD {
-        return ParseResult::Refused(Malformed::Kind);
+    let kind = Kind::try_from(header.kind)?;
+    if wrong_layout(s, header, kind) {
+        return Err(Malformed::Layout);
     }
-    if DELETE < header.kind {
-        return ParseResult::Refused(Malformed::Kind);
-    }
-    if wrong_layout(s, header) {
-        return ParseResult::Refused(Malformed::Layout);
-    }
-    let count = wide(header.count);
-    let operation = offsets(s, header);
+    let count = usize::from(header.count);
+    let operation = Operation::laid_out(kind, header.body, usize::from(header.named));
     if !ordered(s, count, operation) {
-        return ParseResult::Refused(Malformed::Unordered);
+        return Err(Malformed::Unordered);
     }
-    ParseResult::Update(Parsed {
+    Ok(Parsed {
         author: header.author,
         count,
         operation,

@@ -9,36 +9,34 @@ ghost use Rattle.update_format.specs.ParseResult.{decoded_of, parse_of};
 mod body;
 
 use update_format::numbers::{MIN_LENGTH, VERSION, document_bounds, max_length};
-use update_format::{Bounds, Malformed, ParseResult};
-use update_header::{read_header, wide};
+use update_format::{Bounds, Malformed, Parsed};
+use update_header::read_header;
 
-// Reads an update of any length within the bounds: the number of the first row that applies, or the offsets.
-pub fn read_within(bounds: Bounds, s: &[u8]) -> ParseResult
+// Reads an update of any length within the bounds: the offsets, or the first row that applies.
+#[tactic(auto, unfolding(update_format::specs::ParseResult::parse_of, update_format::specs::Decode::decode, update_format::specs::Decode::row2, update_format::specs::Decode::row3, update_format::specs::Decode::row4, update_format::specs::Decode::row5))]
+pub fn read_within(bounds: Bounds, s: &[u8]) -> Result<Parsed, Malformed>
     requires { bounds.predecessors ≤ max_count }
     ensures decoded { decoded_of s.now result ≡ decode bounds s.now }
     ensures offsets { result ≡ parse_of bounds s.now }
 {
-    if s.len() < MIN_LENGTH {
-        return ParseResult::Refused(Malformed::Length);
-    }
-    if max_length(bounds) < s.len() {
-        return ParseResult::Refused(Malformed::Length);
+    if s.len() < MIN_LENGTH || max_length(bounds) < s.len() {
+        return Err(Malformed::Length);
     }
     let header = read_header(s);
     if header.version != VERSION {
-        return ParseResult::Refused(Malformed::Version);
+        return Err(Malformed::Version);
     }
-    if bounds.authors <= wide(header.author) {
-        return ParseResult::Refused(Malformed::Author);
+    if bounds.authors <= usize::from(header.author) {
+        return Err(Malformed::Author);
     }
-    if bounds.predecessors < wide(header.count) {
-        return ParseResult::Refused(Malformed::Predecessors);
+    if bounds.predecessors < usize::from(header.count) {
+        return Err(Malformed::Predecessors);
     }
     body::read(s, header)
 }
 
 // Reads an update of any length within document 01's bounds.
-pub fn read(s: &[u8]) -> ParseResult
+pub fn read(s: &[u8]) -> Result<Parsed, Malformed>
     ensures decoded { decoded_of s.now result ≡ decode document_bounds s.now }
     ensures offsets { result ≡ parse_of document_bounds s.now }
 {

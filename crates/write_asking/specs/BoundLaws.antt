@@ -4,8 +4,8 @@ use Rattle.std.proofs.Common.{arith}
 use Rattle.std.proofs.lemmas.Bool.{not-false}
 use Rattle.update_format.specs.Update.{Id, id_length, tag_length, BoundedOperation, add, remove, insert, delete}
 use Rattle.update_format.specs.Slices.{ids-length, ids_sized}
-use Rattle.write_operations.specs.declared.Kind.{Kind}
-use Rattle.write_operations.specs.declared.Kind.TheVariants.{Add as AnAdd, Remove as ARemove, Insert as AnInsert, Delete as ADelete}
+use Rattle.update_format.specs.declared.kind.Kind.{Kind}
+use Rattle.update_format.specs.declared.kind.Kind.TheVariants.{Add as AnAdd, Remove as ARemove, Insert as AnInsert, Delete as ADelete}
 use Rattle.update_format.specs.Decode.{ids_in}
 use Rattle.write_operations.specs.Operations.{operation_for, bad_named, unordered_named}
 use Rattle.write_operations.specs.NamedLaws.{good-named}

@@ -1,20 +1,19 @@
 -- What the entry `write` promises, for every ledger, store, author, operation and buffer.
-use Rattle.std.specs.Prelude.{◌≡◌, ℕ, ◌≤◌, ◌<◌, List, ◌++◌, true, false, length, drop}
+use Rattle.std.specs.Prelude.{◌≡◌, ℕ, ◌≤◌, ◌<◌, List, ◌++◌, true, false, length, drop, Result, Ok, Err}
 use Rattle.update_format.specs.Update.{Id, max_length, Operation, Update, encode, Bounded}
 use Rattle.rules.specs.Writing.{written_of, writable_of}
 use Rattle.ledger_state.specs.State.{Book}
 use Rattle.ledger_state.specs.Row1.{sound}
 use Rattle.ledger_state.specs.Stands.{rules, Stands}
-use Rattle.write_operations.specs.declared.Kind.{Kind}
+use Rattle.update_format.specs.declared.kind.Kind.{Kind}
 use Rattle.write_operations.specs.Operations.{operation_for, bad_named, unordered_named}
 use Rattle.ledger_refusals.specs.Numbers.{row1_number, row4_number, row8_number, row9_number, row11_number, row12_number, refusal_number, Output, put_bytes, refused_by}
-use Rattle.write_asking.specs.declared.Wrote.{Wrote}
-use Rattle.write_asking.specs.declared.Wrote.TheVariants.{Written, Refused}
+use Rattle.ledger_refusals.specs.declared.Refusal.{Refusal}
 
 -- document 01's values of what the writer answers: the length of its result, or the number of the row
-abbrev pub wrote_values : Wrote → Output
-wrote_values (Written n) = put_bytes n
-wrote_values (Refused r) = refused_by (refusal_number r)
+abbrev pub wrote_values : Result ℕ Refusal → Output
+wrote_values (Ok n) = put_bytes n
+wrote_values (Err r) = refused_by (refusal_number r)
 
 -- The update that is written. For every ledger and store it has the author and the operation asked for, its bytes are well formed, and no more than the longest update of the terms has (533 at document 01's). For a
 -- ledger that stands it is the one that the rules give. Left free for a ledger that stands for no set of updates: which ids it names as predecessors.
@@ -47,9 +46,8 @@ pub data Writing (l : Book) (s : List ℕ) (a : ℕ) (k : Kind) (t : List ℕ) (
       → WrittenUpdate l s a (operation_for k t i named) u → length (encode u) ≤ length o
       → Writing l s a k t i named o (put_bytes (length (encode u))) (encode u ++ drop (length (encode u)) o)
 
--- rows 1, 4, 8 and 9 do not apply
+-- rows 1, 4 and 9 do not apply (nor row 8, by the draft)
 pub record WellAsked (l : Book) (s : List ℕ) (a : ℕ) (named : List ℕ) : Type 0 where
   pub fits : sound l s ≡ true
   pub author_small : a < l.terms.bounds.authors
-  pub named_good : bad_named named ≡ false
   pub named_ordered : unordered_named named ≡ false

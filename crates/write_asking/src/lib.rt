@@ -1,50 +1,36 @@
 // Writing an update that rows 1, 4, 8 and 9 let through.
 #![tactic(auto)]
 
-ghost use Rattle.ledger_state.specs.View.{book_of};
+ghost use Rattle.ledger_state.specs.View.{book, store_of};
 ghost use Rattle.write_asking.specs.Write.{wrote_values, Writing, WellAsked};
 
-use bytes_print::put;
 use ledger_judging::{Judgement, judge_bytes};
 use ledger_refusals::Refusal;
-use ledger_state::Ledger;
+use ledger_state::Replica;
 use update_format::numbers::MAX_LENGTH;
-use update_format::{Id, Tag};
-use write_operations::Kind;
+use write_operations::Draft;
 
-// What the writer answers: how many bytes of the output buffer the update takes.
-#[derive(Clone, Copy)]
-pub enum Wrote {
-    Written(usize),
-    Refused(Refusal),
-}
-
-// Composes the update, judges it as if it were offered, and copies it out.
+// Composes the update, judges it as if it were offered, and copies it out: how many bytes of the output buffer it takes.
 pub fn write_asked(
-    ledger: Ledger,
-    store: &[u8],
+    replica: &Replica,
     author: u8,
-    kind: Kind,
-    tag: Tag,
-    id: Id,
-    named: &[u8],
+    draft: &Draft,
     out: &mut [u8],
-) -> Wrote
-    requires { WellAsked (book_of ledger) store.now author named.now }
-    ensures { Writing (book_of ledger) store.now author kind tag id named.now out.old (wrote_values result) out.new }
+) -> Result<usize, Refusal>
+    requires { WellAsked (book replica.now) (store_of replica.now) author draft.now.named.now }
+    ensures { Writing (book replica.now) (store_of replica.now) author draft.now.kind draft.now.tag draft.now.id draft.now.named.now out.old (wrote_values result) out.new }
 {
     let mut bytes = [0u8; MAX_LENGTH];
-    let end = write_layout::compose(ledger, store, author, kind, tag, id, named, &mut bytes);
+    let end = write_layout::compose(replica, author, draft, &mut bytes);
     let update = &bytes[..end];
-    match judge_bytes(ledger, store, update) {
+    match judge_bytes(replica, update) {
         Judgement::Holds(_) => {
             if out.len() < end {
-                return Wrote::Refused(Refusal::Short);
+                return Err(Refusal::Short);
             }
-            put(out, 0, update);
-            Wrote::Written(end)
+            out[..end].copy_from_slice(update);
+            Ok(end)
         }
-        Judgement::Fails => Wrote::Refused(Refusal::Invalid),
-        Judgement::Waits => Wrote::Refused(Refusal::Invalid),
+        Judgement::Fails | Judgement::Waits => Err(Refusal::Invalid),
     }
 }

@@ -1,11 +1,10 @@
 -- An author's held place of highest rank, on a tie that of larger id, for every ledger. The theorem `top_right` says that for a ledger that stands it is
 -- that of the rules' first ranked row.
-use Rattle.std.specs.Prelude.{◌≡◌, ℕ, zero, suc, ◌≤◌, ◌<◌, List, Bool, true, cond, ◌&&◌, ◌||◌, ltb, eqb}
-use Rattle.std.proofs.Math.Option.{Option, none, some}
+use Rattle.std.specs.Prelude.{◌≡◌, ℕ, zero, suc, ◌<◌, List, Bool, true, cond, ◌&&◌, ◌||◌, ltb, eqb}
+use Rattle.std.specs.Prelude.{Option, None, Some}
 use Rattle.bytes_order.specs.Order.{before}
-use Rattle.ledger_state.specs.State.{Book, found_of}
+use Rattle.ledger_state.specs.State.{Book}
 use Rattle.ledger_relations.specs.PlaceTests.{id_at, held_at, author_at, rank_at}
-use Rattle.ledger_state.specs.declared.Found.{Found}
 
 module _ (l : Book) (s : List ℕ) where
   -- the held place k is the author's
@@ -18,16 +17,15 @@ module _ (l : Book) (s : List ℕ) where
       ltb (rank_at l s j) (rank_at l s k) || (eqb (rank_at l s j) (rank_at l s k) && before (id_at l s j) (id_at l s k))
 
   unfoldable pub better_than : Option ℕ → ℕ → Bool
-  better_than none k = true
-  better_than (some j) k = higher k j
+  better_than None k = true
+  better_than (Some j) k = higher k j
 
   -- the author's held place of highest rank (on a tie, larger id) below n
   unfoldable pub top_below : ℕ → ℕ → Option ℕ
-  top_below a zero = none
-  top_below a (suc n) = cond (own_at a n && better_than (top_below a n) n) (some n) (top_below a n)
+  top_below a zero = None
+  top_below a (suc n) = cond (own_at a n && better_than (top_below a n) n) (Some n) (top_below a n)
 
   -- k is a taken place, and t the author's highest below it
-  pub record TopSoFar (a k : ℕ) (t : Found) : Type 0 where
-    pub used_within : l.used ≤ l.terms.places
+  pub record TopSoFar (a k : ℕ) (t : Option ℕ) : Type 0 where
     pub place-taken : k < l.used
-    pub top_right : t ≡ found_of (top_below a k)
+    pub top_right : t ≡ (top_below a k)

@@ -5,7 +5,7 @@ use Rattle.std.proofs.Math.Nat.{eq-or-lt_of_le}
 use Rattle.std.specs.Prelude.{◌≡◌, ◌⊎◌, Bool, true, false, cond, ◌&&◌, length}
 use Rattle.std.proofs.Math.Path.{refl, sym, ap}
 use mathlib.Core.List.{List, [], ◌∷◌, reverse, tail-eq_of_cons-eq}
-use Rattle.std.proofs.Math.Option.{Option, none, some}
+use Rattle.std.specs.Prelude.{Option, None, Some}
 use Rattle.std.proofs.Math.ListN.{length-map}
 use Rattle.std.proofs.Math.Dec.{eqb}
 use Rattle.bytes_order.specs.Order.{before}
@@ -40,8 +40,8 @@ module _ (l : Book) (s : List ℕ) where
 
   -- what is found below n: no place of the author, or one of them, of which no other is higher
   Top : ℕ → ℕ → Option ℕ → Type 0
-  Top a n none = (k : ℕ) → k < n → own_at l s a k ≡ false
-  Top a n (some j) = (j < n) × (own_at l s a j ≡ true) × ((k : ℕ) → k < n → own_at l s a k ≡ true → before (key_at j) (key_at k) ≡ false)
+  Top a n None = (k : ℕ) → k < n → own_at l s a k ≡ false
+  Top a n (Some j) = (j < n) × (own_at l s a j ≡ true) × ((k : ℕ) → k < n → own_at l s a k ≡ true → before (key_at j) (key_at k) ≡ false)
 
   top_below_lem : (a n : ℕ) → Top a n (top_below l s a n)
   unfolding Top top_below better_than higher before
@@ -51,8 +51,8 @@ module _ (l : Book) (s : List ℕ) where
       last : {k : ℕ} → k < suc n → (k ≡ n) ⊎ (k < n)
       last h = eq-or-lt_of_le (le_of_suc-le-suc h)
 
-      better : (j : ℕ) (b : Bool) → before (key_at j) (key_at n) ≡ b → own_at l s a n ≡ true → Top a n (some j)
-          → Top a (suc n) (cond b (some n) (some j))
+      better : (j : ℕ) (b : Bool) → before (key_at j) (key_at n) ≡ b → own_at l s a n ≡ true → Top a n (Some j)
+          → Top a (suc n) (cond b (Some n) (Some j))
       better j true q e t = (
         omega arith,
         e,
@@ -67,17 +67,17 @@ module _ (l : Book) (s : List ℕ) where
         λ k h o. ⊎_elim (λ (p : k ≡ n). ap (λ (i : ℕ). before (key_at j) (key_at i)) p ∙ q) (λ (i : k < n). t.2 k i o) (last h),
       )
 
-      step : (o : Option ℕ) (b : Bool) → own_at l s a n ≡ b → Top a n o → Top a (suc n) (cond (b && better_than l s o n) (some n) o)
-      step none true e t = (
+      step : (o : Option ℕ) (b : Bool) → own_at l s a n ≡ b → Top a n o → Top a (suc n) (cond (b && better_than l s o n) (Some n) o)
+      step None true e t = (
         omega arith,
         e,
         λ k h o.
             ⊎_elim (λ (p : k ≡ n). ap (λ (i : ℕ). before (key_at n) (key_at i)) p ∙ before-irrefl (key_at n))
             (λ (i : k < n). absurd (true-false o (t k i))) (last h),
       )
-      step none false e t = λ k h. ⊎_elim (λ (p : k ≡ n). ap (own_at l s a) p ∙ e) (λ (i : k < n). t k i) (last h)
-      step (some j) true e t = better j (before (key_at j) (key_at n)) refl e t
-      step (some j) false e t = (
+      step None false e t = λ k h. ⊎_elim (λ (p : k ≡ n). ap (own_at l s a) p ∙ e) (λ (i : k < n). t k i) (last h)
+      step (Some j) true e t = better j (before (key_at j) (key_at n)) refl e t
+      step (Some j) false e t = (
         omega (arith, t.0),
         t.1,
         λ k h o. ⊎_elim (λ (p : k ≡ n). absurd (true-false (sym (ap (own_at l s a) p) ∙ o) e)) (λ (i : k < n). t.2 k i o) (last h),
@@ -146,8 +146,8 @@ module _ {l : Book} {s : List ℕ} {us : List Update} (stands : Stands l s us) w
 
   -- the first of the ranked rows
   unfoldable pub RankedBy : Table → Option ℕ → Type 0
-  RankedBy rs none = rs ≡ []
-  RankedBy rs (some t) = (t < length us) × (held_at l s t ≡ true) × (ts : Table) × (rs ≡ row_at us t ∷ ts)
+  RankedBy rs None = rs ≡ []
+  RankedBy rs (Some t) = (t < length us) × (held_at l s t ≡ true) × (ts : Table) × (rs ≡ row_at us t ∷ ts)
 
   pub top_right : (a : ℕ) → RankedBy (ranked (held_by (settled_table rules us) a)) (top_below l s a l.used)
   unfolding RankedBy Top ranked held_by own sort
@@ -163,7 +163,7 @@ module _ {l : Book} {s : List ℕ} {us : List Update} (stands : Stands l s us) w
           (g.0, g.1, g.2, sym (own-agrees a g.1) ∙ ap (own a) g.2 ∙ f.1)
 
       -- no row has a greater key than that of the top place
-      greatest : (j : ℕ) → Top l s a l.used (some j) → {r : Row} → r ∈ rows
+      greatest : (j : ℕ) → Top l s a l.used (Some j) → {r : Row} → r ∈ rows
           → (row_at us j ≡ r) ⊎ (before (rank_key (row_at us j)) (rank_key r) ≡ true) → r ≡ row_at us j
       greatest j t m (inl q) = sym q
       greatest j t m (inr b) =
@@ -173,17 +173,17 @@ module _ {l : Book} {s : List ℕ} {us : List Update} (stands : Stands l s us) w
           (subst₂ (λ (x y : List ℕ). before x y ≡ true) (key-agrees (from-used stands t.0) (own_held a j t.1))
           (ap rank_key (sym g.2) ∙ key-agrees g.1 (own_held a g.0 g.3)) b) (t.2 g.0 (to-used stands g.1) g.3))
 
-      top_in : (j : ℕ) → Top l s a l.used (some j) → row_at us j ∈ sort rank_key rows
+      top_in : (j : ℕ) → Top l s a l.used (Some j) → row_at us j ∈ sort rank_key rows
       top_in j t =
           ∈-sort rank_key
           (λ x y i k q. row-eq stands.holds.distinct decides (keep-∈ (own a) T i).0 (keep-∈ (own a) T k).0 (tail-eq_of_cons-eq q))
           (∈-keep (own a) (row-at (from-used stands t.0)) (own-agrees a (from-used stands t.0) ∙ t.1))
 
       step : (o : Option ℕ) → Top l s a l.used o → RankedBy (reverse (sort rank_key rows)) o
-      step none t =
+      step None t =
           ap (λ (rs : Table). reverse (sort rank_key rs))
           (keep-none (own a) T (λ r m. let g = at_row m in ap (own a) (sym g.2) ∙ own-agrees a g.1 ∙ t g.0 (to-used stands g.1)))
-      step (some j) t =
+      step (Some j) t =
           let f = greatest-first rank_key (sort rank_key rows) (sort-ascending rank_key rows) (top_in j t) in (
             from-used stands t.0,
             own_held a j t.1,

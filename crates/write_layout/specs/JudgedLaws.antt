@@ -2,7 +2,7 @@
 use Rattle.std.specs.Prelude.{ℕ, ◌<◌, ◌≡◌, List, true, false, ◌&&◌, length}
 use Rattle.std.proofs.Math.Path.{refl, sym, ap, ap₂}
 use Rattle.std.proofs.Common.{◌∙◌, subst}
-use Rattle.std.proofs.Math.Option.{Option, none, some}
+use Rattle.std.specs.Prelude.{Option, None, Some}
 use Rattle.std.proofs.Math.Bool.{Bool, cond, ◌||◌}
 use Rattle.bytes_order.specs.Order.{same}
 use Rattle.bytes_order.specs.Member.{◌∈◌, member, keep, any}
@@ -174,7 +174,7 @@ module _ {l : Book} {s : List ℕ} {us : List Update} (stands : Stands l s us) w
         listed i = member i up && any (λ (r : Row). same r.id i && p r.update.op) T
 
         step : (o : Option ℕ) → find_in l i ≡ o → names_at l s p ancestor_word o ≡ listed i
-        step none e =
+        step None e =
             ap (λ (b : Bool). b && any (λ (r : Row). same r.id i && p r.update.op) T)
             (sym
             (not-true→false (member i up)
@@ -182,7 +182,7 @@ module _ {l : Book} {s : List ℕ} {us : List Update} (stands : Stands l s us) w
             let f = map-∈ row_id (keep reached T) (member→∈ i up t) in
             let g = (keep-∈ reached T f.1).0 in
             find_none l s us stands.holds i e f.0.update ((decides stands).of_set f.0 g) (sym ((decides stands).has-id f.0 g) ∙ f.2))))
-        step (some j) e =
+        step (Some j) e =
             let r = find-right l s us stands.holds i j e in
             ap₂ ◌&&◌ (sym (ancestor-agrees r.0)) (place-test stands p r.0 ∙ sym (test_at p r.0)) ∙ ap listed (row-ident r.0 ∙ r.1)
 

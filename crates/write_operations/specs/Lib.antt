@@ -1,2 +1,3 @@
 pub mod Operations
 pub mod NamedLaws
+pub mod Drafted

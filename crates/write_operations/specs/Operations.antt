@@ -1,10 +1,10 @@
 -- The operation that is asked for, and what rows 8 and 9 say of the named ids' bytes.
-use Rattle.std.specs.Prelude.{◌≡◌, ℕ, ◌+◌, ◌*◌, ◌≤◌, List, Bool, false, not, ◌||◌, length, ltb}
+use Rattle.std.specs.Prelude.{ℕ, ◌+◌, ◌*◌, List, Bool, not, ◌||◌, length, ltb}
 use Rattle.bytes_order.specs.Order.{ascending}
 use Rattle.update_format.specs.Update.{Id, max_named, id_length, tag_length, Operation, Add, Remove, Insert, Delete}
 use Rattle.update_format.specs.Decode.{whole_ids, ids_in}
-use Rattle.write_operations.specs.declared.Kind.{Kind}
-use Rattle.write_operations.specs.declared.Kind.TheVariants.{Add as AnAdd, Remove as ARemove, Insert as AnInsert, Delete as ADelete}
+use Rattle.update_format.specs.declared.kind.Kind.{Kind}
+use Rattle.update_format.specs.declared.kind.Kind.TheVariants.{Add as AnAdd, Remove as ARemove, Insert as AnInsert, Delete as ADelete}
 
 -- the most bytes that named ids have: 256
 abbrev pub max_named_length : ℕ
@@ -32,8 +32,3 @@ bad_named named = not (whole_ids named) || ltb max_named_length (length named)
 -- row 9 of the writer, whatever the kind: "ids not strictly ascending"
 unfoldable pub unordered_named : List ℕ → Bool
 unordered_named named = not (ascending (ids_in named))
-
--- what is asked to print an operation at byte `at`: row 8 does not apply to the named ids
-pub record OperationAt (at : ℕ) (named : List ℕ) : Type 0 where
-  pub at_within : at ≤ farthest_field
-  pub named_good : bad_named named ≡ false

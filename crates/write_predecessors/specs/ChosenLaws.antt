@@ -6,7 +6,7 @@ use Rattle.std.proofs.Math.Path.{refl, ap, ap₂}
 use Rattle.std.proofs.Common.{sym, ◌∙◌, ⊎_elim}
 use mathlib.Core.List.Memᴰ
 use mathlib.Core.List.{List, [], ◌∷◌, ◌++◌, map, map-map, map-append}
-use Rattle.std.proofs.Math.Option.{Option, none, some}
+use Rattle.std.specs.Prelude.{Option, None, Some}
 use Rattle.std.proofs.Math.Bool.{Bool, true, false, cond, not}
 use Rattle.std.proofs.Math.ListN.{take}
 use Rattle.std.proofs.lemmas.List.{length-map}
@@ -70,18 +70,18 @@ module _ {l : Book} {s : List ℕ} {us : List Update} (stands : Stands l s us) w
 
   -- the first head, by its place
   first_of : Option ℕ → List ℕ
-  first_of none = []
-  first_of (some t) = take 1 (keep (up_at t) H)
+  first_of None = []
+  first_of (Some t) = take 1 (keep (up_at t) H)
 
   first-∈ : (o : Option ℕ) {k : ℕ} → k ∈ first_of o → k ∈ H
   unfolding first_of
-  first-∈ none m = absurd (Memᴰ.not-nil m)
-  first-∈ (some t) m = (keep-∈ (up_at t) H (take-∈ 1 (keep (up_at t) H) m)).0
+  first-∈ None m = absurd (Memᴰ.not-nil m)
+  first-∈ (Some t) m = (keep-∈ (up_at t) H (take-∈ 1 (keep (up_at t) H) m)).0
 
   first-agrees : (rs : Table) (o : Option ℕ) → RankedBy stands rs o → first_heads T (heads T) rs ≡ map row (first_of o)
   unfolding first_of first_heads RankedBy
-  first-agrees rs none e = ap (first_heads T (heads T)) e
-  first-agrees rs (some t) e =
+  first-agrees rs None e = ap (first_heads T (heads T)) e
+  first-agrees rs (Some t) e =
       ap (first_heads T (heads T)) e.3 ∙ ap (λ (hs : Table). take 1 (keep (at_or_above T (row t)) hs)) heads-rows
       ∙ ap (take 1)
       (keep-map (at_or_above T (row t)) row H
@@ -149,7 +149,7 @@ module _ {l : Book} {s : List ℕ} {us : List Update} (stands : Stands l s us) w
       ap (λ (ks : List ℕ). sort (id_at l s) (take l.terms.bounds.predecessors ks)) (keep_all (other_than []) H (λ k m. refl))
       ∙ sort_sorted (id_at l s) (ascending-take l.terms.bounds.predecessors (heads-ascending l s))
 
-  most-some : (j : ℕ) → j < length H → most_of (get_or H j 0 ∷ []) ≡ most_with l s (some j)
+  most-some : (j : ℕ) → j < length H → most_of (get_or H j 0 ∷ []) ≡ most_with l s (Some j)
   unfolding most_of most_with other_than member
   most-some j h = step l.terms.bounds.predecessors (some-predecessors l.terms stands.holds.terms_allowed)
     where
@@ -163,13 +163,13 @@ module _ {l : Book} {s : List ℕ} {us : List Update} (stands : Stands l s us) w
 
   most-right : (o : Option ℕ) → most_of (first_of o) ≡ most_for l s o
   unfolding first_of most_for most_with up_at above_at
-  most-right none = most-none
-  most-right (some t) = step (first_below (length H) (above_at l s t)) refl
+  most-right None = most-none
+  most-right (Some t) = step (first_below (length H) (above_at l s t)) refl
     where
       step : (o : Option ℕ) → first_below (length H) (above_at l s t) ≡ o → most_of (take 1 (keep (up_at t) H)) ≡ most_with l s o
-      step none e =
+      step None e =
           ap (λ (ks : List ℕ). most_of (take 1 ks)) (none_kept (up_at t) H 0 (first_below-none→ (length H) (above_at l s t) e)) ∙ most-none
-      step (some j) e =
+      step (Some j) e =
           let f = first_below-some→ (length H) (above_at l s t) e in
           ap most_of (first-kept (up_at t) H j 0 f.0 f.1 f.2) ∙ most-some j f.0
 

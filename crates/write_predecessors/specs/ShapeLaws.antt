@@ -2,7 +2,7 @@
 use Rattle.std.specs.Prelude.{ℕ, ◌-◌, ◌≤◌, ◌<◌, ◌≡◌, List, [], ◌∷◌, ◌++◌, Bool, cond, length, get_or, take}
 use Rattle.std.proofs.Common.{arith, ⊎_elim, length-append, length-take}
 use Rattle.std.proofs.Math.Path.{refl}
-use Rattle.std.proofs.Math.Option.{Option, none, some}
+use Rattle.std.specs.Prelude.{Option, None, Some}
 use Rattle.std.proofs.Math.Bool.{true, false}
 use Rattle.std.proofs.Math.Dec.{leb, ltb}
 use borrow.Author.Tests.{leb-true, ltb-false}
@@ -53,10 +53,10 @@ module _ (l : Book) (s : List ℕ) where
         (λ (i : k ∈ get_or H j 0 ∷ []). ∈-cast (∈-singleton i) (get_or-∈ H j 0 h)) (append-∈ (take (l.terms.bounds.predecessors - 1) H) m);
   }
 
-  most-with : 0 < l.terms.bounds.predecessors → (o : Option ℕ) → ((j : ℕ) → o ≡ some j → j < length H) → Nameable (most_with l s o)
+  most-with : 0 < l.terms.bounds.predecessors → (o : Option ℕ) → ((j : ℕ) → o ≡ Some j → j < length H) → Nameable (most_with l s o)
   unfolding most_with
-  most-with one none f = first-most
-  most-with one (some j) f = step (ltb j l.terms.bounds.predecessors) refl
+  most-with one None f = first-most
+  most-with one (Some j) f = step (ltb j l.terms.bounds.predecessors) refl
     where
       step : (b : Bool) → ltb j l.terms.bounds.predecessors ≡ b → Nameable (cond b (take l.terms.bounds.predecessors H) (take (l.terms.bounds.predecessors - 1) H ++ (get_or H j 0 ∷ [])))
       step true e = first-most
@@ -64,8 +64,8 @@ module _ (l : Book) (s : List ℕ) where
 
   most-for : 0 < l.terms.bounds.predecessors → (o : Option ℕ) → Nameable (most_for l s o)
   unfolding most_for
-  most-for one none = first-most
-  most-for one (some t) = most-with one (first_below (length H) (above_at l s t)) (λ j e. (first_below-some→ (length H) (above_at l s t) e).0)
+  most-for one None = first-most
+  most-for one (Some t) = most-with one (first_below (length H) (above_at l s t)) (λ j e. (first_below-some→ (length H) (above_at l s t) e).0)
 
   pub chosen-nameable : 0 < l.terms.bounds.predecessors → (a : ℕ) → Nameable (chosen_places l s a)
   unfolding chosen_places

@@ -1,23 +1,19 @@
-use Rattle.std.proofs.Common.{ℕ, ◌^◌, ◌≤◌, ◌<◌, ◌≡◌, arith, rules, sym, ap, subst}
-use Rattle.bitset.specs.Bits.{word_bits, count}
-use Rattle.bitset_words.proofs.Reading.{count_next, count-le, count_none, number-end}
+-- `count` meets its contract: the places of a run are those of its words, summed.
+use Rattle.std.proofs.Common.{rules, tests, ◌∙◌}
+use Rattle.std.proofs.lemmas.Iterator.{YieldsList-from_slice, YieldsList-from_map}
+use Rattle.std.proofs.lemmas.Iterator.Consumers.{YieldsList-at, sum_by_from_yields_List, fits_by_from_yields_list}
+use Rattle.bitset.specs.Bits.{count}
+use Rattle.bitset_words.proofs.Reading.{count-words, count_fits}
 use Rattle.bitset_words.proofs.count.Goals as goal
 
--- a word has at most its 64 places
-counted-le : {n w : ℕ} → w < 2 ^ word_bits → n ≡ count w → n ≤ word_bits
-counted-le h e = subst (λ (m : ℕ). m ≤ word_bits) (sym e) (count-le h)
-
-pub overflow_add-n : goal.overflow_add-n
-overflow_add-n c = omega (arith, c.loop-i.invariant.2, counted-le (c.type_inv.s c.loop-i.i).fits c.count-n.ensures)
-
-pub loop-i-preserved : goal.loop-i-preserved
-loop-i-preserved c =
-    let next = count_next c.args.s.now (λ i. (c.type_inv.s i).fits) c.loop-i.i (search rules) in (
-      search rules,
-      omega (arith, c.loop-i.invariant.1, next, c.count-n.ensures),
-      omega (arith, c.loop-i.invariant.2, counted-le (c.type_inv.s c.loop-i.i).fits c.count-n.ensures),
-    )
+pub sum-requires-clause-fits : goal.sum-requires-clause-fits
+sum-requires-clause-fits c =
+    fits_by_from_yields_list count c.args.s.now c.map.result _
+    (YieldsList-from_map _ count (YieldsList-at c.map.ensures.source (YieldsList-from_slice c.args.s.now (cc))) c.map.ensures.closure (λ x r q k. search (rules, tests)))
+    (count_fits c.args.s.now (λ i. (c.type_inv.s i).fits) c.requires)
 
 pub returns : goal.returns
 returns c =
-    omega (arith, c.loop-i.invariant.1, count_none, ap count (number-end c.args.s.now c.loop-i.i (search rules)))
+    sum_by_from_yields_List count c.args.s.now c.map.result _ c.sum.ensures.ran
+    (YieldsList-from_map _ count (YieldsList-at c.map.ensures.source (YieldsList-from_slice c.args.s.now (cc))) c.map.ensures.closure (λ x r q k. search (rules, tests)))
+    ∙ count-words c.args.s.now (λ i. (c.type_inv.s i).fits)

@@ -13,7 +13,7 @@ returns-then-at-s c =
     let s = c.args.s.now in
     let bit : k % word_bits < word_bits = mod-lt k (zero-lt-suc (word_bits - 1)) in
     let inside : k < room s = omega (arith, div-add-mod' k word_bits, bit) in
-    ap (λ (w : ℕ). number (set s (k / word_bits) w)) (c.including-w.ensures ∙ included word_bits (get_or s (k / word_bits) 0) (k % word_bits) bit)
+    ap (λ (w : ℕ). number (set s (k / word_bits) w)) (c.including.ensures ∙ included word_bits (get_or s (k / word_bits) 0) (k % word_bits) bit)
     ∙ number-include s (search rules) k inside
     ∙ sym (included (room s) (number s) k inside)
 

@@ -4,14 +4,11 @@ use Rattle.bitset_words.proofs.Joining.{rows_joined, rows_next, rows_all}
 use Rattle.bitset_words.proofs.join_rows.Goals as goal
 
 pub loop-i-preserved : goal.loop-i-preserved
-loop-i-preserved c = (
-  search rules,
-  rows_next c.args.s.now c.args.to c.args.from c.args.n c.requires c.loop-i.i (search rules) c.loop-i.invariant.1 c.join-w.ensures,
-)
+loop-i-preserved c = rows_next c.args.s.now c.args.to c.args.from c.args.n c.requires c.loop-i.i (search rules) c.loop-i.invariant c.join.ensures
 
 pub returns : goal.returns
 returns c =
     let s = c.args.s.now in
     let e : c.loop-i.i ≡ c.args.n = omega arith in
     rows_all s c.args.to c.args.from c.args.n c.requires (search rules)
-    (c.loop-i.invariant.1 ∙ ap (paste s c.args.to (rows_joined s c.args.to c.args.from c.args.n)) e)
+    (c.loop-i.invariant ∙ ap (paste s c.args.to (rows_joined s c.args.to c.args.from c.args.n)) e)

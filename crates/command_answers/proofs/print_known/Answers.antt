@@ -1,8 +1,9 @@
 -- `print_known` meets its contract.
-use Rattle.bytes_print.proofs.Printing.{both, same_text}
-use Rattle.command_answers.proofs.AnswerLaws.{known-text}
+use Rattle.bytes_ascii.specs.Ascii.{codes, ascii}
+use Rattle.bytes_print.proofs.PrintedLaws.{both}
+use Rattle.ledger_offering.specs.Words.{values_text}
 use Rattle.command_answers.proofs.print_known.Goals as goal
 
 pub returns-clause-prints : goal.returns-clause-prints
-returns-clause-prints c =
-    same_text (known-text c.args.standing) (both c.put-at.ensures (both c.print_standing-at.ensures.prints c.put.ensures))
+unfolding values_text ascii codes
+returns-clause-prints c = both c.put.ensures (both c.print_standing.ensures.prints c.put-2.ensures)

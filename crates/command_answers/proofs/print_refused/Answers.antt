@@ -1,8 +1,11 @@
 -- `print_refused` meets its contract.
-use Rattle.bytes_print.proofs.Printing.{both, same_text}
-use Rattle.command_answers.proofs.AnswerLaws.{refused-text}
+use Rattle.std.proofs.Common.{◌∙◌}
+use Rattle.bytes_ascii.specs.Ascii.{codes, ascii}
+use Rattle.bytes_print.proofs.PrintedLaws.{both}
+use Rattle.ledger_offering.specs.Words.{values_text}
 use Rattle.command_answers.proofs.print_refused.Goals as goal
 
 pub returns-clause-prints : goal.returns-clause-prints
+unfolding values_text ascii codes
 returns-clause-prints c =
-    same_text (refused-text c.args.refusal c.number.result c.number.ensures) (both c.put-at.ensures (both c.decimal-at.ensures.prints c.put.ensures))
+    rw (← (c.from.ensures ∙ c.number.ensures)) (both c.put.ensures (both c.decimal.ensures.prints c.put-2.ensures))

@@ -5,10 +5,10 @@ use Rattle.command_answers.proofs.read_offer.Goals as goal
 
 pub unhex-requires : goal.unhex-requires
 unhex-requires c =
-    let s = offer-spells c.args.line.now c.args.fill c.read_line-read.ensures _ c.in-Offered.is in
+    let s = offer-spells c.args.line.now c.args.fill c.read_line.ensures _ c.in_ok-n.was in
     record { spells = s.0; room = omega (arith, s.1, c.told-update) }
 
 pub returns : goal.returns
 returns c =
-    let s = offer-spells c.args.line.now c.args.fill c.read_line-read.ensures _ c.in-Offered.is in
-    (offer-read c.args.line.now c.args.fill c.read_line-read.ensures _ c.in-Offered.is _ c.unhex.ensures, omega (arith, s.1, c.unhex.auto, c.told-update))
+    let s = offer-spells c.args.line.now c.args.fill c.read_line.ensures _ c.in_ok-n.was in
+    (offer-read c.args.line.now c.args.fill c.read_line.ensures _ c.in_ok-n.was _ c.unhex.ensures, omega (arith, s.1, c.unhex.auto, c.told-update))

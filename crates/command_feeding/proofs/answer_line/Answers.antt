@@ -2,9 +2,8 @@
 use Rattle.command_feeding.proofs.LineLaws.{answer-unread, answer-offered}
 use Rattle.command_feeding.proofs.answer_line.Goals as goal
 
-pub returns-in-Unread : goal.returns-in-Unread
-returns-in-Unread c = answer-unread c.args.line.now c.args.fill _ c.read_offer.ensures c.in-Unread.is
+pub returns-in-None : goal.returns-in-None
+returns-in-None c = answer-unread c.args.line.now c.args.fill _ c.read_offer.ensures c.in-None.is
 
-pub returns-in-Offered : goal.returns-in-Offered
-returns-in-Offered c =
-    answer-offered c.args.line.now c.args.fill _ c.read_offer.ensures _ c.in-Offered.is c.offer-o.ensures
+pub returns-in-Some : goal.returns-in-Some
+returns-in-Some c = answer-offered c.args.line.now c.args.fill _ c.read_offer.ensures _ c.in-Some.is c.offer-o.ensures

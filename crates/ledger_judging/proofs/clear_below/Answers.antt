@@ -1,35 +1,18 @@
-use Prim.Native.Nat.{◌-◌}
-use mathlib.Core.Path.{◌≡◌}
-use mathlib.Core.Bool.{true}
-use borrow.Author.Rules.{rules}
-use Rattle.bitset.specs.BelowLaws.{all_below-none, all_below-next, all_below-stop, all_below-end}
-use Rattle.ledger_state.specs.View.{book_of}
+-- `clear_below` meets its contract: the walk over the lower places.
+use Rattle.std.proofs.Common.{refl, ◌∙◌, ℕ, not, ◌||◌, arith, rules}
+use Rattle.std.proofs.lemmas.Iterator.{YieldsList-from_range}
+use Rattle.std.proofs.lemmas.Iterator.Search.{all_from_yields_List}
+use Rattle.rules.specs.CausalOrder.{before_or_after}
+use Rattle.bitset.specs.Bits.{has}
+use Rattle.ledger_state.specs.PlaceOrder.{order_at}
+use Rattle.ledger_state.specs.View.{book}
+use Rattle.ledger_state.proofs.RangeLaws.{all_range}
 use Rattle.ledger_judging.specs.Antichain.{clear_below}
-use Rattle.ledger_judging.proofs.Clearing.{wherever, clear_with, where-outside, where-inside}
 use Rattle.ledger_judging.proofs.clear_below.Goals as goal
-use Rattle.ledger_judging.proofs.clear_below.Goals.{then-has+else-not-unordered, else-has}
-
-pub loop-q-init : goal.loop-q-init
-loop-q-init c = (search rules, all_below-none (wherever c.args.set (clear_with (book_of c.args.l) c.args.k)))
-
-pub returns-then-not-unordered : goal.returns-then-not-unordered
-unfolding clear_below
-returns-then-not-unordered c =
-    let clear = clear_with (book_of c.args.l) c.args.k in
-    all_below-stop c.args.k (wherever c.args.set clear) c.loop-q.q (search rules)
-    (where-inside c.args.set clear c.loop-q.q c.has.ensures c.if-has.true c.unordered.ensures c.if-not-unordered.true)
-
-pub loop-q-preserved : goal.loop-q-preserved
-loop-q-preserved c =
-    let clear = clear_with (book_of c.args.l) c.args.k in
-    let passes : wherever c.args.set clear c.loop-q.q ≡ true =
-    elim c.if-has.branch [
-      | then-has+else-not-unordered w ↦ where-inside c.args.set clear c.loop-q.q c.has.ensures w.if-has.true w.unordered.ensures w.if-not-unordered.false
-      | else-has w ↦ where-outside c.args.set clear c.loop-q.q c.has.ensures w.if-has.false
-    ] in
-    (search rules, all_below-next (wherever c.args.set clear) c.loop-q.q c.loop-q.invariant.1 passes)
 
 pub returns : goal.returns
 unfolding clear_below
 returns c =
-    all_below-end c.args.k (wherever c.args.set (clear_with (book_of c.args.l) c.args.k)) c.loop-q.q (search rules) (search rules) c.loop-q.invariant.1
+    let p = λ (q : ℕ). not (has c.args.set q) || not (before_or_after (order_at (book c.args.replica.now) q c.args.k)) in
+    all_from_yields_List p _ _ _ c.all.ensures.ran (YieldsList-from_range 0 c.args.k c.args.k refl (omega arith)) (λ x b q k. search rules)
+    ∙ all_range p c.args.k

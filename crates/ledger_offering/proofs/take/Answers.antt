@@ -13,29 +13,29 @@ pub write_at-requires : goal.write_at-requires
 write_at-requires c =
     let f = c.requires.formed in
     record {
-      store_whole = (sound→ (book_of c.args.ledger) c.args.store.now f.is_sound).store;
-      place_within = room→ (book_of c.args.ledger) c.args.store.now f.value c.requires.room;
+      store_whole = (sound→ (book_of c.args.ledger.now) c.args.store.now f.is_sound).store;
+      place_within = omega (arith, room→ (book_of c.args.ledger.now) c.args.store.now f.value c.requires.room);
       update_within = (accepted document_bounds c.args.update.now f.value f.decodes).short;
     }
 
 pub settle-settled-requires : goal.settle-settled-requires
 settle-settled-requires c =
-    let free = room→ (book_of c.args.ledger) c.args.store.now c.requires.formed.value c.requires.room in
-    taken-newest (book_of c.args.ledger) c.args.id (length c.args.update.now) (c.taken.ensures.free free) free
+    let free = room→ (book_of c.args.ledger.now) c.args.store.now c.requires.formed.value c.requires.room in
+    taken-newest (book_of c.args.ledger.now) c.args.id (length c.args.update.now) (c.taken.ensures.free free) free
 
-pub offset_bounds-next-k : goal.offset_bounds-next-k
-offset_bounds-next-k c = omega (arith, room→ (book_of c.args.ledger) c.args.store.now c.requires.formed.value c.requires.room)
+pub offset_bounds-ledger-k : goal.offset_bounds-ledger-k
+offset_bounds-ledger-k c = omega (arith, room→ (book_of c.args.ledger.now) c.args.store.now c.requires.formed.value c.requires.room)
 
-pub bounds-next-k : goal.bounds-next-k
-bounds-next-k c = room→ (book_of c.args.ledger) c.args.store.now c.requires.formed.value c.requires.room
+pub bounds-ledger-k : goal.bounds-ledger-k
+bounds-ledger-k c = room→ (book_of c.args.ledger.now) c.args.store.now c.requires.formed.value c.requires.room
 
 pub returns : goal.returns
 returns c =
     let q = c.requires in
     let f = q.formed in
-    let free = room→ (book_of c.args.ledger) c.args.store.now f.value q.room in
-    offered-taken c.args.ledger c.args.store.now c.args.update.now f _ q.id_right q.id_new q.room
-    (took-with (book_of c.args.ledger) c.args.store.now c.args.update.now f.value f.is_sound f.decodes q.room q.id_right q.id_new
+    let free = room→ (book_of c.args.ledger.now) c.args.store.now f.value q.room in
+    offered-taken c.args.ledger.now c.args.store.now c.args.update.now f _ q.id_right q.id_new q.room
+    (took-with (book_of c.args.ledger.now) c.args.store.now c.args.update.now f.value f.is_sound f.decodes q.room q.id_right q.id_new
     (c.taken.ensures.free free)
     c.write_at.ensures
     c.write_at.auto.store

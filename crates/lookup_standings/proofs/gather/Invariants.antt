@@ -1,12 +1,8 @@
--- `gather` meets its contract: at each turn of the loop `Laid` holds.
-use Prim.Native.Nat.{◌-◌}
-use Rattle.ledger_state.specs.View.{book_of}
-use Rattle.ledger_sorting.specs.PlaceLists.{places_in}
-use Rattle.lookup_standings.proofs.Laying.{Laid}
+-- `gather` meets its contract: the places before the index are gathered.
+use Rattle.std.proofs.Common.{◌≡◌, map, take}
+use Rattle.ledger_state.specs.View.{book}
+use Rattle.lookup_standings.specs.Lookup.{stored_id}
 use Rattle.lookup_standings.proofs.gather.Given as goal
 
 abbrev pub invariant-loop-k : goal.invariant-loop-k
-invariant-loop-k l = Laid (book_of l.l) (places_in l.places) l.initial.ids l.initial.standings l.k l.ids l.standings
-
-abbrev pub decreases-loop-k : goal.decreases-loop-k
-decreases-loop-k l = l.places.count - l.k
+invariant-loop-k l = l.stored.items ≡ map (stored_id (book l.replica)) (take l.k-index l.places)

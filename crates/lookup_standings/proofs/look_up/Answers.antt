@@ -1,4 +1,3 @@
--- `look_up` meets its contract, row by row.
 use Prim.Native.Nat.{ℕ, ◌%◌}
 use mathlib.Core.List.{List}
 use mathlib.Core.Path.{◌≡◌, sym, ◌∙◌}
@@ -9,8 +8,7 @@ use lib.ListN.{length}
 use Rattle.update_format.specs.Update.{id_length}
 use Rattle.update_format.specs.Decode.{whole_ids, id_count}
 use Rattle.update_format.specs.Slices.{ids-length}
-use Rattle.ledger_state.specs.View.{book_of}
-use Rattle.ledger_state.proofs.Row1Laws.{sound→}
+use Rattle.ledger_state.specs.View.{book, store_of}
 use Rattle.lookup_standings.specs.Lookup.{uneven, unordered, short}
 use Rattle.lookup_standings.proofs.Rows.{answered-row}
 use Rattle.lookup_standings.proofs.look_up.Goals as goal
@@ -27,20 +25,13 @@ pub returns-then-not-ascends : goal.returns-then-not-ascends
 returns-then-not-ascends c =
     unordered c.requires (whole c.args.asked.now c.if-asked-ne0.false) (sym c.ascends.ensures ∙ c.if-not-ascends.true)
 
-pub returns-then-out-asked : goal.returns-then-out-asked
-returns-then-out-asked c =
+pub returns-then-out-count : goal.returns-then-out-count
+returns-then-out-count c =
     short c.requires (whole c.args.asked.now c.if-asked-ne0.false) (sym c.ascends.ensures ∙ c.if-not-ascends.false)
-    (omega (arith, ids-length c.args.asked.now 0 (id_count c.args.asked.now), c.if-out-asked.true))
-
-pub answer-requires : goal.answer-requires
-answer-requires c =
-    record {
-      used_within = (sound→ (book_of c.args.l) c.args.store.now c.requires).few;
-      room = omega (arith, c.if-out-asked.false);
-    }
+    (omega (arith, ids-length c.args.asked.now 0 (id_count c.args.asked.now), c.if-out-count.true))
 
 pub returns : goal.returns
 returns c =
-    answered-row (book_of c.args.l) c.args.store.now c.args.asked.now c.args.out.now c.requires
-    (whole c.args.asked.now c.if-asked-ne0.false) (sym c.ascends.ensures ∙ c.if-not-ascends.false) (omega (arith, c.if-out-asked.false))
+    answered-row (book c.args.replica.now) (store_of c.args.replica.now) c.args.asked.now c.args.out.now c.requires
+    (whole c.args.asked.now c.if-asked-ne0.false) (sym c.ascends.ensures ∙ c.if-not-ascends.false) (omega (arith, c.if-out-count.false))
     c.answer.ensures

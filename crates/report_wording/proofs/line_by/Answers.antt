@@ -4,7 +4,7 @@ use Rattle.update_format.specs.Update.{document_bounds}
 use Rattle.update_format.specs.Decode.{decode}
 use Rattle.report_wording.specs.declared.Part.{Part}
 use Rattle.report_wording.specs.Lines.{line_by}
-use Rattle.bytes_print.proofs.Printing.{same_text}
+use Rattle.bytes_print.proofs.PrintedLaws.{same_text}
 use Rattle.report_wording.proofs.LineLaws.{set_line_lem}
 use Rattle.report_wording.proofs.line_by.Goals as goal
 

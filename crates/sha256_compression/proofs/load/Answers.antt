@@ -8,14 +8,10 @@ unfolding words
 loop-t-init c = search rules
 
 pub loop-t-preserved : goal.loop-t-preserved
-loop-t-preserved c = (
-  omega arith,
-  simp length-set c.loop-t.invariant.1,
-  rw c.word.ensures (loaded _ _ _ (omega arith) c.loop-t.invariant.2),
-)
+loop-t-preserved c = (simp length-set c.loop-t.invariant.0, rw c.word.ensures (loaded _ _ _ (omega arith) c.loop-t.invariant.1))
 
 pub returns : goal.returns
 unfolding schedule
 returns c =
     let e : c.loop-t.t ≡ 16 = omega arith in
-    record { size = c.loop-t.invariant.1; front = rw e at c.loop-t.invariant.2 }
+    record { size = c.loop-t.invariant.0; front = rw e at c.loop-t.invariant.1 }

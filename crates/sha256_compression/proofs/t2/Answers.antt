@@ -4,4 +4,4 @@ use Rattle.sha256_compression.proofs.t2.Goals as goal
 
 pub returns : goal.returns
 unfolding T₂
-returns c = rw (c.wrapping_add_u32.ensures.value, c.big_sigma0.ensures, c.maj.ensures)
+returns c = rw (c.big_sigma0.ensures, c.maj.ensures)

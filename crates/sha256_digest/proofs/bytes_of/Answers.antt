@@ -1,23 +1,20 @@
--- `bytes_of` meets its contract: each call writes one word more.
+use Rattle.std.proofs.Common.{◌≡◌, sym, ◌∙◌, arith, refl, take_all}
+use Rattle.std.proofs.lemmas.Grind.{common_steps}
 use Rattle.sha256_compression.specs.Code.{working}
-use Rattle.sha256_digest.proofs.Bytes.{eight-written}
+use Rattle.sha256_digest.proofs.Bytes.{words_bytes, word-written, eight-written}
 use Rattle.sha256_digest.proofs.bytes_of.Goals as goal
+
+pub loop-i-init : goal.loop-i-init
+unfolding words_bytes
+loop-i-init c = (refl, refl)
+
+pub loop-i-preserved : goal.loop-i-preserved
+loop-i-preserved c = (
+  grind (arith, common_steps, c.copy_from_slice.ensures.len),
+  word-written _ _ _ c.loop-i.i _ c.loop-i.invariant.1 (omega arith) (c.copy_from_slice.ensures.after ∙ c.to_be_bytes.ensures),
+)
 
 pub returns : goal.returns
 returns c =
-    eight-written (working c.args.s) c.put.ensures
-    c.put.auto.d
-    c.put-2.ensures
-    c.put-2.auto.d
-    c.put-3.ensures
-    c.put-3.auto.d
-    c.put-4.ensures
-    c.put-4.auto.d
-    c.put-5.ensures
-    c.put-5.auto.d
-    c.put-6.ensures
-    c.put-6.auto.d
-    c.put-7.ensures
-    c.put-7.auto.d
-    c.put-8.ensures
-    c.put-8.auto.d
+    let e : c.loop-i.i ≡ 8 = omega arith in
+    sym (take_all 32 c.loop-i.d (omega arith)) ∙ rw e at c.loop-i.invariant.1 ∙ eight-written (working c.args.s)

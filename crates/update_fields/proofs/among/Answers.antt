@@ -1,21 +1,17 @@
-use mathlib.Core.Path.{sym, ap, ◌∙◌}
-use borrow.Author.Rules.{rules}
-use Rattle.bytes_order.specs.Order.{same}
-use Rattle.update_fields.proofs.FieldsRead.{member-here, member-later, member-none}
+-- `among` meets its contract: the id is asked of each id of the run.
+use Rattle.std.proofs.Common.{rules, ◌≡◌, true, false, refl, arith}
+use Rattle.std.proofs.lemmas.Iterator.{cases_from_any, YieldsList-from_range}
+use borrow.Author.Tests.{tests}
+use Rattle.update_fields.proofs.Members.{is_id, walked}
 use Rattle.update_fields.proofs.among.Goals as goal
-
-pub returns-then-same : goal.returns-then-same
-returns-then-same c =
-    member-here c.args.b.now c.args.at c.args.count c.loop-k.k c.args.id.now (search rules) (ap (same c.args.id.now) (sym c.named.ensures) ∙ sym c.same.ensures ∙ c.if-same.true)
-    ∙ sym c.loop-k.invariant.1
-
-pub loop-k-preserved : goal.loop-k-preserved
-loop-k-preserved c = (
-  search rules,
-  c.loop-k.invariant.1
-      ∙ member-later c.args.b.now c.args.at c.args.count c.loop-k.k c.args.id.now (search rules) (ap (same c.args.id.now) (sym c.named.ensures) ∙ sym c.same.ensures ∙ c.if-same.false),
-)
 
 pub returns : goal.returns
 returns c =
-    member-none c.args.b.now c.args.at c.args.count c.loop-k.k c.args.id.now (search rules) ∙ sym c.loop-k.invariant.1
+    walked c.args.b.now c.args.id.now c.args.at c.args.count c.any.result
+    (cases_from_any _ _ _
+    (λ k. is_id c.args.b.now c.args.id.now c.args.at k ≡ true)
+    (λ k. is_id c.args.b.now c.args.id.now c.args.at k ≡ false)
+    c.any.ensures.ran
+    (YieldsList-from_range 0 c.args.count c.args.count refl (omega arith))
+    (λ x q k. search (rules, tests))
+    (λ x q k. search (rules, tests)))

@@ -1,19 +1,16 @@
--- `is_own` meets its contract, by the standing.
-use Rattle.std.proofs.Common.{ℕ, List, ap, ◌∙◌}
+use Rattle.std.proofs.Common.{List, ℕ, Bool, ◌&&◌, eqb, sym, ap, ◌∙◌}
 use Rattle.update_format.specs.Update.{document_bounds}
 use Rattle.update_format.specs.Decode.{decode}
 use Rattle.update_fields.specs.Fields.{author_in}
-use Rattle.ledger_state.specs.View.{book_of}
-use Rattle.write_highest.proofs.Scanning.{own_held, own-waiting, own-void}
+use Rattle.ledger_state.specs.View.{book, store_of}
+use Rattle.write_highest.proofs.Scanning.{own-is, own-not}
 use Rattle.write_highest.proofs.is_own.Goals as goal
 
-pub returns-in-Held : goal.returns-in-Held
-returns-in-Held c =
-    own_held (book_of c.args.l) c.args.store.now c.args.author c.args.k c.in-Held.is
-    (c.author_of.ensures.0 ∙ ap (λ (b : List ℕ). author_in (decode document_bounds b)) c.stored.ensures)
+pub returns-then-has_standing : goal.returns-then-has_standing
+returns-then-has_standing c =
+    ap (λ (h : Bool). h && eqb c.author_of.result c.args.author) (sym c.if-has_standing.true)
+    ∙ own-is (book c.args.replica.now) (store_of c.args.replica.now) c.args.author c.args.k c.has_standing.ensures
+    (c.author_of.ensures.0 ∙ ap (λ (b : List ℕ). author_in (decode document_bounds b)) c.update.ensures)
 
-pub returns-in-Waiting : goal.returns-in-Waiting
-returns-in-Waiting c = own-waiting (book_of c.args.l) c.args.store.now c.args.author c.args.k c.in-Waiting.is
-
-pub returns-in-Void : goal.returns-in-Void
-returns-in-Void c = own-void (book_of c.args.l) c.args.store.now c.args.author c.args.k c.in-Void.is
+pub returns-else-has_standing : goal.returns-else-has_standing
+returns-else-has_standing c = own-not (book c.args.replica.now) (store_of c.args.replica.now) c.args.author c.args.k c.has_standing.ensures c.if-has_standing.false

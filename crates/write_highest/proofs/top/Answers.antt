@@ -1,7 +1,6 @@
-use Rattle.std.proofs.Common.{arith}
-use Rattle.ledger_state.specs.View.{book_of}
+use Rattle.ledger_state.specs.View.{book, store_of}
 use Rattle.write_highest.proofs.Scanning.{top_start}
 use Rattle.write_highest.proofs.top.Goals as goal
 
 pub loop-k-init : goal.loop-k-init
-loop-k-init c = (omega arith, top_start (book_of c.args.l) c.args.store.now c.args.author)
+loop-k-init c = top_start (book c.args.replica.now) (store_of c.args.replica.now) c.args.author

@@ -1,46 +1,42 @@
--- `chosen` meets its contract.
-use Rattle.std.proofs.Common.{sym, arith}
-use Rattle.ledger_state.specs.View.{book_of}
-use Rattle.ledger_state.proofs.FindLaws.{found_at, found_nowhere}
-use Rattle.ledger_sorting.proofs.Inserting.{renamed}
-use Rattle.write_highest.specs.Top.{top_below}
+use Rattle.std.proofs.Common.{ℕ, sym, ◌∙◌, subst, arith, ◌≡◌}
+use Rattle.ledger_state.specs.View.{book, store_of}
+use Rattle.arrayvec.specs.ArrayVec.{ArrayVec}
+use Rattle.ledger_sorting.specs.PlaceLists.{PlaceList, Lists}
+use Rattle.ledger_state.specs.declared.replica.Replica.{Replica}
 use Rattle.write_highest.proofs.Scanning.{top-inside}
-use Rattle.write_predecessors.proofs.Choosing.{chosen-few, chosen-many, chosen-lowest}
+use Rattle.write_predecessors.specs.Choose.{chosen_places}
+use Rattle.write_predecessors.proofs.Choosing.{chosen-listed, chosen-few, chosen-many, chosen-lowest}
 use Rattle.write_predecessors.proofs.chosen.Goals as goal
 
-pub returns-then-all-le-NAMED_HEADS : goal.returns-then-all-le-NAMED_HEADS
-returns-then-all-le-NAMED_HEADS c =
-    let few = c.if-all-le-NAMED_HEADS.true in
-    (renamed (chosen-few (book_of c.args.l) c.args.store.now c.heads-all.result c.heads-all.ensures c.args.author few) c.heads-all.ensures, few)
+-- what is chosen is a list of places
+lists : (r : Replica) (a : ℕ) {v : ArrayVec ℕ} → v.items ≡ chosen_places (book r) (store_of r) a → Lists v (chosen_places (book r) (store_of r) a)
+lists r a e = record { is_list = subst PlaceList (sym e) (chosen-listed (book r) (store_of r) (omega arith) (omega arith) r.fits a); are = e }
 
-pub most_above-requires : goal.most_above-requires
-most_above-requires c =
-    let l = book_of c.args.l in
-    let found = found_at (top_below l c.args.store.now c.args.author c.args.l.used) _ (sym c.in-At.ensures) in
+pub keep_above-requires : goal.keep_above-requires
+keep_above-requires c =
+    let l = book c.args.replica.now in
     record {
       heads-for = record {
-        heads-listed = c.heads-all.ensures;
-        place_within = omega (arith, top-inside l c.args.store.now c.args.author c.args.l.used _ found, c.requires);
+        is_list = c.heads-heads.ensures.is_list;
+        are_heads = c.heads-heads.ensures.are;
+        place_within = omega (arith, top-inside l (store_of c.args.replica.now) c.args.author c.args.replica.now.ledger.now.used _ (sym c.in-Some.ensures), c.args.replica.now.fits);
       };
-      over-most = c.if-all-le-NAMED_HEADS.false;
+      over-most = omega (arith, c.len.ensures.value);
     }
 
-pub returns-in-At : goal.returns-in-At
-returns-in-At c =
-    let l = book_of c.args.l in
-    let found = found_at (top_below l c.args.store.now c.args.author c.args.l.used) _ (sym c.in-At.ensures) in (
-      renamed
-          (chosen-many l c.args.store.now c.heads-all.result c.heads-all.ensures c.args.author _ c.if-all-le-NAMED_HEADS.false found)
-          c.most_above.ensures.0,
-      c.most_above.ensures.1,
-    )
+pub returns-in-Some-clause-chosen : goal.returns-in-Some-clause-chosen
+returns-in-Some-clause-chosen c =
+    lists c.args.replica.now c.args.author
+    (c.keep_above.ensures.most
+    ∙ chosen-many (book c.args.replica.now) (store_of c.args.replica.now) c.heads-heads.result.items c.heads-heads.ensures.are c.args.author _ (omega (arith, c.len.ensures.value)) (sym c.in-Some.ensures))
 
-pub returns-in-Nowhere : goal.returns-in-Nowhere
-returns-in-Nowhere c =
-    let l = book_of c.args.l in
-    let none = found_nowhere (top_below l c.args.store.now c.args.author c.args.l.used) (sym c.in-Nowhere.ensures) in (
-      renamed
-          (chosen-lowest l c.args.store.now c.heads-all.result c.heads-all.ensures c.args.author c.if-all-le-NAMED_HEADS.false none)
-          c.first.ensures.0,
-      omega (arith, c.first.ensures.1),
-    )
+pub returns-in-None-clause-chosen : goal.returns-in-None-clause-chosen
+returns-in-None-clause-chosen c =
+    lists c.args.replica.now c.args.author
+    (c.truncate.ensures.items
+    ∙ chosen-lowest (book c.args.replica.now) (store_of c.args.replica.now) c.heads-heads.result.items c.heads-heads.ensures.are c.args.author (omega (arith, c.len.ensures.value)) (sym c.in-None.ensures))
+
+pub returns-else-len-gt-NAMED_HEADS-clause-chosen : goal.returns-else-len-gt-NAMED_HEADS-clause-chosen
+returns-else-len-gt-NAMED_HEADS-clause-chosen c =
+    lists c.args.replica.now c.args.author
+    (chosen-few (book c.args.replica.now) (store_of c.args.replica.now) c.heads-heads.result.items c.heads-heads.ensures.are c.args.author (omega (arith, c.len.ensures.value)))

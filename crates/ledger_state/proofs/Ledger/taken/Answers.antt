@@ -12,5 +12,5 @@ returns c =
       free = λ h.
           stored-view c.args.self (c.args.self.used + 1) c.args.self.used (record { id = c.args.id; length = c.args.length; ancestors = 0; standing = Waiting })
           (omega (arith, places-length c.args.self _ c.well_formed.0));
-      none_free = λ h. absurd (omega (arith, c.if-next-ge-PLACES.false));
+      none_free = λ h. absurd (omega arith);
     }

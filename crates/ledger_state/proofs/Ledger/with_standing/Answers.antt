@@ -14,5 +14,5 @@ returns c =
           stored-view c.args.self c.args.self.used c.args.k
           (record { id = old.id; length = old.length; ancestors = c.args.ancestors; standing = c.args.standing })
           (omega (arith, places-length c.args.self _ c.well_formed.0));
-      outside = λ h. absurd (omega (arith, c.if-k-ge-PLACES.false));
+      outside = λ h. absurd (omega arith);
     }

@@ -1,32 +1,27 @@
-use mathlib.Core.Path.{sym, ◌∙◌}
-use native.Mathlib.Omega.{arith}
+use Prim.Native.Nat.{ℕ, ◌<◌}
+use mathlib.Core.List.{List, []}
+use mathlib.Core.Path.{sym, subst, ◌∙◌}
 use borrow.Author.Rules.{rules}
-use lib.ListN.{get_or}
-use Rattle.ledger_state.specs.View.{book_of}
-use Rattle.ledger_sorting.specs.PlaceLists.{places_in}
-use Rattle.ledger_sorting.proofs.Inserting.{next, passed, ended, below}
-use Rattle.report_parts.proofs.Following.{after-here, after-later, after_none}
+use Rattle.std.proofs.lemmas.Grind.{get_or_default_zero}
+use Rattle.std.proofs.lemmas.Iterator.{YieldsList-from_slice}
+use Rattle.std.proofs.lemmas.Iterator.Adapters.{serves_from_places}
+use Rattle.std.proofs.lemmas.Iterator.Search.{position_from_yields_List}
+use Rattle.ledger_state.specs.State.{places}
+use Rattle.ledger_state.specs.View.{book}
+use Rattle.report_parts.proofs.Following.{has_id, after-position}
 use Rattle.report_parts.proofs.list.index_after.Goals as goal
 
-pub offset_bounds-l-e : goal.offset_bounds-l-e
-offset_bounds-l-e c =
-    omega (arith, below c.args.entries c.requires c.loop-i.i (search rules))
-
-pub bounds-l-e : goal.bounds-l-e
-bounds-l-e c =
-    omega (arith, below c.args.entries c.requires c.loop-i.i (search rules))
-
-pub returns-then-has_id : goal.returns-then-has_id
-returns-then-has_id c =
-    let e = get_or c.args.entries.items c.loop-i.i 0 in
-    (search rules, λ s k. after-here (book_of c.args.l) s c.args.id.now k (places_in c.args.entries) c.loop-i.i e (c.loop-i.invariant.1 s k) (next c.args.entries c.requires c.loop-i.i (search rules)) (passed c.args.entries c.requires c.loop-i.i (search rules)) (sym c.has_id.ensures ∙ c.if-has_id.true))
-
-pub loop-i-preserved : goal.loop-i-preserved
-loop-i-preserved c =
-    let e = get_or c.args.entries.items c.loop-i.i 0 in
-    (search rules, λ s k. after-later (book_of c.args.l) s c.args.id.now k (places_in c.args.entries) c.loop-i.i e (c.loop-i.invariant.1 s k) (next c.args.entries c.requires c.loop-i.i (search rules)) (passed c.args.entries c.requires c.loop-i.i (search rules)) (sym c.has_id.ensures ∙ c.if-has_id.false))
+pub position-requires-clause-callable : goal.position-requires-clause-callable
+position-requires-clause-callable c =
+    serves_from_places (YieldsList-from_slice c.args.entries.now cc) (λ x q h. search rules)
+    (λ x k h e.
+    let small : x.now < places = subst (λ (n : ℕ). n < places) (sym (e ∙ get_or_default_zero c.args.entries.now k x.now h)) (c.requires.inside k h) in
+    search rules)
 
 pub returns : goal.returns
 returns c =
-    let e = get_or c.args.entries.items c.loop-i.i 0 in
-    (search rules, λ s k. after_none (book_of c.args.l) s c.args.id.now k (places_in c.args.entries) c.loop-i.i e (c.loop-i.invariant.1 s k) (ended c.args.entries c.requires c.loop-i.i (search rules)))
+    let l = book c.args.replica.now in
+    let xs = c.args.entries.now in
+    let found = λ (s : List ℕ). position_from_yields_List (has_id l s c.args.id.now) _ _ c.position.result c.position.ensures.ran (YieldsList-from_slice xs cc) (λ x b q k. search rules) in
+    let put = λ (s : List ℕ). after-position l s c.args.id.now xs c.position.result c.map_or.result (found s) c.map_or.ensures (λ x h. search rules) in
+    ((put []).0, λ s. (put s).1)

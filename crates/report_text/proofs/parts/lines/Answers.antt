@@ -1,35 +1,39 @@
-use native.Mathlib.Omega.{arith}
-use borrow.Author.Rules.{rules}
-use lib.ListN.{get_or}
-use Rattle.ledger_sorting.specs.PlaceLists.{places_in}
-use Rattle.ledger_state.specs.View.{book_of}
-use Rattle.bytes_print.proofs.Printing.{both, nothing, same_text}
-use Rattle.ledger_sorting.proofs.Inserting.{next, ended, below}
-use Rattle.report_text.proofs.TextLaws.{lines_next, lines_end}
+use Rattle.std.proofs.Common.{◌+◌, ap, subst, sym, arith, take}
+use Rattle.bytes_print.specs.declared.Page.{Page}
+use Rattle.bytes_print.specs.Page.{Printed}
+use Rattle.bytes_print.proofs.PrintedLaws.{both, nothing, same_text}
+use Rattle.ledger_state.specs.View.{book, store_of}
+use Rattle.report_text.specs.Parts.{part_lines}
+use Rattle.report_text.proofs.TextLaws.{lines_none, lines_yes, lines_no, lines_all}
 use Rattle.report_text.proofs.parts.lines.Goals as goal
+use Rattle.report_text.proofs.parts.lines.Goals.{then-shows, else-shows}
 
-pub shown_line-end-requires : goal.shown_line-end-requires
-shown_line-end-requires c =
-    record {
-      place_in = record { used_within = c.requires.used_within; place_within = below c.args.places c.requires.is_list c.loop-i.i (search rules) };
-      line_within = omega (arith, c.loop-i.invariant.2, c.requires.is_list.room, c.requires.page_within);
-    }
+pub loop-k-init : goal.loop-k-init
+loop-k-init c = record {
+  within = omega arith;
+  printed = same_text (lines_none (book c.args.replica.now) (store_of c.args.replica.now) c.args.part c.args.places.now) (nothing c.args.page.now);
+}
 
-pub loop-i-preserved : goal.loop-i-preserved
-loop-i-preserved c = (
-  search rules,
-  search rules,
-  omega (arith, c.shown_line-end.ensures.small, c.loop-i.invariant.2),
-  λ p m h.
-      c.loop-i.invariant.3 p m
-      (same_text
-      (lines_next (book_of c.args.l) c.args.store.now c.args.part (places_in c.args.places) c.loop-i.i (get_or c.args.places.items c.loop-i.i 0)
-      (next c.args.places c.requires.is_list c.loop-i.i (search rules)))
-      (both c.shown_line-end.ensures.prints h)),
-)
+pub loop-k-preserved : goal.loop-k-preserved
+loop-k-preserved c =
+    let l = book c.args.replica.now in
+    let s = store_of c.args.replica.now in
+    let ks = c.args.places.now in
+    let k = c.loop-k.k-index in
+    let to : Page → Type 0 = λ (p : Page). Printed c.args.page.now (part_lines l s c.args.part (take (k + 1) ks)) p in
+    elim c.if-shows.branch [
+      | then-shows w ↦ record {
+        within = omega (arith, ap (λ (p : Page). p.at) w.page-is, w.line.ensures.small, c.loop-k.invariant.within);
+        printed = subst to (sym w.page-is)
+            (same_text (lines_yes l s c.args.part ks k c.loop-k-test.true c.shows.ensures w.if-shows.true) (both c.loop-k.invariant.printed w.line.ensures.prints));
+      }
+      | else-shows w ↦ record {
+        within = omega (arith, ap (λ (p : Page). p.at) w.page-is, c.loop-k.invariant.within);
+        printed = subst to (sym w.page-is)
+            (same_text (lines_no l s c.args.part ks k c.loop-k-test.true c.shows.ensures w.if-shows.false) c.loop-k.invariant.printed);
+      }
+    ]
 
 pub returns-clause-prints : goal.returns-clause-prints
 returns-clause-prints c =
-    c.loop-i.invariant.3 c.loop-i.page c.loop-i.end
-    (same_text (lines_end (book_of c.args.l) c.args.store.now c.args.part (places_in c.args.places) c.loop-i.i (ended c.args.places c.requires.is_list c.loop-i.i (search rules)))
-    (nothing c.loop-i.page c.loop-i.end))
+    same_text (lines_all (book c.args.replica.now) (store_of c.args.replica.now) c.args.part c.args.places.now c.loop-k.k-index c.loop-k-test.false) c.loop-k.invariant.printed

@@ -1,28 +1,16 @@
--- `ordered` meets its contract: row 9 by the operation.
-use mathlib.Core.Path.{refl, sym, ◌∙◌}
-use Rattle.update_parsing.proofs.BodyTests.{preds-unordered, named-decide, none-decide}
+-- `ordered` meets its contract: an operation that is no Remove names no ids.
+use Rattle.std.proofs.Common.{◌≡◌, ◌+◌, ◌∙◌, refl, arith}
+use Rattle.std.proofs.lemmas.Grind.{common_steps}
+use Rattle.bytes_order.specs.Order.{ascending}
+use Rattle.update_format.specs.Decode.{kind_of, body_at, named_count_at, named_count_of, row9}
+use Rattle.update_format.specs.Laws.{other-named}
+use Rattle.update_format.specs.ParseResult.{offsets_of}
 use Rattle.update_parsing.proofs.body.ordered.Goals as goal
 
-pub returns-then-not-ascends : goal.returns-then-not-ascends
-returns-then-not-ascends c =
-    preds-unordered c.args.s.now c.requires.count_right (sym (c.if-not-ascends.true) ∙ c.ascends.ensures)
-
-pub returns-in-Remove : goal.returns-in-Remove
-returns-in-Remove c =
-    named-decide c.args.s.now c.requires.count_right (sym (c.if-not-ascends.false) ∙ c.ascends.ensures)
-    (sym c.in-Remove.is ∙ c.requires.offsets_right) c.ascends-in-Remove.ensures
-
-pub returns-in-Add : goal.returns-in-Add
-returns-in-Add c =
-    none-decide c.args.s.now c.requires.count_right (sym (c.if-not-ascends.false) ∙ c.ascends.ensures)
-    (sym c.in-Add.is ∙ c.requires.offsets_right) refl
-
-pub returns-in-Insert : goal.returns-in-Insert
-returns-in-Insert c =
-    none-decide c.args.s.now c.requires.count_right (sym (c.if-not-ascends.false) ∙ c.ascends.ensures)
-    (sym c.in-Insert.is ∙ c.requires.offsets_right) refl
-
-pub returns-in-Delete : goal.returns-in-Delete
-returns-in-Delete c =
-    none-decide c.args.s.now c.requires.count_right (sym (c.if-not-ascends.false) ∙ c.ascends.ensures)
-    (sym c.in-Delete.is ∙ c.requires.offsets_right) refl
+pub returns-in_default : goal.returns-in_default
+unfolding row9 offsets_of ascending
+returns-in_default c =
+    let b = c.args.s.now in
+    let other : kind_of b ≡ 2 → ⊥ =
+    λ k. c.in_default.not-Remove (body_at b) (named_count_at b + 1) (named_count_of b) (c.requires.offsets_right ∙ rw k refl) in
+    rw (other-named b other) (grind (arith, common_steps))

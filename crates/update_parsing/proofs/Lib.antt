@@ -1,2 +1,0 @@
-pub mod BodyTests
-pub mod Chain
