@@ -2,6 +2,7 @@
 -- made of its answer is.
 use Rattle.std.specs.Prelude.{◌≡◌, ℕ, zero, suc, ◌+◌, ◌-◌, ◌≤◌, ◌<◌, min, Bool, false, cond, ◌||◌, eqb, Option, None, Some, Result, Ok, Err, IfOk, IfErr, IfSome, IsSome}
 use Rattle.command_streams.specs.declared.errors.Errno.{Errno}
+use Rattle.command_streams.specs.declared.Moved.{Moved}
 use Rattle.command_streams.specs.declared.Input.{Input}
 use Rattle.std.proofs.Common.{lit<}
 
@@ -33,6 +34,11 @@ lasting (Err e) = cond (passing e) (Err eio) (Err e)
 abbrev pub taken_from : ℕ → Result ℕ Errno → Input
 taken_from left (Ok k) = record { got = k; left = left - k; error = None }
 taken_from left (Err e) = record { got = 0; left = left; error = Some e }
+
+-- what writing came to, where `at` bytes were taken before and the next write came to `wrote`
+abbrev pub taken_after : ℕ → Result ℕ Errno → Moved
+taken_after at (Ok k) = record { count = at + k; error = None }
+taken_after at (Err e) = record { count = at; error = Some e }
 
 -- a call that may move n bytes: no more, and none where it failed
 abbrev pub MovesAtMost : ℕ → Result ℕ Errno → Type 0

@@ -1,9 +1,9 @@
 // Standard input and output by std's single reads and writes. A call that was interrupted, or that would block, is made again. No contract can say which bytes a call
-// reads or writes, nor that it is made: these say what is made of its answer. The functions that make a call hand the answer to others that make none.
+// reads or writes, nor that it is made: these say what is made of its answer. Each function that makes a call hands the answer to one that makes none.
 #![tactic(auto)]
 
-ghost use Rattle.std.specs.Prelude.{◌≡◌, ◌≤◌, length, IfOk};
-ghost use Rattle.command_streams.specs.Streams.{passing, came_to, took_some, taken_from, Lasts, WritesAgain, Reads, Writes};
+ghost use Rattle.std.specs.Prelude.{◌≡◌, ◌+◌, ◌^◌, ◌≤◌, ◌<◌, length, IfOk};
+ghost use Rattle.command_streams.specs.Streams.{passing, came_to, took_some, lasting, taken_from, taken_after, Lasts, ReadsAgain, WritesAgain, Reads, Writes};
 
 mod errors;
 
@@ -44,6 +44,16 @@ fn wait<R: Clock>(rt: &R, error: Errno) {
     }
 }
 
+// What a call came to that is not made again, though its error may pass.
+fn lasting(called: Result<usize, Errno>) -> Result<usize, Errno>
+    ensures { result ≡ lasting called }
+{
+    match called {
+        Err(error) if is_passing(error) => Err(EIO),
+        _ => called,
+    }
+}
+
 // What a call came to, made again while its error passes. A proved loop has to end, so the turns are counted, up to a number that no run comes to.
 fn again<R: Clock, F: FnMut() -> io::Result<usize>>(rt: &R, mut call: F) -> Result<usize, Errno>
     requires { F.IsAlwaysCallable call }
@@ -52,10 +62,10 @@ fn again<R: Clock, F: FnMut() -> io::Result<usize>>(rt: &R, mut call: F) -> Resu
     for _ in 0..u64::MAX {
         match call().map_err(Errno::from) {
             Err(error) if is_passing(error) => wait(rt, error),
-            lasting => return lasting,
+            came => return came,
         }
     }
-    Err(EIO)
+    lasting(call().map_err(Errno::from))
 }
 
 // What a call came to that was handed so many bytes: it moved no more of them.
@@ -84,14 +94,21 @@ fn taken_from(left: usize, read: Result<usize, Errno>) -> Input
     }
 }
 
+// A read, made again while its error passes.
+fn read_again<R: StandardInput + Clock>(rt: &R, buffer: &mut [u8]) -> Result<usize, Errno>
+    ensures { ReadsAgain (length buffer.new) result }
+{
+    let most = buffer.len();
+    let read = again(rt, || rt.reader().read(buffer));
+    came_to(read, most)
+}
+
 // Reads once from standard input into the buffer, where the limit leaves `left` bytes to be read.
 pub fn read_some<R: StandardInput + Clock>(rt: &R, left: usize, buffer: &mut [u8]) -> Input
     ensures { Reads left (length buffer.new) result }
 {
     let most = left.min(buffer.len());
-    let room = &mut buffer[..most];
-    let read = again(rt, || rt.reader().read(room));
-    taken_from(left, came_to(read, most))
+    taken_from(left, read_again(rt, &mut buffer[..most]))
 }
 
 // What a write came to: one that takes nothing has failed.
@@ -112,6 +129,23 @@ fn write_some<R: Print + Clock>(rt: &R, bytes: &[u8]) -> Result<usize, Errno>
     took_some(came_to(wrote, bytes.len()))
 }
 
+// What writing came to, where `before` bytes were taken before and the next write came to `wrote`.
+fn taken_after(before: usize, wrote: Result<usize, Errno>) -> Moved
+    requires { IfOk wrote (λ n. before + n < 2 ^ 64) }
+    ensures { result ≡ taken_after before wrote }
+{
+    match wrote {
+        Ok(n) => Moved {
+            count: before + n,
+            error: None,
+        },
+        Err(failed) => Moved {
+            count: before,
+            error: Some(failed),
+        },
+    }
+}
+
 // Writes the bytes to standard output, from the first on, until all are taken or a write fails.
 pub fn write_all<R: Print + Clock>(rt: &R, bytes: &[u8]) -> Moved
     ensures { Writes (length bytes.now) result.count result.error }
@@ -119,15 +153,11 @@ pub fn write_all<R: Print + Clock>(rt: &R, bytes: &[u8]) -> Moved
     let mut at = 0;
     // a `while`: a write says how far it goes on
     while at < bytes.len() {
-        match write_some(rt, &bytes[at..]) {
-            Ok(n) => at += n,
-            Err(e) => {
-                return Moved {
-                    count: at,
-                    error: Some(e),
-                };
-            }
+        let done = taken_after(at, write_some(rt, &bytes[at..]));
+        if done.error.is_some() {
+            return done;
         }
+        at = done.count;
     }
     Moved {
         count: at,
@@ -137,9 +167,9 @@ pub fn write_all<R: Print + Clock>(rt: &R, bytes: &[u8]) -> Moved
 
 // A line on standard error: the words before the error's number, the number, and the words after it. That this fails can be told nowhere. Standard error takes bytes
 // by its own handle, which the runtime that `main` is given has; `Eprint` takes text.
-pub fn tell(rt: &HostRuntime, before: &[u8], error: Errno, after: &[u8]) {
+pub fn tell(rt: &HostRuntime, before: &[u8], error: u64, after: &[u8]) {
     let to = rt.stderr();
     let _ = to.write_all(before);
-    let _ = to.print(error.number);
+    let _ = to.print(error);
     let _ = to.write_all(after);
 }

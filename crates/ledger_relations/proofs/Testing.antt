@@ -28,11 +28,22 @@ pub with-true : (x : Bool) → (x && true) ≡ x
 with-true true = refl
 with-true false = refl
 
+with-false : (x : Bool) → (x && false) ≡ false
+with-false true = refl
+with-false false = refl
+
 pub both_true : {a b c : Bool} → a ≡ true → b ≡ c → b ≡ (a && c)
 both_true {a} {b} {c} e f = f ∙ ap (λ (x : Bool). x && c) (sym e)
 
 first-false : {a : Bool} (c : Bool) → a ≡ false → false ≡ (a && c)
 first-false c e = ap (λ (x : Bool). x && c) (sym e)
+
+-- the same, by the second
+pub second_true : {a b c : Bool} → a ≡ true → b ≡ c → b ≡ (c && a)
+second_true {a} {b} {c} e f = f ∙ sym (with-true c) ∙ ap (λ (x : Bool). c && x) (sym e)
+
+pub second-false : {a : Bool} (c : Bool) → a ≡ false → false ≡ (c && a)
+second-false c e = sym (with-false c) ∙ ap (λ (x : Bool). c && x) (sym e)
 
 -- what `o == CausalOrder::Before` and `o == CausalOrder::Apart` are
 pub eq-before : (o : CausalOrder) → sameb the_type o Before ≡ is_before o

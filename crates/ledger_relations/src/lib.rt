@@ -5,12 +5,13 @@ ghost use Rattle.std.specs.Prelude.{◌≡◌, ◌<◌};
 ghost use Rattle.rules.specs.CausalOrder.{is_before};
 ghost use Rattle.ledger_state.specs.State.{places, document_terms, place_at};
 ghost use Rattle.ledger_state.specs.PlaceOrder.{order_at};
-ghost use Rattle.ledger_state.specs.View.{book, store_of};
+ghost use Rattle.ledger_state.specs.View.{place_of, book, store_of};
 ghost use Rattle.ledger_state.specs.Asked.{TwoPlaces};
 ghost use Rattle.ledger_relations.specs.PlaceTests.{head_at, forked_at, fault_at, present_at, shown_at};
 ghost use Rattle.ledger_relations.specs.Effects.{forks, affects, held_affects, some_held, ranked_in};
 
-use ledger_state::{Replica, Standing};
+use ledger_state::store::stored;
+use ledger_state::{Place, Replica, Standing};
 use rules::CausalOrder;
 use update_fields::author_of;
 
@@ -31,13 +32,13 @@ fn covers(replica: &Replica, k: usize, q: usize) -> bool
     replica.order(k, q) == CausalOrder::Before
 }
 
-// Whether the places are of one author and apart.
+// Whether the places are apart and of one author. In this order: two tests of a bit spare parsing both updates.
 fn forks(replica: &Replica, k: usize, q: usize) -> bool
     requires { TwoPlaces k q }
     ensures { result ≡ forks document_terms (store_of replica.now) (place_at (book replica.now) k) k (place_at (book replica.now) q) q }
 {
-    author_of(replica.update(k)) == author_of(replica.update(q))
-        && replica.order(k, q) == CausalOrder::Apart
+    replica.order(k, q) == CausalOrder::Apart
+        && author_of(replica.update(k)) == author_of(replica.update(q))
 }
 
 // Whether place q does so to place k.
@@ -112,12 +113,12 @@ pub fn is_shown(replica: &Replica, k: usize) -> bool
     !some_held(replica, Effect::Deletes, k)
 }
 
-// Whether place k holds a held Insert with n ancestors.
-pub fn is_ranked(replica: &Replica, n: usize, k: usize) -> bool
+// Whether the place, k, holds a held Insert with n ancestors. Asked of a place by itself: of its ledger nothing is asked.
+pub fn is_ranked(store: &[u8], n: usize, p: Place, k: usize) -> bool
     requires { k < places }
-    ensures { result ≡ ranked_in document_terms (store_of replica.now) n (place_at (book replica.now) k) k }
+    ensures { result ≡ ranked_in document_terms store.now n (place_of p) k }
 {
-    replica.has_standing(k, Standing::Held)
-        && bitset::count(replica.ledger.places[k].ancestors) == n
-        && update_fields::is_insert(replica.update(k))
+    p.standing == Standing::Held
+        && bitset::count(p.ancestors) == n
+        && update_fields::is_insert(stored(store, k, p.length))
 }

@@ -1,17 +1,15 @@
 -- What judging a place comes to in the declared struct: the worklist keeps its room, and the view says what was judged.
 use Rattle.std.proofs.Common.{◌≡◌, refl, sym, ap, subst, ◌∙◌, ℕ, zero, suc, ◌+◌, ◌≤◌, ◌<◌, List, [], ◌∷◌, ◌++◌, false, length, get_or, length-append, arith}
 use Rattle.bitset.specs.BelowLaws.{count_below-le}
-use Rattle.arrayvec.specs.ArrayVec.{ArrayVec}
 use Rattle.rules.specs.declared.Standing.{Standing}
 use Rattle.rules.specs.declared.Standing.TheVariants.{Held as IsHeld, Void as IsVoid}
-use Rattle.ledger_judging.specs.declared.Judgement.TheVariants.{Holds as Judged-holds, Fails, Waits}
+use Rattle.ledger_lists.specs.PlaceItems.{PlaceItems}
 use Rattle.ledger_state.specs.declared.Ledger.{Ledger}
 use Rattle.ledger_state.specs.State.{places, Book, place_at, with_standing, is_waiting, standing_count}
 use Rattle.ledger_state.specs.View.{book_of}
-use Rattle.ledger_judging.specs.Judge.{judge_at}
 use Rattle.ledger_settling.specs.declared.settling.Settling.{Settling}
 use Rattle.ledger_settling.specs.Roomy.{Roomy}
-use Rattle.ledger_settling.specs.Worklist.{Progress, progress_of, Judged, waits, holds, fails, WaitsAt}
+use Rattle.ledger_settling.specs.Worklist.{WaitsAt}
 use Rattle.ledger_settling.specs.CountLaws.{one_less}
 
 -- numbers below n, and one more
@@ -34,7 +32,7 @@ module _ (x : Settling) (k : ℕ) (asked : WaitsAt x k) where
   worklist_room = omega (arith, fewer-wait IsVoid 0 refl, x.roomy.room, x.roomy.counted)
 
   -- and for the places that still wait
-  roomy-kept : {l : Ledger} {ws : ArrayVec ℕ} {h v : ℕ} (d : Standing) (w : ℕ) → is_waiting d ≡ false
+  roomy-kept : {l : Ledger} {ws : PlaceItems} {h v : ℕ} (d : Standing) (w : ℕ) → is_waiting d ≡ false
       → book_of l ≡ with_standing (book_of x.ledger) k d w → ws.items ≡ x.worklist.items ++ (k ∷ []) → h + v ≡ x.held + x.void + 1 → Roomy l ws h v
   roomy-kept d w settled is listed more =
       record {
@@ -46,18 +44,18 @@ module _ (x : Settling) (k : ℕ) (asked : WaitsAt x k) where
             (within-more x.worklist.items k places (omega (arith, asked.taken, x.roomy.used_within)) x.roomy.each_within i);
       }
 
-  pub roomy_held : {l : Ledger} {ws : ArrayVec ℕ} (w : ℕ) → book_of l ≡ with_standing (book_of x.ledger) k IsHeld w → ws.items ≡ x.worklist.items ++ (k ∷ [])
+  pub roomy_held : {l : Ledger} {ws : PlaceItems} (w : ℕ) → book_of l ≡ with_standing (book_of x.ledger) k IsHeld w → ws.items ≡ x.worklist.items ++ (k ∷ [])
       → Roomy l ws (x.held + 1) x.void
   unfolding is_waiting
   roomy_held w is listed = roomy-kept IsHeld w refl is listed (omega arith)
 
-  pub roomy_void : {l : Ledger} {ws : ArrayVec ℕ} → book_of l ≡ with_standing (book_of x.ledger) k IsVoid 0 → ws.items ≡ x.worklist.items ++ (k ∷ [])
+  pub roomy_void : {l : Ledger} {ws : PlaceItems} → book_of l ≡ with_standing (book_of x.ledger) k IsVoid 0 → ws.items ≡ x.worklist.items ++ (k ∷ [])
       → Roomy l ws x.held (x.void + 1)
   unfolding is_waiting
   roomy_void is listed = roomy-kept IsVoid 0 refl is listed (omega arith)
 
 -- nothing is settled yet
-pub unsettled_roomy : (l : Ledger) (ws : ArrayVec ℕ) → ws.items ≡ [] → l.used ≤ places → Roomy l ws 0 0
+pub unsettled_roomy : (l : Ledger) (ws : PlaceItems) → ws.items ≡ [] → l.used ≤ places → Roomy l ws 0 0
 unfolding standing_count
 unsettled_roomy l ws e few =
     record {

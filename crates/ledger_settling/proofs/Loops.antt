@@ -1,9 +1,9 @@
 -- What the two loops carry: the one over the places that may name a settled one, and the one over the worklist.
-use Rattle.std.proofs.Common.{◌≡◌, refl, sym, ap, ap₂, subst, ◌∙◌, ℕ, ◌+◌, ◌≤◌, ◌<◌, List, true, false, ◌&&◌, length, get_or, arith}
+use Rattle.std.proofs.Common.{◌≡◌, refl, ap, subst, ◌∙◌, ℕ, ◌+◌, ◌≤◌, ◌<◌, List, true, false, ◌&&◌, length, get_or, arith}
 use Rattle.bytes_order.specs.BoolLaws.{and-true→}
 use Rattle.rules.proofs.SettlingTable.{is_waiting→}
-use Rattle.rules.specs.declared.Standing.TheVariants.{Held as IsHeld, Waiting as IsWaiting, Void as IsVoid}
-use Rattle.ledger_state.specs.State.{Terms, Place, Book, place_at, decoded_in, is_waiting}
+use Rattle.rules.specs.declared.Standing.TheVariants.{Held as IsHeld, Void as IsVoid}
+use Rattle.ledger_state.specs.State.{Place, Book, place_at, decoded_in, is_waiting}
 use Rattle.ledger_state.specs.View.{book_of}
 use Rattle.ledger_state.proofs.BookLaws.{replaced-other}
 use Rattle.ledger_settling.specs.declared.settling.Settling.{Settling}

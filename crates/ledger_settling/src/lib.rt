@@ -2,7 +2,7 @@
 // whose successors were not. So the newest place is judged once, and any other at most once for each of its predecessors that is settled.
 #![tactic(auto)]
 
-ghost use Rattle.std.specs.Prelude.{◌≡◌, ◌<◌};
+ghost use Rattle.std.specs.Prelude.{◌≡◌, ◌<◌, length};
 ghost use Rattle.update_format.specs.Update.{document_bounds};
 ghost use Rattle.update_format.specs.Decode.{decode};
 ghost use Rattle.ledger_state.specs.State.{place_at};
@@ -10,13 +10,12 @@ ghost use Rattle.ledger_state.specs.Asked.{TwoPlaces};
 ghost use Rattle.ledger_state.specs.View.{book_of, book, store_of};
 ghost use Rattle.ledger_settling.specs.Settle.{follows, waits_for, SettledFrom};
 ghost use Rattle.ledger_settling.specs.Worklist.{progress_of, with_held, with_void, Judged, WaitsAt, NewestWaits, JudgesSuccessors, Empties};
-ghost use Rattle.arrayvec.specs.ArrayVec.{array_vec_len};
 
 mod settling;
 
-use arrayvec::ArrayVec;
 use bitset::Set;
 use ledger_judging::{Judgement, judge};
+use ledger_lists::Places;
 use ledger_state::{Ledger, Replica, Standing};
 pub use settling::Settling;
 use update_format::numbers::FIRST_PREDECESSOR;
@@ -86,7 +85,7 @@ impl Settling {
     // The successors of the place at index i of the worklist as they are judged. (Until the loop comes to a place, it is as it was when the loop began.)
     #[tactic(auto, using(crate::proofs::Loops::successors_done))]
     fn successors_judged(self, store: &[u8], i: usize) -> Settling
-        requires { i < array_vec_len self.worklist }
+        requires { i < length self.worklist.items }
         ensures { JudgesSuccessors store.now i self result }
     {
         let ledger = self.ledger;
@@ -94,7 +93,7 @@ impl Settling {
             ledger: &ledger,
             store,
         };
-        let n = self.worklist[i];
+        let n = self.worklist.as_slice()[i];
         let mut current = self;
         for k in 0..ledger.used {
             if waits_for(&replica, k, n) {
@@ -126,7 +125,7 @@ pub fn settle(ledger: Ledger, store: &[u8], k: usize) -> Settling
 {
     let begun = Settling {
         ledger,
-        worklist: ArrayVec::new(),
+        worklist: Places::new(),
         held: 0,
         void: 0,
     };

@@ -1,6 +1,5 @@
 -- What the code works with: lists of places, and the keys that they go by.
 use Rattle.std.specs.Prelude.{◌≡◌, ℕ, ◌≤◌, ◌<◌, List, ◌∷◌, ◌++◌, Bool, true, length, take, drop, slice_index, EachIndex}
-use Rattle.arrayvec.specs.ArrayVec.{ArrayVec}
 use Rattle.bytes_order.specs.Member.{keep, all}
 use Rattle.bytes_order.specs.Sort.{sort}
 use Rattle.bitset.specs.Below.{up_to}
@@ -8,13 +7,14 @@ use Rattle.rules.specs.SetEntry.{entry_key}
 use Rattle.update_fields.specs.Fields.{test_of, is_any_add, set_entry_in}
 use Rattle.ledger_state.specs.State.{places, Place, Book, place_at, decoded_in, Terms}
 use Rattle.ledger_state.specs.Asked.{TwoPlaces}
+use Rattle.ledger_lists.specs.PlaceItems.{PlaceItems}
 use Rattle.ledger_relations.specs.PlaceTests.{present_at, id_order}
 use Rattle.ledger_sorting.specs.declared.Key.{Key}
 use Rattle.ledger_sorting.specs.declared.Key.TheVariants.{Id, SetEntry}
 
 -- a list of places by value
 abbrev pub Places : Type 0
-Places = ArrayVec ℕ
+Places = PlaceItems
 
 -- k put before the index n
 abbrev pub ins : ℕ → ℕ → List ℕ → List ℕ

@@ -15,7 +15,7 @@ asked-from a j h =
     ∙ ap (λ (i : Id). i ∷ drop (suc j) (ids_in a)) (ids-get a 0 (id_count a) j h)
 
 -- what stands at no index
-abbrev pub no_stored : Stored
+abbrev no_stored : Stored
 no_stored = record { id = []; byte = 0 }
 
 pub stored-length : (ids bs : List ℕ) → length (stored_in ids bs) ≡ length bs

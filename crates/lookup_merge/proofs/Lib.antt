@@ -1,4 +1,5 @@
 pub mod Walking
+pub mod Finishing
 pub mod LayoutLaws
 pub mod StepLaws
 pub mod LookupLaws

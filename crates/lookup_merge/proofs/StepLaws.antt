@@ -17,7 +17,7 @@ abbrev pub after : List ℕ → ℕ → Merged → Merged
 after done n m = record { answers = done ++ m.answers; comparisons = n + m.comparisons }
 
 -- one comparison more, and a byte with it
-pub counted : (done : List ℕ) (n : ℕ) (m : Merged) → after done n (record { answers = m.answers; comparisons = suc m.comparisons }) ≡ after done (n + 1) m
+counted : (done : List ℕ) (n : ℕ) (m : Merged) → after done n (record { answers = m.answers; comparisons = suc m.comparisons }) ≡ after done (n + 1) m
 counted done n m =
     let e : n + suc m.comparisons ≡ n + 1 + m.comparisons = omega arith in
     ap (λ (c : ℕ). record { answers = done ++ m.answers; comparisons = c }) e

@@ -1,4 +1,4 @@
--- The stored ids laid out as two runs of bytes: the ids end to end, and the bytes of their standings. `LayoutLaws` and `StepLaws` are of such runs.
+-- The stored ids as two runs of bytes: the ids end to end, and the bytes of their standings.
 use Rattle.std.specs.Prelude.{ℕ, List, [], ◌∷◌, take, drop}
 use Rattle.update_format.specs.Update.{id_length}
 use Rattle.lookup_merge.specs.Merge.{Stored}

@@ -6,11 +6,11 @@ use Rattle.std.specs.declared.cmp.Ordering.{Ordering}
 use Rattle.std.specs.declared.cmp.Ordering.TheVariants.{Less, Equal, Greater}
 use Rattle.update_format.specs.Update.{Id}
 use Rattle.standing_bytes.specs.StandingByte.{unknown_byte}
-use Rattle.lookup_merge.specs.declared.Stored.{Stored as DeclaredStored}
 
 -- a stored id, and the byte of its standing
-abbrev pub Stored : Type 0
-Stored = DeclaredStored
+pub record Stored : Type 0 where
+  pub id : Id
+  pub byte : ℕ
 
 abbrev pub id_of : Stored → Id
 id_of x = x.id

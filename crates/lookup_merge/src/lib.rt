@@ -1,10 +1,13 @@
 // Looking ids up by a merge: stored ids beside asked ones, both ascending.
 #![tactic(auto)]
 
-ghost use Rattle.std.specs.Prelude.{◌≤◌, length};
+ghost use Rattle.std.specs.Prelude.{◌≡◌, ◌-◌, ◌≤◌, length, replicate};
+ghost use Rattle.bytes_copy.specs.Overwritten.{overwritten};
 ghost use Rattle.update_format.specs.Decode.{id_count, ids_in};
+ghost use Rattle.standing_bytes.specs.StandingByte.{unknown_byte};
 ghost use Rattle.lookup_merge.specs.Merge.{merge};
-ghost use Rattle.lookup_merge.specs.Merging.{Passes, Merges};
+ghost use Rattle.lookup_merge.specs.Layout.{stored_in};
+ghost use Rattle.lookup_merge.specs.Merging.{Walks, Fillable, Merges};
 
 use bytes_order::compare;
 use standing_bytes::UNKNOWN;
@@ -12,40 +15,58 @@ use std::cmp::Ordering;
 use update_format::named;
 use update_format::numbers::ID_LENGTH;
 
-// A stored id, and the byte of its standing. The default fills the unused room of an `ArrayVec`.
-#[derive(Clone, Copy, Default)]
-pub struct Stored {
-    pub id: [u8; ID_LENGTH],
-    pub byte: u8,
+// How far a walk came: the asked ids that it passed, and how many comparisons of two ids it made.
+#[derive(Clone, Copy)]
+struct Progress {
+    passed: usize,
+    comparisons: usize,
 }
 
-// Answers an asked id: the stored ids that are smaller are passed, and one that is equal is passed with it. Yields the byte, the stored ids that are left, and how many
-// comparisons of two ids were made.
-fn pass<'a>(stored: &'a [Stored], id: &[u8]) -> (u8, &'a [Stored], usize)
-    ensures { Passes stored.now id.now result.0 result.1.now result.2 }
+// Walks until either run ends. The asked ids that are passed are answered.
+fn walk(ids: &[u8], standings: &[u8], asked: &[u8], out: &mut [u8]) -> Progress
+    requires { id_count asked.now ≤ length out.old }
+    ensures { Walks (stored_in ids.now standings.now) asked.now out.old result.passed result.comparisons out.new }
 {
-    for (k, x) in stored.iter().enumerate() {
-        match compare(&x.id, id) {
-            Ordering::Less => {}
-            Ordering::Equal => return (x.byte, &stored[k + 1..], k + 1),
-            Ordering::Greater => return (UNKNOWN, &stored[k..], k + 1),
+    let count = asked.len() / ID_LENGTH;
+    let mut i: usize = 0;
+    let mut j: usize = 0;
+    let mut comparisons: usize = 0;
+    while i < standings.len() && j < count {
+        comparisons += 1;
+        match compare(named(ids, 0, i), named(asked, 0, j)) {
+            Ordering::Less => i += 1,
+            Ordering::Equal => {
+                out[j] = standings[i];
+                i += 1;
+                j += 1;
+            }
+            Ordering::Greater => {
+                out[j] = UNKNOWN;
+                j += 1;
+            }
         }
     }
-    (UNKNOWN, &[], stored.len())
+    Progress {
+        passed: j,
+        comparisons,
+    }
 }
 
-// Puts the answers of the walk at the start of the output buffer, and gives how many comparisons of two ids it made.
-pub fn merge(stored: &[Stored], asked: &[u8], out: &mut [u8]) -> usize
-    requires { id_count asked.now ≤ length out.old }
-    ensures { Merges (merge stored.now (ids_in asked.now)) out.old result out.new }
+// Answers the asked ids from the one at index `from` to the one before `to` as unknown.
+fn fill(out: &mut [u8], from: usize, to: usize)
+    requires { Fillable from to out.old }
+    ensures { out.new ≡ overwritten out.old from (replicate (to - from) unknown_byte) }
 {
-    let mut left = stored;
-    let mut comparisons: usize = 0;
-    for j in 0..asked.len() / ID_LENGTH {
-        let (byte, rest, made) = pass(left, named(asked, 0, j));
-        out[j] = byte;
-        left = rest;
-        comparisons += made;
-    }
-    comparisons
+    out[from..to].fill(UNKNOWN);
+}
+
+// Puts the answers of the walk at the start of the output buffer, and gives how many comparisons of two ids it made. The stored ids lie end to end, and beside them the
+// bytes of their standings: two runs of any lengths, where a slice of structs would ask callers for ids of 32 bytes each.
+pub fn merge(ids: &[u8], standings: &[u8], asked: &[u8], out: &mut [u8]) -> usize
+    requires { id_count asked.now ≤ length out.old }
+    ensures { Merges (merge (stored_in ids.now standings.now) (ids_in asked.now)) out.old result out.new }
+{
+    let w = walk(ids, standings, asked, out);
+    fill(out, w.passed, asked.len() / ID_LENGTH);
+    w.comparisons
 }

@@ -49,7 +49,7 @@ fn put_rank(replica: &Replica, order: &[usize], n: usize, entries: &mut Places)
     ensures { Lists entries.new (put_all (book replica.now) (store_of replica.now) entries.old.items (keep (ranked_at (book replica.now) (store_of replica.now) n) order.now)) × (length entries.new.items ≡ length entries.old.items + length (keep (ranked_at (book replica.now) (store_of replica.now) n) order.now)) }
 {
     for k in order {
-        if ledger_relations::is_ranked(replica, n, *k) {
+        if ledger_relations::is_ranked(replica.store, n, replica.ledger.places[*k], *k) {
             put(replica, entries, *k);
         }
     }

@@ -7,7 +7,7 @@ ghost use Rattle.sha256_fips180.specs.Fips180.{ROTR, Ch, Maj, Σ₀, Σ₁, σ�
 ghost use Rattle.sha256_compression.specs.Code.{working, Scheduled, Underway, Rotation};
 
 // K₀ .. K₆₃ of 4.2.2.
-const CONSTANTS: [u32; 64] = [
+pub const CONSTANTS: [u32; 64] = [
     0x428a2f98, 0x71374491, 0xb5c0fbcf, 0xe9b5dba5, 0x3956c25b, 0x59f111f1, 0x923f82a4, 0xab1c5ed5,
     0xd807aa98, 0x12835b01, 0x243185be, 0x550c7dc3, 0x72be5d74, 0x80deb1fe, 0x9bdc06a7, 0xc19bf174,
     0xe49b69c1, 0xefbe4786, 0x0fc19dc6, 0x240ca1cc, 0x2de92c6f, 0x4a7484aa, 0x5cb0a9dc, 0x76f988da,
@@ -138,12 +138,15 @@ fn last_steps(s: State, w: &[u32; 64]) -> State
     v
 }
 
-// The four bytes at i as a word, the most significant first.
+// The four bytes at i as a word, the most significant first. By numbers: `from_be_bytes` would copy bytes of the message into an array of their own.
 fn word(s: &[u8], i: usize) -> u32
     requires { i + 4 ≤ length s.now }
     ensures { result ≡ word_at s.now i }
 {
-    u32::from_be_bytes([s[i], s[i + 1], s[i + 2], s[i + 3]])
+    u32::from(s[i]) * 0x100_0000
+        + u32::from(s[i + 1]) * 0x1_0000
+        + u32::from(s[i + 2]) * 0x100
+        + u32::from(s[i + 3])
 }
 
 // The block's 16 words to the front of the schedule.

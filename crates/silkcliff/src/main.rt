@@ -9,12 +9,17 @@ fn tell(rt: &HostRuntime, ended: Ended) {
         command_streams::tell(
             rt,
             b"silkcliff: reading failed (errno ",
-            error,
+            u64::from(error.number),
             b"); the report is of what came before\n",
         );
     }
     if let Some(error) = ended.writing {
-        command_streams::tell(rt, b"silkcliff: writing failed (errno ", error, b")\n");
+        command_streams::tell(
+            rt,
+            b"silkcliff: writing failed (errno ",
+            u64::from(error.number),
+            b")\n",
+        );
     }
 }
 

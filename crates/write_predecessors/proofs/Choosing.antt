@@ -11,7 +11,7 @@ use Rattle.std.specs.Prelude.{Option, None, Some}
 use Rattle.std.specs.List.{position, position_or_len}
 use Rattle.std.proofs.lemmas.List.{take_more, take_more_set}
 use Rattle.std.proofs.lemmas.List.Sums.{position_or_len_is}
-use Rattle.bytes_order.specs.Member.{◌∈◌, keep}
+use Rattle.bytes_order.specs.Member.{keep}
 use Rattle.bytes_order.specs.MemberLaws.{keep_append, keep-length, get_or-∈}
 use Rattle.rules.specs.CausalOrder.{same_or_before}
 use Rattle.bitset.specs.Below.{first_below}

@@ -60,7 +60,7 @@ fn keep_above(replica: &Replica, heads: &mut Places, t: usize)
 {
     if let Some(j) = first_above(replica, heads.as_slice(), t) {
         if NAMED_HEADS <= j {
-            heads[NAMED_HEADS - 1] = heads[j];
+            heads.set(NAMED_HEADS - 1, heads.as_slice()[j]);
         }
     }
     heads.truncate(NAMED_HEADS);

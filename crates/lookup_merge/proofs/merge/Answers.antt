@@ -1,9 +1,8 @@
-use Rattle.std.proofs.Common.{arith}
-use Rattle.lookup_merge.proofs.Walking.{walking-more, walking-merges}
+-- `merge` meets its contract: the walk, and then the asked ids that are left.
+use Rattle.lookup_merge.specs.Layout.{stored_in}
+use Rattle.lookup_merge.proofs.Finishing.{merges}
 use Rattle.lookup_merge.proofs.merge.Goals as goal
 
-pub loop-j-preserved : goal.loop-j-preserved
-loop-j-preserved c = walking-more _ _ _ c.loop-j.invariant c.loop-j-test.true c.requires c.named.ensures c.pass-byte.ensures
-
 pub returns : goal.returns
-returns c = walking-merges _ _ _ c.loop-j.invariant (omega arith) c.requires
+returns c =
+    merges (stored_in c.args.ids.now c.args.standings.now) c.args.asked.now c.args.out.now c.walk-w.ensures c.fill.ensures

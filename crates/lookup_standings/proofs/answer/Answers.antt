@@ -1,4 +1,4 @@
--- `answer` meets its contract: the places in order of id, their ids gathered, and the merge.
+-- `answer` meets its contract: the places in order of id, their ids laid out, and the merge.
 use Rattle.std.proofs.Common.{sym, subst, ◌∙◌, ap, map}
 use Rattle.ledger_state.specs.View.{book, store_of}
 use Rattle.ledger_sorting.proofs.Sorting.{sorted-ids}
@@ -14,5 +14,5 @@ returns c =
     record {
       order = order;
       in_order = subst (IdOrder l) (sym (c.sorted-places.ensures.are ∙ sorted-ids l (store_of c.args.replica.now))) (sorted-in-order l (store_of c.args.replica.now));
-      merges = merges-listed l order c.args.asked.now (c.as_slice-2.ensures.value ∙ c.gather-stored.ensures ∙ ap (map (stored_id l)) c.as_slice.ensures.value) c.merge.ensures;
+      merges = merges-listed l order c.args.asked.now (c.gather.ensures.laid_out ∙ ap (map (stored_id l)) c.as_slice-listed.ensures.value) c.merge.ensures;
     }

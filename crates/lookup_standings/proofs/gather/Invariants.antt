@@ -1,8 +1,7 @@
--- `gather` meets its contract: the places before the index are gathered.
-use Rattle.std.proofs.Common.{◌≡◌, map, take}
+-- `gather` meets its contract: at each turn of the loop `Laid` holds.
 use Rattle.ledger_state.specs.View.{book}
-use Rattle.lookup_standings.specs.Lookup.{stored_id}
+use Rattle.lookup_standings.proofs.Laying.{Laid}
 use Rattle.lookup_standings.proofs.gather.Given as goal
 
 abbrev pub invariant-loop-k : goal.invariant-loop-k
-invariant-loop-k l = l.stored.items ≡ map (stored_id (book l.replica)) (take l.k-index l.places)
+invariant-loop-k l = Laid (book l.replica) l.places l.initial.ids l.initial.standings l.k l.ids l.standings

@@ -1,7 +1,6 @@
 use Rattle.std.proofs.Common.{ℕ, sym, ◌∙◌, subst, arith, ◌≡◌}
 use Rattle.ledger_state.specs.View.{book, store_of}
-use Rattle.arrayvec.specs.ArrayVec.{ArrayVec}
-use Rattle.ledger_sorting.specs.PlaceLists.{PlaceList, Lists}
+use Rattle.ledger_sorting.specs.PlaceLists.{Places, PlaceList, Lists}
 use Rattle.ledger_state.specs.declared.replica.Replica.{Replica}
 use Rattle.write_highest.proofs.Scanning.{top-inside}
 use Rattle.write_predecessors.specs.Choose.{chosen_places}
@@ -9,7 +8,7 @@ use Rattle.write_predecessors.proofs.Choosing.{chosen-listed, chosen-few, chosen
 use Rattle.write_predecessors.proofs.chosen.Goals as goal
 
 -- what is chosen is a list of places
-lists : (r : Replica) (a : ℕ) {v : ArrayVec ℕ} → v.items ≡ chosen_places (book r) (store_of r) a → Lists v (chosen_places (book r) (store_of r) a)
+lists : (r : Replica) (a : ℕ) {v : Places} → v.items ≡ chosen_places (book r) (store_of r) a → Lists v (chosen_places (book r) (store_of r) a)
 lists r a e = record { is_list = subst PlaceList (sym e) (chosen-listed (book r) (store_of r) (omega arith) (omega arith) r.fits a); are = e }
 
 pub keep_above-requires : goal.keep_above-requires

@@ -1,9 +1,9 @@
-use Rattle.std.proofs.Common.{sym, ap, ◌∙◌, List, ℕ, get_or, arith, rules}
+use Rattle.std.proofs.Common.{sym, ap, ◌∙◌, List, ℕ, get_or, arith}
 use Rattle.ledger_settling.proofs.Loops.{successors_begun, successor_passed, waits_now, successor_judged}
 use Rattle.ledger_settling.proofs.settling.Settling.successors_judged.Goals as goal
 
 pub loop-k-init : goal.loop-k-init
-loop-k-init c = successors_begun _ _ _ _ c.requires (ap (λ (ns : List ℕ). get_or ns c.args.i 0) (sym c.deref.ensures.0))
+loop-k-init c = successors_begun _ _ _ _ c.requires (ap (λ (ns : List ℕ). get_or ns c.args.i 0) (sym c.as_slice.ensures.value))
 
 pub judged-current-requires : goal.judged-current-requires
 judged-current-requires c =
