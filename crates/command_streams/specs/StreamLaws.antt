@@ -1,9 +1,9 @@
 -- What is made of a call's answer moves no more than it may.
 use Rattle.std.specs.Prelude.{◌≡◌, ℕ, zero, suc, ◌+◌, ◌-◌, ◌≤◌, ◌<◌, List, length, take, drop, Bool, true, false, cond, Result, Ok, Err, None, Some, refl}
 use Rattle.std.proofs.Math.Nat.{min-le_right}
-use Rattle.std.proofs.Common.{arith, length-take, length-drop}
+use Rattle.std.proofs.Common.{arith, ap, length-take, length-drop}
 use Rattle.command_streams.specs.declared.errors.Errno.{Errno}
-use Rattle.command_streams.specs.Streams.{passing, eio, came_to, took_some, lasting, MovesAtMost, TakesSome, Lasts, ReadsAgain, WritesAgain, Reads, Writes}
+use Rattle.command_streams.specs.Streams.{passing, eio, came_to, took_some, lasting, taken_after, MovesAtMost, TakesSome, Lasts, ReadsAgain, WritesAgain, Reads, Writes}
 
 -- what a call came to: no more than it was handed
 pub came-at-most : (n : ℕ) (called : Result ℕ Errno) → MovesAtMost n (came_to n called)
@@ -40,6 +40,17 @@ lasting-reads n (Err e) a = record { moves = moves n e (passing e); lasts = last
 pub lasting-writes : (n : ℕ) (m : Result ℕ Errno) → TakesSome n m → WritesAgain n (lasting m)
 lasting-writes n (Ok k) a = record { takes = a; lasts = tt }
 lasting-writes n (Err e) a = record { takes = takes n e (passing e); lasts = lasting-lasts (Err e) }
+
+-- computed: four bytes after three are seven; where the next write failed there are three, and its error
+pub counts-add : taken_after 3 (Ok 4) ≡ record { count = 7; error = None }
+counts-add = refl
+
+pub counts-stay : (e : Errno) → taken_after 3 (Err e) ≡ record { count = 3; error = Some e }
+counts-stay e = refl
+
+-- an error that does not pass is told as it is
+pub lasting-same : (e : Errno) → passing e ≡ false → lasting (Err e) ≡ Err e
+lasting-same e h = ap (λ (b : Bool). cond {A = Result ℕ Errno} b (Err eio) (Err e)) h
 
 -- how many bytes are left from byte `at` on
 pub rest-length : (at : ℕ) (bytes : List ℕ) → at ≤ length bytes → at + length (take (length bytes - at) (drop at bytes)) ≡ length bytes

@@ -3,7 +3,7 @@
 #![tactic(auto)]
 
 ghost use Rattle.std.specs.Prelude.{◌≡◌, ◌+◌, ◌^◌, ◌≤◌, ◌<◌, length, IfOk};
-ghost use Rattle.command_streams.specs.Streams.{passing, came_to, took_some, lasting, taken_from, taken_after, Lasts, ReadsAgain, WritesAgain, Reads, Writes};
+ghost use Rattle.command_streams.specs.Streams.{passing, came_to, took_some, lasting, taken_from, taken_after, ReadsAgain, WritesAgain, Reads, Writes};
 
 mod errors;
 
@@ -44,6 +44,19 @@ fn wait<R: Clock>(rt: &R, error: Errno) {
     }
 }
 
+// What the last call came to, made again while its error passes. A proved loop has to end, so the turns are counted, up to a number that no run comes to.
+fn again<R: Clock, F: FnMut() -> io::Result<usize>>(rt: &R, mut call: F) -> Result<usize, Errno>
+    requires { F.IsAlwaysCallable call }
+{
+    for _ in 0..u64::MAX {
+        match call().map_err(Errno::from) {
+            Err(error) if is_passing(error) => wait(rt, error),
+            came => return came,
+        }
+    }
+    call().map_err(Errno::from)
+}
+
 // What a call came to that is not made again, though its error may pass.
 fn lasting(called: Result<usize, Errno>) -> Result<usize, Errno>
     ensures { result ≡ lasting called }
@@ -52,20 +65,6 @@ fn lasting(called: Result<usize, Errno>) -> Result<usize, Errno>
         Err(error) if is_passing(error) => Err(EIO),
         _ => called,
     }
-}
-
-// What a call came to, made again while its error passes. A proved loop has to end, so the turns are counted, up to a number that no run comes to.
-fn again<R: Clock, F: FnMut() -> io::Result<usize>>(rt: &R, mut call: F) -> Result<usize, Errno>
-    requires { F.IsAlwaysCallable call }
-    ensures { Lasts result }
-{
-    for _ in 0..u64::MAX {
-        match call().map_err(Errno::from) {
-            Err(error) if is_passing(error) => wait(rt, error),
-            came => return came,
-        }
-    }
-    lasting(call().map_err(Errno::from))
 }
 
 // What a call came to that was handed so many bytes: it moved no more of them.
@@ -98,9 +97,8 @@ fn taken_from(left: usize, read: Result<usize, Errno>) -> Input
 fn read_again<R: StandardInput + Clock>(rt: &R, buffer: &mut [u8]) -> Result<usize, Errno>
     ensures { ReadsAgain (length buffer.new) result }
 {
-    let most = buffer.len();
     let read = again(rt, || rt.reader().read(buffer));
-    came_to(read, most)
+    lasting(came_to(read, buffer.len()))
 }
 
 // Reads once from standard input into the buffer, where the limit leaves `left` bytes to be read.
@@ -126,7 +124,7 @@ fn write_some<R: Print + Clock>(rt: &R, bytes: &[u8]) -> Result<usize, Errno>
     ensures { WritesAgain (length bytes.now) result }
 {
     let wrote = again(rt, || rt.write_some(bytes));
-    took_some(came_to(wrote, bytes.len()))
+    lasting(took_some(came_to(wrote, bytes.len())))
 }
 
 // What writing came to, where `before` bytes were taken before and the next write came to `wrote`.
